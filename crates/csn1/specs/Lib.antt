@@ -1,0 +1,5 @@
+pub mod Format
+pub mod Grammar
+pub mod Promises
+pub mod Told
+pub mod Put
