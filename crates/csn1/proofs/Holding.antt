@@ -4,6 +4,7 @@ use mathlib.Core.List.{List, [], _∷_, _++_}
 use Prim.Native.Nat.{ℕ, zero, suc, _+_, _*_, _/_, _%_, _^_, _≤_, _<_}
 use native.Mathlib.Nat.{pow-suc, add-zero}
 use native.Mathlib.Omega.{arith}
+use native.Mathlib.Decide.{ℕ-discrete}
 use lib.ListN.{length, length-append}
 use Rattle.bits.specs.Field.{bit, field, setBit, setField}
 use Rattle.bits.proofs.Laws.{bit-lt, field-suc, field-zero, bit-set-same, bit-set-other, length-setBit}
@@ -23,6 +24,15 @@ holds-left s p (x ∷ xs) ys h = (h .0, holds-left s (p + 1) xs ys (h .1))
 pub holds-right : (s : List ℕ) (p : ℕ) (xs ys : List ℕ) → Holds s p (xs ++ ys) → Holds s (p + length xs) ys
 holds-right s p [] ys h = subst (λ (x : ℕ). Holds s x ys) (sym (add-zero p)) h
 holds-right s p (x ∷ xs) ys h = subst (λ (x : ℕ). Holds s x ys) (omega arith) (holds-right s (p + 1) xs ys (h .1))
+
+-- where the same bits stand in two lists of octets, the two agree
+pub holds-same : (s t : List ℕ) (p : ℕ) (bs : List ℕ) → Holds s p bs → Holds t p bs → (j : ℕ) → p ≤ j → j < p + length bs → bit s j ≡ bit t j
+holds-same s t p [] h k j a b = absurd (omega arith)
+holds-same s t p (x ∷ bs) h k j a b = go (ℕ-discrete j p) (λ l. holds-same s t (p + 1) bs (h .1) (k .1) j l (omega arith))
+  where
+    go : Dec (j ≡ p) → (p + 1 ≤ j → bit s j ≡ bit t j) → bit s j ≡ bit t j
+    go (yes e) f = rw e (h .0 ∙ sym (k .0))
+    go (no n) f = f (omega arith)
 
 pub binary-join : (xs ys : List ℕ) → Binary xs → Binary ys → Binary (xs ++ ys)
 binary-join [] ys h k = k
@@ -69,6 +79,12 @@ pub bit-put-below : (s : List ℕ) (p : ℕ) (bs : List ℕ) (j : ℕ) → Binar
 unfolding putBits
 bit-put-below s p [] j k h = refl
 bit-put-below s p (b ∷ bs) j k h = bit-put-below (setBit s p b) (p + 1) bs j (k .1) (omega arith) ∙ bit-set-other s p j b (k .0) (λ e. omega arith)
+
+-- and what is above the last of them
+pub bit-put-above : (s : List ℕ) (p : ℕ) (bs : List ℕ) (j : ℕ) → Binary bs → p + length bs ≤ j → bit (putBits s p bs) j ≡ bit s j
+unfolding putBits
+bit-put-above s p [] j k h = refl
+bit-put-above s p (b ∷ bs) j k h = bit-put-above (setBit s p b) (p + 1) bs j (k .1) (omega arith) ∙ bit-set-other s p j b (k .0) (λ e. omega arith)
 
 pub holds-put : (s : List ℕ) (p : ℕ) (bs : List ℕ) → Binary bs → p + length bs ≤ length s * 8 → Holds (putBits s p bs) p bs
 unfolding putBits

@@ -3,3 +3,7 @@ pub mod Lawful
 pub mod Promises
 pub mod Reading
 pub mod Lists
+pub mod Callees
+pub mod Answers
+pub mod Writing
+pub mod Telling

@@ -3,6 +3,7 @@ use mathlib.Core.Path.{_≡_, refl, sym, ap, ap₂, _∙_}
 use mathlib.Core.List.{List, [], _∷_, _++_, append-assoc, append-nil, map}
 use Prim.Native.Nat.{ℕ, zero, suc, _+_, _-_, _*_, _≤_, _<_}
 use native.Mathlib.Numerals.{add-one}
+use native.Mathlib.Nat.{suc-mul}
 use native.Mathlib.Omega.{arith}
 use lib.ListN.{length, getD, set, take, drop, replicate, length-append, length-set, drop-of-length-le}
 use lib.Seq.{drop-cons, take-suc-set, take-all}
@@ -10,7 +11,7 @@ use borrow.Author.Tests.{le-leb, lt-leb}
 use Rattle.bits.specs.Field.{fetched}
 use Rattle.bits.specs.declared.Got.the-variants.{Bits, Short}
 use Rattle.csn1.specs.declared.Refusal.{Refusal}
-use Rattle.csn1.specs.Format.{ok, bad, ranOut, Format, row, total, fieldsAt, readItems, list}
+use Rattle.csn1.specs.Format.{ok, bad, ranOut, Format, row, total, fieldsAt, readItems, itemsBits, itemsFit, list}
 use Rattle.csn1.specs.Told.{padded}
 use Rattle.csn1.proofs.Reading.{found, missing, prepend, prepend-nil, items-short, items-end, items-bad, items-next}
 
@@ -103,6 +104,17 @@ module _ {A B : Type 0} (F : Format A) (told : A → B) (z : B) (n : ℕ) (s : L
     pub entries-counted : (f : ℕ) (a : A) (q : ℕ) → Bits f ≡ fetched s at 1 → (f ≡ 0 → ⊥) → F .read s (at + 1) ≡ ok a q → at + 1 ≤ q
         → n ≤ count → Entries F told z n s start items (count + 1) q
     entries-counted f a q e y x l h = on f a q items e y x l (i .kept ∙ sym (padded-full told z n (i .acc) a (omega (arith, i .many))))
+
+-- ## How many entries fit
+
+-- a list whose every entry takes w bits at least, and a bit that leads it
+pub items-many : {A : Type 0} (F : Format A) (w : ℕ) → ((n p : ℕ) (a : A) → F .fits a → w ≤ length (F .bits n p a))
+    → (n p : ℕ) (l : List A) → itemsFit F l → length l * (w + 1) < length (itemsBits F n p l)
+items-many F w long n p [] f = omega arith
+items-many F w long n p (a ∷ l) f =
+    let xs : List ℕ = F .bits n (p + 1) a in
+    let q : ℕ = p + 1 + length xs in
+    rw (suc-mul (length l) (w + 1), length-append xs (itemsBits F n q l)) (omega (arith, long n (p + 1) a (f .0), items-many F w long n q l (f .1)))
 
 -- ## Fields
 

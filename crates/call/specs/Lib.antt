@@ -1,0 +1,3 @@
+pub mod Call
+pub mod Told
+pub mod Write

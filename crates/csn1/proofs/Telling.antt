@@ -1,0 +1,31 @@
+-- Tests and answers as they are told: what an answer of yes, or of 0, says. Assumes nothing.
+use mathlib.Core.Path.{_≡_, refl}
+use mathlib.Core.Bool.{Bool, true, false}
+use mathlib.Core.Option.{Option, none, some}
+use Prim.Native.Nat.{ℕ, _<_}
+use native.Mathlib.Omega.{arith}
+use lib.Dec.{eqb}
+use borrow.Author.Tests.{eqb-true, eqb-false}
+use Rattle.bits.specs.Field.{both, pick}
+use Rattle.csn1.specs.Told.{isThere, orZero, there}
+
+pub true-both : {a b : Bool} → a ≡ true → b ≡ true → both a b ≡ true
+true-both e f = rw (e, f)
+
+-- a refusal's number is not 0, so that an answer of 0 says that the test was passed
+pub picked : (t : Bool) (n k : ℕ) → 0 < k → pick t n k ≡ 0 → (t ≡ true) × (n ≡ 0)
+picked true n k h e = (refl, e)
+picked false n k h e = absurd (omega arith)
+
+-- a refusal is handed on, so that an answer of 0 says that there was none
+pub handed-on : (r n : ℕ) → pick (eqb r 0) n r ≡ 0 → (r ≡ 0) × (n ≡ 0)
+handed-on r n e = go (eqb r 0) refl e
+  where
+    go : (t : Bool) → eqb r 0 ≡ t → pick t n r ≡ 0 → (r ≡ 0) × (n ≡ 0)
+    go true o e = (eqb-true r 0 o, e)
+    go false o e = absurd (eqb-false r 0 o e)
+
+-- a number that may be missing is its flag and itself, or 0
+pub number-back : (o : Option ℕ) → there (isThere o) (orZero o) ≡ o
+number-back none = refl
+number-back (some v) = refl

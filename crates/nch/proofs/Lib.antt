@@ -1,0 +1,12 @@
+pub mod Listed
+pub mod Reading6
+pub mod Told7
+pub mod Counting
+pub mod ToldCalls
+pub mod Places
+pub mod Releases
+pub mod Record
+pub mod Round
+pub mod Promises
+pub mod Owners
+pub mod Whole

@@ -1,0 +1,442 @@
+-- The parts that Releases 6 and 7 added, as record and as value: each says the other, and what the writer asks of the one is what the grammar asks of the other. Assumes nothing.
+use mathlib.Core.Path.{_≡_, refl, sym, ap, _∙_}
+use mathlib.Core.List.{List, [], _∷_, map}
+use mathlib.Core.Bool.{Bool, true, false, not}
+use mathlib.Core.Option.{Option, none, some}
+use Prim.Native.Nat.{ℕ, _^_, _≤_}
+use native.Mathlib.Omega.{arith}
+use lib.ListN.{length, take, length-map}
+use lib.Seq.{length-take-le}
+use lib.Dec.{leb, eqb}
+use borrow.Author.Tests.{ltb-true, leb-true, eqb-true, not-true, lt-ltb, le-leb}
+use Rattle.bits.specs.Field.{both, pick}
+use Rattle.csn1.specs.Format.{num, optFits}
+use Rattle.csn1.specs.Grammar.{number, _and_, format}
+use Rattle.csn1.specs.Told.{isThere, orZero, there, isOne, asBit}
+use Rattle.csn1.proofs.Writing.{both-true, bit-back, flag-back, flag-lt, there-back}
+use Rattle.csn1.proofs.Telling.{true-both, number-back}
+use Rattle.nch.specs.declared.Reduced.{Reduced}
+use Rattle.nch.specs.declared.Random.{Random}
+use Rattle.nch.specs.declared.Release6.{Release6}
+use Rattle.nch.specs.declared.Release7.{Release7}
+use Rattle.nch.specs.Octets.{Release6Value, Release7Value, AmrValue, reduced, random, amr, release6, release7, reducedsOf, randomsOf, marksOf}
+use Rattle.nch.specs.Told.{reducedOf, noReduced, randomOf, noRandom, release6Of, release7Of, orFalse, fullRate, halfRate, confidentiality, privacy, reducedValue, randomValue, release6Value, release7Value, amrValue}
+use Rattle.nch.specs.Write.{placesRight, all, flaggedRight, behind, reducedInRange, reducedIsZero, randomInRange, randomIsZero, yes, release6InRange, release7InRange, reducedIsLow}
+use Rattle.nch.proofs.Places.{places-back, places-empty, places-good, all-both, items-fit, told-all, told-places, told-back}
+
+-- ## Flags, and what stands behind them
+
+pub flag-fits : (h : Bool) (v w : ℕ) → flaggedRight h v (2 ^ w) ≡ true → optFits (num w) (there h v)
+flag-fits true v w e = ltb-true v (2 ^ w) e
+flag-fits false v w e = tt
+
+pub fits-flag : (o : Option ℕ) (w : ℕ) → optFits (num w) o → flaggedRight (isThere o) (orZero o) (2 ^ w) ≡ true
+fits-flag none w f = refl
+fits-flag (some v) w f = lt-ltb v (2 ^ w) f
+
+pub flag-zero : (h : Bool) (v n : ℕ) → flaggedRight h v n ≡ true → orZero (there h v) ≡ v
+flag-zero true v n e = refl
+flag-zero false v n e = sym (eqb-true v 0 e)
+
+-- a flag that is not set has 0 behind it
+flag-none : (h : Bool) (v n : ℕ) → h ≡ false → flaggedRight h v n ≡ true → 0 ≡ v
+flag-none true v n o e = absurd (let z : _≡_ {A = ℕ} 0 1 = cc in omega arith)
+flag-none false v n o e = sym (eqb-true v 0 e)
+
+bit-fits : (h b : Bool) → optFits (num 1) (there h (asBit b))
+bit-fits true b = flag-lt b
+bit-fits false b = tt
+
+behind-none : (h b : Bool) → h ≡ false → behind h b ≡ true → b ≡ false
+behind-none true b o e = absurd (let z : _≡_ {A = ℕ} 0 1 = cc in omega arith)
+behind-none false b o e = not-true b e
+
+behind-bit : (h b : Bool) → behind h b ≡ true → orFalse (there h (asBit b)) ≡ b
+behind-bit true b e = flag-back b
+behind-bit false b e = sym (not-true b e)
+
+bit-behind : (o : Option ℕ) → behind (isThere o) (orFalse o) ≡ true
+bit-behind none = refl
+bit-behind (some b) = refl
+
+bit-value : (o : Option ℕ) → optFits (num 1) o → there (isThere o) (asBit (orFalse o)) ≡ o
+bit-value none f = refl
+bit-value (some b) f = ap some (bit-back b f)
+
+-- ## A reduced reference
+
+reduced-fits : (r : Reduced) → reducedInRange r ≡ true → reducedIsLow r ≡ true → format reduced .fits (reducedValue r)
+reduced-fits r e l = ((ltb-true (r .reference) (2 ^ 27) e, (flag-lt (r .vgcs), tt)), l)
+
+reduced-back : (r : Reduced) → reducedOf (reducedValue r) ≡ r
+reduced-back r = λ i. record { reference = r .reference; vgcs = flag-back (r .vgcs) i }
+
+reduced-zero : (r : Reduced) → reducedIsZero r ≡ true → r ≡ noReduced
+reduced-zero r e =
+    let b = both-true (eqb (r .reference) 0) (not (r .vgcs)) e in
+    λ i. record { reference = eqb-true (r .reference) 0 (b .0) i; vgcs = not-true (r .vgcs) (b .1) i }
+
+reduced-value : (v : List ℕ) → format reduced .fits v → reducedValue (reducedOf v) ≡ v
+reduced-value [] f = absurd (f .0)
+reduced-value (a ∷ []) f = absurd (f .0 .1)
+reduced-value (a ∷ b ∷ []) f = ap (λ x. a ∷ x ∷ []) (bit-back b (f .0 .1 .0))
+reduced-value (a ∷ b ∷ c ∷ v) f = absurd (f .0 .1 .1)
+
+reduced-range : (v : List ℕ) → format reduced .fits v → reducedInRange (reducedOf v) ≡ true
+reduced-range [] f = absurd (f .0)
+reduced-range (a ∷ v) f = lt-ltb a (2 ^ 27) (f .0 .0)
+
+-- ## A random entry
+
+random-fits : (r : Random) → randomInRange r ≡ true → format random .fits (randomValue r)
+random-fits r e = (flag-lt (r .segment), flag-fits (r .given) (r .rand) 36 e)
+
+random-back : (r : Random) → randomInRange r ≡ true → randomOf (randomValue r) ≡ r
+random-back r e = λ i. record { segment = flag-back (r .segment) i; given = there-back (r .given) (r .rand) i; rand = flag-zero (r .given) (r .rand) (2 ^ 36) e i }
+
+random-zero : (r : Random) → randomIsZero r ≡ true → r ≡ noRandom
+random-zero r e =
+    let a = both-true (not (r .segment)) (both (not (r .given)) (eqb (r .rand) 0)) e in
+    let b = both-true (not (r .given)) (eqb (r .rand) 0) (a .1) in
+    λ i. record { segment = not-true (r .segment) (a .0) i; given = not-true (r .given) (b .0) i; rand = eqb-true (r .rand) 0 (b .1) i }
+
+random-value : (v : ℕ × Option ℕ) → format random .fits v → randomValue (randomOf v) ≡ v
+random-value v f = λ i. (bit-back (v .0) (f .0) i, number-back (v .1) i)
+
+-- ## Release 6
+
+-- what the writer asks of it
+pub record Right6 (r : Release6) : Type 0 where
+  pub few : r .reducedcount ≤ 5
+  pub fewRandoms : r .randomcount ≤ 9
+  absent : pick (r .there) true (both (not (r .counted)) (both (eqb (r .reducedcount) 0) (eqb (r .randomcount) 0))) ≡ true
+  counted : flaggedRight (r .counted) (r .cellcount) 4 ≡ true
+  places : placesRight reducedInRange reducedIsZero (r .reducedcount) (r .reduced) ≡ true
+  randoms : placesRight randomInRange randomIsZero (r .randomcount) (r .randoms) ≡ true
+
+pub right6 : (r : Release6) → release6InRange r ≡ true → Right6 r
+unfolding release6InRange
+right6 r e =
+    let a = both-true (leb (r .reducedcount) 5) _ e in
+    let b = both-true (leb (r .randomcount) 9) _ (a .1) in
+    let c = both-true (pick (r .there) true (both (not (r .counted)) (both (eqb (r .reducedcount) 0) (eqb (r .randomcount) 0)))) _ (b .1) in
+    let d = both-true (flaggedRight (r .counted) (r .cellcount) 4) _ (c .1) in
+    let g = both-true (placesRight reducedInRange reducedIsZero (r .reducedcount) (r .reduced)) _ (d .1) in
+    record {
+      few = leb-true (r .reducedcount) 5 (a .0);
+      fewRandoms = leb-true (r .randomcount) 9 (b .0);
+      absent = c .0;
+      counted = d .0;
+      places = g .0;
+      randoms = g .1;
+    }
+
+pub range6 : (r : Release6) → Right6 r → release6InRange r ≡ true
+unfolding release6InRange
+range6 r t =
+    true-both (le-leb (r .reducedcount) 5 (t .few))
+    (true-both (le-leb (r .randomcount) 9 (t .fewRandoms))
+    (true-both (t .absent) (true-both (t .counted) (true-both (t .places) (t .randoms)))))
+
+pub fits6 : (r : Release6) → Right6 r → all reducedIsLow (take (r .reducedcount) (r .reduced)) ≡ true → optFits (format release6) (there (r .there) (release6Value r))
+fits6 r t low = go (r .there)
+  where
+    one : (a : Reduced) → both (reducedInRange a) (reducedIsLow a) ≡ true → format reduced .fits (reducedValue a)
+    one a e =
+        let b = both-true (reducedInRange a) (reducedIsLow a) e in
+        reduced-fits a (b .0) (b .1)
+
+    go : (h : Bool) → optFits (format release6) (there h (release6Value r))
+    go false = tt
+    go true = (
+      flag-fits (r .counted) (r .cellcount) 2 (t .counted),
+      (
+        items-fit (format reduced) reducedValue (λ a. both (reducedInRange a) (reducedIsLow a)) one (take (r .reducedcount) (r .reduced))
+            (all-both reducedInRange reducedIsLow (take (r .reducedcount) (r .reduced)) (places-good reducedInRange reducedIsZero (r .reducedcount) (r .reduced) (t .places)) low),
+        items-fit (format random) randomValue randomInRange random-fits (take (r .randomcount) (r .randoms))
+            (places-good randomInRange randomIsZero (r .randomcount) (r .randoms) (t .randoms)),
+      ),
+    )
+
+-- as many values as places in use
+pub in-use : {A B : Type 0} (f : A → B) (n k : ℕ) (l : List A) → n ≤ k → length l ≡ k → length (map f (take n l)) ≡ n
+in-use f n k l h e = length-map (take n l) f ∙ length-take-le n l (omega arith)
+
+pub back6 : (r : Release6) → Right6 r → length (r .reduced) ≡ 5 → length (r .randoms) ≡ 9 → release6Of (there (r .there) (release6Value r)) ≡ r
+back6 r t five nine = go (r .there) refl (t .absent)
+  where
+    go : (h : Bool) → r .there ≡ h → pick h true (both (not (r .counted)) (both (eqb (r .reducedcount) 0) (eqb (r .randomcount) 0))) ≡ true
+        → release6Of (there h (release6Value r)) ≡ r
+    go true o e =
+        λ i.
+        record {
+          there = sym o i;
+          counted = there-back (r .counted) (r .cellcount) i;
+          cellcount = flag-zero (r .counted) (r .cellcount) 4 (t .counted) i;
+          reducedcount = in-use reducedValue (r .reducedcount) 5 (r .reduced) (t .few) five i;
+          reduced = places-back noReduced reducedInRange reducedIsZero reduced-zero reducedOf reducedValue (λ a g. reduced-back a) 5 (r .reducedcount) (r .reduced) five (t .places) i;
+          randomcount = in-use randomValue (r .randomcount) 9 (r .randoms) (t .fewRandoms) nine i;
+          randoms = places-back noRandom randomInRange randomIsZero random-zero randomOf randomValue random-back 9 (r .randomcount) (r .randoms) nine (t .randoms) i;
+        }
+    go false o e =
+        let a = both-true (not (r .counted)) (both (eqb (r .reducedcount) 0) (eqb (r .randomcount) 0)) e in
+        let b = both-true (eqb (r .reducedcount) 0) (eqb (r .randomcount) 0) (a .1) in
+        let u = not-true (r .counted) (a .0) in
+        let x = eqb-true (r .reducedcount) 0 (b .0) in
+        let y = eqb-true (r .randomcount) 0 (b .1) in
+        λ i.
+        record {
+          there = sym o i;
+          counted = sym u i;
+          cellcount = flag-none (r .counted) (r .cellcount) 4 u (t .counted) i;
+          reducedcount = sym x i;
+          reduced = places-empty noReduced reducedInRange reducedIsZero reduced-zero 5 (r .reducedcount) (r .reduced) five x (t .places) i;
+          randomcount = sym y i;
+          randoms = places-empty noRandom randomInRange randomIsZero random-zero 9 (r .randomcount) (r .randoms) nine y (t .randoms) i;
+        }
+
+pub value6 : (o : Option Release6Value) → optFits (format release6) o → length (reducedsOf o) ≤ 5 → length (randomsOf o) ≤ 9
+    → there (release6Of o .there) (release6Value (release6Of o)) ≡ o
+value6 none f h k = refl
+value6 (some v) f h k =
+    λ i.
+    some (
+      number-back (v .0) i,
+      (
+        told-back (format reduced) reducedOf noReduced reducedValue reduced-value 5 (v .1 .0) (f .1 .0) h i,
+        told-back (format random) randomOf noRandom randomValue random-value 9 (v .1 .1) (f .1 .1) k i,
+      ),
+    )
+
+pub told6 : (o : Option Release6Value) → optFits (format release6) o → length (reducedsOf o) ≤ 5 → length (randomsOf o) ≤ 9 → Right6 (release6Of o)
+unfolding placesRight
+told6 none f h k = record { few = omega arith; fewRandoms = omega arith; absent = refl; counted = refl; places = refl; randoms = refl }
+told6 (some v) f h k =
+    record {
+      few = h;
+      fewRandoms = k;
+      absent = refl;
+      counted = fits-flag (v .0) 2 (f .0);
+      places = told-places (format reduced) reducedOf noReduced reducedInRange reducedIsZero refl reduced-range 5 (v .1 .0) (f .1 .0);
+      randoms = told-places (format random) randomOf noRandom randomInRange randomIsZero refl (λ a g. fits-flag (a .1) 36 (g .1)) 9 (v .1 .1) (f .1 .1);
+    }
+
+pub low6 : (o : Option Release6Value) → optFits (format release6) o → all reducedIsLow (take (release6Of o .reducedcount) (release6Of o .reduced)) ≡ true
+unfolding all
+low6 none f = refl
+low6 (some v) f = told-all (format reduced) reducedOf noReduced reducedIsLow (λ a g. g .1) 5 (v .1 .0) (f .1 .0)
+
+-- its numbers are as many as were told
+pub count6 : (o : Option Release6Value) → (release6Of o .reducedcount ≡ length (reducedsOf o)) × (release6Of o .randomcount ≡ length (randomsOf o))
+count6 none = (refl, refl)
+count6 (some v) = (refl, refl)
+
+-- ## Release 7
+
+-- what the writer asks of it
+pub record Right7 (r : Release7) : Type 0 where
+  pub few : r .markcount ≤ 4
+  absent : pick (r .there) true (both (eqb (r .markcount) 0) (both (not (r .uplinked)) (both (not (r .amr)) (not (r .sms))))) ≡ true
+  marks : placesRight yes not (r .markcount) (r .marks) ≡ true
+  uplink : behind (r .uplinked) (r .uplink) ≡ true
+  fullrated : behind (r .amr) (r .fullrated) ≡ true
+  halfrated : behind (r .amr) (r .halfrated) ≡ true
+  fullrate : flaggedRight (r .fullrated) (r .fullrate) 16 ≡ true
+  halfrate : flaggedRight (r .halfrated) (r .halfrate) 16 ≡ true
+  confidential : behind (r .sms) (r .confidential) ≡ true
+  private : behind (r .sms) (r .private) ≡ true
+
+pub right7 : (r : Release7) → release7InRange r ≡ true → Right7 r
+unfolding release7InRange
+right7 r e =
+    let a = both-true (leb (r .markcount) 4) _ e in
+    let b = both-true (pick (r .there) true (both (eqb (r .markcount) 0) (both (not (r .uplinked)) (both (not (r .amr)) (not (r .sms)))))) _ (a .1) in
+    let c = both-true (placesRight yes not (r .markcount) (r .marks)) _ (b .1) in
+    let d = both-true (behind (r .uplinked) (r .uplink)) _ (c .1) in
+    let g = both-true (both (behind (r .amr) (r .fullrated)) (both (behind (r .amr) (r .halfrated)) (both (flaggedRight (r .fullrated) (r .fullrate) 16) (flaggedRight (r .halfrated) (r .halfrate) 16)))) _ (d .1) in
+    let h = both-true (behind (r .amr) (r .fullrated)) _ (g .0) in
+    let j = both-true (behind (r .amr) (r .halfrated)) _ (h .1) in
+    let k = both-true (flaggedRight (r .fullrated) (r .fullrate) 16) _ (j .1) in
+    let l = both-true (behind (r .sms) (r .confidential)) _ (g .1) in
+    record {
+      few = leb-true (r .markcount) 4 (a .0);
+      absent = b .0;
+      marks = c .0;
+      uplink = d .0;
+      fullrated = h .0;
+      halfrated = j .0;
+      fullrate = k .0;
+      halfrate = k .1;
+      confidential = l .0;
+      private = l .1;
+    }
+
+pub range7 : (r : Release7) → Right7 r → release7InRange r ≡ true
+unfolding release7InRange
+range7 r t =
+    true-both (le-leb (r .markcount) 4 (t .few))
+    (true-both (t .absent)
+    (true-both (t .marks)
+    (true-both (t .uplink)
+    (true-both (true-both (t .fullrated) (true-both (t .halfrated) (true-both (t .fullrate) (t .halfrate)))) (true-both (t .confidential) (t .private))))))
+
+pub fits7 : (r : Release7) → Right7 r → optFits (format release7) (there (r .there) (release7Value r))
+fits7 r t = go (r .there)
+  where
+    rates : (h : Bool) → optFits (format amr) (there h (amrValue r))
+    rates false = tt
+    rates true = (flag-fits (r .fullrated) (r .fullrate) 4 (t .fullrate), flag-fits (r .halfrated) (r .halfrate) 4 (t .halfrate))
+
+    bits : (h : Bool) → optFits (format (number 1 and number 1)) (there h (asBit (r .confidential), asBit (r .private)))
+    bits false = tt
+    bits true = (flag-lt (r .confidential), flag-lt (r .private))
+
+    go : (h : Bool) → optFits (format release7) (there h (release7Value r))
+    go false = tt
+    go true = (
+      items-fit (num 1) asBit yes (λ b e. flag-lt b) (take (r .markcount) (r .marks)) (places-good yes not (r .markcount) (r .marks) (t .marks)),
+      (bit-fits (r .uplinked) (r .uplink), (rates (r .amr), bits (r .sms))),
+    )
+
+-- a flagged number behind another flag
+abbrev within : Bool → Option ℕ → Option ℕ
+within h o = pick h o none
+
+full-within : (h : Bool) (a : AmrValue) → fullRate (there h a) ≡ within h (a .0)
+full-within true a = refl
+full-within false a = refl
+
+half-within : (h : Bool) (a : AmrValue) → halfRate (there h a) ≡ within h (a .1)
+half-within true a = refl
+half-within false a = refl
+
+within-there : (h f : Bool) (v : ℕ) → behind h f ≡ true → isThere (within h (there f v)) ≡ f
+within-there true f v e = there-back f v
+within-there false f v e = sym (not-true f e)
+
+within-zero : (h f : Bool) (v n : ℕ) → behind h f ≡ true → flaggedRight f v n ≡ true → orZero (within h (there f v)) ≡ v
+within-zero true f v n e g = flag-zero f v n g
+within-zero false f v n e g = flag-none f v n (not-true f e) g
+
+first-bit : (h a : Bool) (y : ℕ) → behind h a ≡ true → confidentiality (there h (asBit a, y)) ≡ a
+first-bit true a y e = flag-back a
+first-bit false a y e = sym (not-true a e)
+
+second-bit : (h a : Bool) (x : ℕ) → behind h a ≡ true → privacy (there h (x, asBit a)) ≡ a
+second-bit true a x e = flag-back a
+second-bit false a x e = sym (not-true a e)
+
+pub back7 : (r : Release7) → Right7 r → length (r .marks) ≡ 4 → release7Of (there (r .there) (release7Value r)) ≡ r
+back7 r t four = go (r .there) refl (t .absent)
+  where
+    go : (h : Bool) → r .there ≡ h → pick h true (both (eqb (r .markcount) 0) (both (not (r .uplinked)) (both (not (r .amr)) (not (r .sms))))) ≡ true
+        → release7Of (there h (release7Value r)) ≡ r
+    go true o e =
+        λ i.
+        record {
+          there = sym o i;
+          markcount = in-use asBit (r .markcount) 4 (r .marks) (t .few) four i;
+          marks = places-back false yes not not-true isOne asBit (λ b g. flag-back b) 4 (r .markcount) (r .marks) four (t .marks) i;
+          uplinked = there-back (r .uplinked) (asBit (r .uplink)) i;
+          uplink = behind-bit (r .uplinked) (r .uplink) (t .uplink) i;
+          amr = there-back (r .amr) (amrValue r) i;
+          fullrated = (ap isThere (full-within (r .amr) (amrValue r)) ∙ within-there (r .amr) (r .fullrated) (r .fullrate) (t .fullrated)) i;
+          fullrate = (ap orZero (full-within (r .amr) (amrValue r)) ∙ within-zero (r .amr) (r .fullrated) (r .fullrate) 16 (t .fullrated) (t .fullrate)) i;
+          halfrated = (ap isThere (half-within (r .amr) (amrValue r)) ∙ within-there (r .amr) (r .halfrated) (r .halfrate) (t .halfrated)) i;
+          halfrate = (ap orZero (half-within (r .amr) (amrValue r)) ∙ within-zero (r .amr) (r .halfrated) (r .halfrate) 16 (t .halfrated) (t .halfrate)) i;
+          sms = there-back {A = ℕ × ℕ} (r .sms) (asBit (r .confidential), asBit (r .private)) i;
+          confidential = first-bit (r .sms) (r .confidential) (asBit (r .private)) (t .confidential) i;
+          private = second-bit (r .sms) (r .private) (asBit (r .confidential)) (t .private) i;
+        }
+    go false o e =
+        let a = both-true (eqb (r .markcount) 0) (both (not (r .uplinked)) (both (not (r .amr)) (not (r .sms)))) e in
+        let b = both-true (not (r .uplinked)) (both (not (r .amr)) (not (r .sms))) (a .1) in
+        let c = both-true (not (r .amr)) (not (r .sms)) (b .1) in
+        let n = eqb-true (r .markcount) 0 (a .0) in
+        let u = not-true (r .uplinked) (b .0) in
+        let v = not-true (r .amr) (c .0) in
+        let w = not-true (r .sms) (c .1) in
+        let x = behind-none (r .amr) (r .fullrated) v (t .fullrated) in
+        let y = behind-none (r .amr) (r .halfrated) v (t .halfrated) in
+        λ i.
+        record {
+          there = sym o i;
+          markcount = sym n i;
+          marks = places-empty false yes not not-true 4 (r .markcount) (r .marks) four n (t .marks) i;
+          uplinked = sym u i;
+          uplink = sym (behind-none (r .uplinked) (r .uplink) u (t .uplink)) i;
+          amr = sym v i;
+          fullrated = sym x i;
+          fullrate = flag-none (r .fullrated) (r .fullrate) 16 x (t .fullrate) i;
+          halfrated = sym y i;
+          halfrate = flag-none (r .halfrated) (r .halfrate) 16 y (t .halfrate) i;
+          sms = sym w i;
+          confidential = sym (behind-none (r .sms) (r .confidential) w (t .confidential)) i;
+          private = sym (behind-none (r .sms) (r .private) w (t .private)) i;
+        }
+
+rates-value : (o : Option AmrValue) → there (isThere o) (there (isThere (fullRate o)) (orZero (fullRate o)), there (isThere (halfRate o)) (orZero (halfRate o))) ≡ o
+rates-value none = refl
+rates-value (some a) = λ i. some (number-back (a .0) i, number-back (a .1) i)
+
+bits-value : (o : Option (ℕ × ℕ)) → optFits (format (number 1 and number 1)) o → there (isThere o) (asBit (confidentiality o), asBit (privacy o)) ≡ o
+bits-value none f = refl
+bits-value (some a) f = λ i. some (bit-back (a .0) (f .0) i, bit-back (a .1) (f .1) i)
+
+pub value7 : (o : Option Release7Value) → optFits (format release7) o → length (marksOf o) ≤ 4 → there (release7Of o .there) (release7Value (release7Of o)) ≡ o
+value7 none f h = refl
+value7 (some v) f h =
+    λ i.
+    some (
+      told-back (num 1) isOne false asBit bit-back 4 (v .0) (f .0) h i,
+      (bit-value (v .1 .0) (f .1 .0) i, (rates-value (v .1 .1 .0) i, bits-value (v .1 .1 .1) (f .1 .1 .1) i)),
+    )
+
+-- each of the two AMR parts stands behind their flag, and each SMS bit behind theirs
+full-behind : (o : Option AmrValue) → optFits (format amr) o → (behind (isThere o) (isThere (fullRate o)) ≡ true) × (flaggedRight (isThere (fullRate o)) (orZero (fullRate o)) 16 ≡ true)
+full-behind none f = (refl, refl)
+full-behind (some a) f = (refl, fits-flag (a .0) 4 (f .0))
+
+half-behind : (o : Option AmrValue) → optFits (format amr) o → (behind (isThere o) (isThere (halfRate o)) ≡ true) × (flaggedRight (isThere (halfRate o)) (orZero (halfRate o)) 16 ≡ true)
+half-behind none f = (refl, refl)
+half-behind (some a) f = (refl, fits-flag (a .1) 4 (f .1))
+
+bits-behind : (o : Option (ℕ × ℕ)) → (behind (isThere o) (confidentiality o) ≡ true) × (behind (isThere o) (privacy o) ≡ true)
+bits-behind none = (refl, refl)
+bits-behind (some a) = (refl, refl)
+
+pub told7 : (o : Option Release7Value) → optFits (format release7) o → length (marksOf o) ≤ 4 → Right7 (release7Of o)
+unfolding placesRight
+told7 none f h =
+    record {
+      few = omega arith;
+      absent = refl;
+      marks = refl;
+      uplink = refl;
+      fullrated = refl;
+      halfrated = refl;
+      fullrate = refl;
+      halfrate = refl;
+      confidential = refl;
+      private = refl;
+    }
+told7 (some v) f h =
+    let a = full-behind (v .1 .1 .0) (f .1 .1 .0) in
+    let b = half-behind (v .1 .1 .0) (f .1 .1 .0) in
+    let c = bits-behind (v .1 .1 .1) in
+    record {
+      few = h;
+      absent = refl;
+      marks = told-places (num 1) isOne false yes not refl (λ b g. refl) 4 (v .0) (f .0);
+      uplink = bit-behind (v .1 .0);
+      fullrated = a .0;
+      halfrated = b .0;
+      fullrate = a .1;
+      halfrate = b .1;
+      confidential = c .0;
+      private = c .1;
+    }
+
+pub count7 : (o : Option Release7Value) → release7Of o .markcount ≡ length (marksOf o)
+count7 none = refl
+count7 (some v) = refl

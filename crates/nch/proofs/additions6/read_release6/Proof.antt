@@ -1,0 +1,83 @@
+-- `nch::additions6::read_release6` meets its contract. Assumes nothing.
+use borrow.Author.Tests.{not-true, not-false}
+use mathlib.Core.Path.{sym, ap, ap₂, _∙_}
+use denote.Ref.{now}
+use Rattle.csn1.specs.declared.Refusal.{Refusal}
+use Rattle.csn1.specs.Format.{bad, release}
+use Rattle.csn1.specs.Grammar.{format}
+use Rattle.csn1.proofs.Callees.{release-refused, release-absent, release-there}
+use Rattle.nch.specs.Parts.{release6AtOf}
+use Rattle.csn1.proofs.Reading.{read-at, read-long}
+use Rattle.nch.specs.Octets.{release6}
+use Rattle.nch.specs.declared.Release6.{Release6}
+use native.Mathlib.Omega.{arith}
+use borrow.Author.Needs.{needs}
+use Rattle.nch.proofs.additions6.read_release6.Statement.{statement}
+use Rattle.nch.proofs.additions6.read_release6.Tie as tie
+
+ran-out-requires : tie.Need-ran-out-requires
+ran-out-requires c κs = search needs
+
+no-release-requires : tie.Need-no-release-requires
+no-release-requires c κs = search needs
+
+returns : tie.Need-returns
+returns c =
+    let a = c .before .before .before .before .args in
+    c .no-release .ensures ∙ ap (λ (r : Refusal). release6AtOf (bad r)) (c .before .ran-out .ensures)
+    ∙ sym (ap release6AtOf (read-long (release (format release6)) (now (a .s)) (a .at) (omega arith)))
+
+read-lead-requires : tie.Need-read-lead-requires
+read-lead-requires c κs = search needs
+
+no-release-requires-2 : tie.Need-no-release-requires-2
+no-release-requires-2 c κs = search needs
+
+returns-2 : tie.Need-returns-2
+returns-2 c =
+    let a = c .before .before .before .before .before .before .args in
+    let l = c .before .before .before .read-lead in
+    c .no-release2 .ensures
+    ∙ sym (ap release6AtOf (read-at (release (format release6)) (now (a .s)) (a .at) (omega arith)
+    ∙ release-refused (format release6) (now (a .s)) (a .at) (omega arith) (l .result) (l .ensures) (c .before .if2 .taken)))
+
+no-refusal-requires : tie.Need-no-refusal-requires
+no-refusal-requires c κs = search needs
+
+absent-requires : tie.Need-absent-requires
+absent-requires c κs = search needs
+
+returns-3 : tie.Need-returns-3
+returns-3 c =
+    let a = c .before .before .before .before .before .before .before .before .before .args in
+    let l = c .before .before .before .before .before .before .read-lead in
+    ap₂ (λ (r : Refusal) (t : Release6). record { refusal = r; release = t; at = l .result .at }) (c .before .no-refusal .ensures) (c .absent .ensures)
+    ∙ sym (ap release6AtOf (read-at (release (format release6)) (now (a .s)) (a .at) (omega arith)
+    ∙ release-absent (format release6) (now (a .s)) (a .at) (omega arith) (l .result) (l .ensures) (c .before .before .before .before .if2 .left) (not-true _ (c .before .before .if3 .taken))))
+
+read-parts-requires : tie.Need-read-parts-requires
+read-parts-requires c κs = search needs
+
+returns-4 : tie.Need-returns-4
+returns-4 c =
+    let a = c .before .before .before .before .before .before .before .before .args in
+    let l = c .before .before .before .before .before .read-lead in
+    c .read-parts .ensures
+    ∙ sym (ap release6AtOf (read-at (release (format release6)) (now (a .s)) (a .at) (omega arith)
+    ∙ release-there (format release6) (now (a .s)) (a .at) (omega arith) (l .result) (l .ensures) (c .before .before .before .if2 .left) (not-false _ (c .before .if3 .left))))
+
+pub read-release6-spec : {M : Type 1} → statement M
+read-release6-spec =
+    tie.close
+    (tie.spec
+    ran-out-requires
+    no-release-requires
+    returns
+    read-lead-requires
+    no-release-requires-2
+    returns-2
+    no-refusal-requires
+    absent-requires
+    returns-3
+    read-parts-requires
+    returns-4)
