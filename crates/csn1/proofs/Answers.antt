@@ -9,11 +9,12 @@ use Rattle.bits.specs.Field.{fetched}
 use Rattle.bits.specs.declared.Got.the-variants.{Bits}
 use Rattle.csn1.specs.declared.Refusal.{Refusal}
 use Rattle.csn1.specs.declared.Flagged.{Flagged}
-use Rattle.csn1.specs.Format.{Res, ok, bad, noRefusal, Format, num, opt, list, _⨟_}
+use Rattle.csn1.specs.declared.Lead.{Lead}
+use Rattle.csn1.specs.Format.{Res, ok, bad, noRefusal, Format, num, opt, list, coded, _⨟_}
 use Rattle.csn1.specs.Promises.{Grounded}
-use Rattle.csn1.specs.Told.{padded, flaggedAt, flaggedOf}
-use Rattle.csn1.proofs.Lawful.{num-lawful, opt-lawful}
-use Rattle.csn1.proofs.Reading.{opt-some, flagged-at}
+use Rattle.csn1.specs.Told.{padded, readAt, flaggedAt, flaggedOf, codedOf}
+use Rattle.csn1.proofs.Lawful.{num-lawful, opt-lawful, coded-lawful}
+use Rattle.csn1.proofs.Reading.{opt-some, read-at, flagged-at}
 use Rattle.csn1.proofs.Lists.{Entries, entries-end}
 
 -- ## What a struct says
@@ -68,6 +69,22 @@ module _ (s : List ℕ) (p w : ℕ) (h : w ≤ 64) (l : length s ≤ 4096) (r : 
   pub flag-answered : r .refusal .number ≡ 0 → Answer flags r (opt (num w) .read s p)
   flag-answered z =
       answered flags r (opt (num w) .read s p) (e ∙ ap flaggedOf (flagged-at s p w h l)) (opt-lawful (num w) (num-lawful w) .grounds s p) z
+
+-- ## An L/H-coded bit
+
+abbrev pub codes : Telling ℕ Lead
+codes = record { of = codedOf; refusal = λ l. l .refusal; at = λ l. l .at; fine = λ a q. refl; place = λ a q. refl; why = λ r. refl }
+
+-- `read_coded` was called
+module _ (s : List ℕ) (p : ℕ) (l : length s ≤ 4096) (r : Lead) (e : r ≡ codedOf (readAt coded s p)) where
+  coded-is : r ≡ codedOf (coded .read s p)
+  coded-is = e ∙ ap codedOf (read-at coded s p l)
+
+  pub coded-answered : r .refusal .number ≡ 0 → Answer codes r (coded .read s p)
+  coded-answered z = answered codes r (coded .read s p) coded-is (coded-lawful .grounds s p) z
+
+  pub coded-refused : (r .refusal .number ≡ 0 → ⊥) → coded .read s p ≡ bad (r .refusal)
+  coded-refused n = unanswered codes r (coded .read s p) coded-is n
 
 -- ## Parts in a row
 

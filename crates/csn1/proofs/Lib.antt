@@ -7,3 +7,4 @@ pub mod Callees
 pub mod Answers
 pub mod Writing
 pub mod Telling
+pub mod Putting

@@ -10,3 +10,6 @@ pub mod Round
 pub mod Promises
 pub mod Owners
 pub mod Whole
+pub mod Testing
+pub mod InRange
+pub mod Putting

@@ -28,10 +28,10 @@ use Rattle.nch.proofs.Releases.{flag-fits, fits-flag, flag-zero, in-use
 -- what the writer asks of a record, but for the length of its written form
 pub record Right (m : Notification) : Type 0 where
   pub few : m .callcount ≤ 4
-  numbered : flaggedRight (m .numbered) (m .nln) 4 ≡ true
+  pub numbered : flaggedRight (m .numbered) (m .nln) 4 ≡ true
   calls : placesRight callInRange callIsZero (m .callcount) (m .calls) ≡ true
   pub six : Right6 (m .release6)
-  seven : Right7 (m .release7)
+  pub seven : Right7 (m .release7)
   low : all callIsLow (callsOf m) ≡ true
   lowReduced : all reducedIsLow (take (m .release6 .reducedcount) (m .release6 .reduced)) ≡ true
   lengths : all callLengthRight (callsOf m) ≡ true
@@ -111,11 +111,13 @@ described-value : (c : Call) → describedValue (callValue c) ≡ isDescribed c
 described-value c = there-back (c .described) (descriptionValue (c .description))
 
 module _ (m : Notification) (t : Right m) where
+  pub calls-right : all callRight (callsOf m) ≡ true
+  calls-right =
+      all-both callInRange _ (callsOf m) (places-good callInRange callIsZero (m .callcount) (m .calls) (t .calls))
+      (all-both callIsLow _ (callsOf m) (t .low) (all-both callLengthRight callHopsRight (callsOf m) (t .lengths) (t .hops)))
+
   calls-fit : itemsFit groupCall (map callValue (callsOf m))
-  calls-fit =
-      items-fit groupCall callValue callRight one-call (callsOf m)
-      (all-both callInRange _ (callsOf m) (places-good callInRange callIsZero (m .callcount) (m .calls) (t .calls))
-      (all-both callIsLow _ (callsOf m) (t .low) (all-both callLengthRight callHopsRight (callsOf m) (t .lengths) (t .hops))))
+  calls-fit = items-fit groupCall callValue callRight one-call (callsOf m) calls-right
 
   module _ (s : Shaped m) where
     randoms-fit : (h : Bool) → leb (length (randomsOf (there h (release6Value (m .release6))))) (count cipheredValue (map callValue (callsOf m)) + length (reducedsOf (there h (release6Value (m .release6))))) ≡ true

@@ -110,9 +110,9 @@ pub record Right6 (r : Release6) : Type 0 where
   pub few : r .reducedcount ≤ 5
   pub fewRandoms : r .randomcount ≤ 9
   absent : pick (r .there) true (both (not (r .counted)) (both (eqb (r .reducedcount) 0) (eqb (r .randomcount) 0))) ≡ true
-  counted : flaggedRight (r .counted) (r .cellcount) 4 ≡ true
-  places : placesRight reducedInRange reducedIsZero (r .reducedcount) (r .reduced) ≡ true
-  randoms : placesRight randomInRange randomIsZero (r .randomcount) (r .randoms) ≡ true
+  pub counted : flaggedRight (r .counted) (r .cellcount) 4 ≡ true
+  pub places : placesRight reducedInRange reducedIsZero (r .reducedcount) (r .reduced) ≡ true
+  pub randoms : placesRight randomInRange randomIsZero (r .randomcount) (r .randoms) ≡ true
 
 pub right6 : (r : Release6) → release6InRange r ≡ true → Right6 r
 unfolding release6InRange
@@ -237,12 +237,12 @@ count6 (some v) = (refl, refl)
 pub record Right7 (r : Release7) : Type 0 where
   pub few : r .markcount ≤ 4
   absent : pick (r .there) true (both (eqb (r .markcount) 0) (both (not (r .uplinked)) (both (not (r .amr)) (not (r .sms))))) ≡ true
-  marks : placesRight yes not (r .markcount) (r .marks) ≡ true
+  pub marks : placesRight yes not (r .markcount) (r .marks) ≡ true
   uplink : behind (r .uplinked) (r .uplink) ≡ true
   fullrated : behind (r .amr) (r .fullrated) ≡ true
   halfrated : behind (r .amr) (r .halfrated) ≡ true
-  fullrate : flaggedRight (r .fullrated) (r .fullrate) 16 ≡ true
-  halfrate : flaggedRight (r .halfrated) (r .halfrate) 16 ≡ true
+  pub fullrate : flaggedRight (r .fullrated) (r .fullrate) 16 ≡ true
+  pub halfrate : flaggedRight (r .halfrated) (r .halfrate) 16 ≡ true
   confidential : behind (r .sms) (r .confidential) ≡ true
   private : behind (r .sms) (r .private) ≡ true
 

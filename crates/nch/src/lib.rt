@@ -11,6 +11,8 @@ use csn1::Refusal;
 mod additions6;
 mod additions7;
 mod calls;
+mod checks;
+pub mod writer;
 
 // A Reduced GCR: the reference and service flag of a call that another message carries whole.
 pub struct Reduced {

@@ -1,0 +1,216 @@
+-- What the readers of NOTIFICATION/FACCH go by: from the structs that the callees gave back to what the grammar reads. Assumes nothing.
+use mathlib.Core.Path.{_≡_, refl, sym, ap, ap₂, _∙_}
+use mathlib.Core.List.{List}
+use mathlib.Core.Bool.{true}
+use mathlib.Core.Option.{Option, some}
+use mathlib.Core.Logic.{_⊎_, inl}
+use Prim.Native.Nat.{ℕ, _*_, _≤_, _<_}
+use native.Mathlib.Omega.{arith}
+use lib.ListN.{length}
+use borrow.Author.Tests.{le-leb, lt-leb}
+use Rattle.bits.specs.Field.{field, fetched}
+use Rattle.bits.specs.declared.Got.the-variants.{Bits, Short}
+use Rattle.csn1.specs.declared.Refusal.{Refusal}
+use Rattle.csn1.specs.declared.Flagged.{Flagged}
+use Rattle.csn1.specs.declared.Lead.{Lead}
+use Rattle.csn1.specs.Format.{Res, ok, bad, _then_, ranOut, ground, noRefusal, Format, num, opt, coded, release, either, _⨟_}
+use Rattle.csn1.specs.Grammar.{number, _and_, flagged, later, format}
+use Rattle.csn1.specs.Told.{readAt, flaggedAt, flaggedOf, codedOf}
+use Rattle.csn1.proofs.Promises.{lawful}
+use Rattle.csn1.proofs.Reading.{either-short, either-left, either-right, read-at}
+use Rattle.csn1.proofs.Callees.{flagged-refused}
+use Rattle.csn1.proofs.Answers.{Telling, Answer, answered, unanswered, flag-answered, codes, coded-answered, coded-refused, first-bad, then-bad, then-ok}
+use Rattle.call.specs.declared.CallAt.{CallAt}
+use Rattle.call.specs.Call.{CallValue, callGrammar, groupCall}
+use Rattle.call.specs.Told.{callAtOf}
+use Rattle.facch.specs.declared.Reading.{Reading}
+use Rattle.facch.specs.declared.additions.CountAt.{CountAt}
+use Rattle.facch.specs.declared.additions.Release6At.{Release6At}
+use Rattle.facch.specs.declared.additions.Release7At.{Release7At}
+use Rattle.facch.specs.Message.{Release6Value, Release7Value, release6, release7, paging, notification, readOctets}
+use Rattle.facch.specs.Told.{readingOf}
+use Rattle.facch.specs.Parts.{countAtOf, release6AtOf, release7AtOf}
+
+-- behind a release's H
+abbrev behind : {A : Type 0} → Res A → Res (Option A)
+behind x = x then λ v q. ok (some v) q
+
+-- ## Release 6: the counts, then VSTK_RAND
+
+abbrev counts : Telling (Option (ℕ × ℕ)) CountAt
+counts = record { of = countAtOf; refusal = λ c. c .refusal; at = λ c. c .at; fine = λ a q. refl; place = λ a q. refl; why = λ r. refl }
+
+abbrev whole6 : Refusal → CountAt → Flagged → Release6At
+whole6 r c v =
+    record {
+      refusal = r;
+      release = record { there = true; counted = c .there; cellcount = c .cellcount; b22 = c .b22; given = v .there; rand = v .value };
+      at = v .at;
+    }
+
+-- what each call gave, one after the other
+module _ (s : List ℕ) (p : ℕ) (l : length s ≤ 4096) (c : CountAt) (ec : c ≡ countAtOf (opt (num 2 ⨟ num 1) .read s p)) where
+  bad6 : (r : Refusal) → format release6 .read s p ≡ bad r → release6AtOf (bad r) ≡ release6AtOf (behind (format release6 .read s p))
+  bad6 r e = sym (ap (λ (x : Res Release6Value). release6AtOf (behind x)) e)
+
+  pub count-bad : (c .refusal .number ≡ 0 → ⊥) → release6AtOf (bad (c .refusal)) ≡ release6AtOf (behind (format release6 .read s p))
+  count-bad n = bad6 _ (first-bad (opt (num 2 ⨟ num 1)) (opt (num 36)) s p _ (unanswered counts c _ ec n))
+
+  module _ (zc : c .refusal .number ≡ 0) (v : Flagged) (ev : v ≡ flaggedOf (flaggedAt s (c .at) 36)) where
+    counted : Answer counts c (opt (num 2 ⨟ num 1) .read s p)
+    counted = answered counts c (opt (num 2 ⨟ num 1) .read s p) ec (lawful (flagged (number 2 and number 1)) (tt, tt) .grounds s p) zc
+
+    pub rand-bad : (v .refusal .number ≡ 0 → ⊥) → release6AtOf (bad (v .refusal)) ≡ release6AtOf (behind (format release6 .read s p))
+    rand-bad n =
+        bad6 _ (then-bad (opt (num 2 ⨟ num 1)) (opt (num 36)) s p _ _ _ (counted .is) (flagged-refused s (c .at) 36 (omega arith) l v ev n))
+
+    pub parts6-told : v .refusal .number ≡ 0 → (r : Refusal) → r ≡ noRefusal → whole6 r c v ≡ release6AtOf (behind (format release6 .read s p))
+    parts6-told zv r e =
+        let given = flag-answered s (c .at) 36 (omega arith) l v ev zv in
+        let all : format release6 .read s p ≡ ok (counted .value, given .value) (v .at) =
+        then-ok (opt (num 2 ⨟ num 1)) (opt (num 36)) s p _ _ _ _ (counted .is) (given .is) in
+        ap (λ (x : Refusal). whole6 x c v) e ∙ ap₂ (whole6 noRefusal) (counted .told) (given .told)
+        ∙ sym (ap (λ (x : Res Release6Value). release6AtOf (behind x)) all)
+
+-- ## Release 7: Priority Uplink Access, Emergency_Ind, Paging Cause
+
+abbrev whole7 : Refusal → Lead → Lead → Flagged → Release7At
+whole7 r u e p = record { refusal = r; release = record { there = true; uplink = u .high; emergency = e .high; caused = p .there }; at = p .at }
+
+-- what stands behind Priority Uplink Access
+abbrev rest7 : Format (ℕ × Option ℕ)
+rest7 = coded ⨟ opt (num 1)
+
+module _ (s : List ℕ) (p : ℕ) (l : length s ≤ 4096) (u : Lead) (eu : u ≡ codedOf (readAt coded s p)) where
+  bad7 : (r : Refusal) → format release7 .read s p ≡ bad r → release7AtOf (bad r) ≡ release7AtOf (behind (format release7 .read s p))
+  bad7 r e = sym (ap (λ (x : Res Release7Value). release7AtOf (behind x)) e)
+
+  pub uplink-bad : (u .refusal .number ≡ 0 → ⊥) → release7AtOf (bad (u .refusal)) ≡ release7AtOf (behind (format release7 .read s p))
+  uplink-bad n = bad7 _ (first-bad coded rest7 s p _ (coded-refused s p l u eu n))
+
+  module _ (zu : u .refusal .number ≡ 0) (e : Lead) (ee : e ≡ codedOf (readAt coded s (u .at))) where
+    linked : Answer codes u (coded .read s p)
+    linked = coded-answered s p l u eu zu
+
+    pub emergency-bad : (e .refusal .number ≡ 0 → ⊥) → release7AtOf (bad (e .refusal)) ≡ release7AtOf (behind (format release7 .read s p))
+    emergency-bad n =
+        bad7 _ (then-bad coded rest7 s p _ _ _ (linked .is) (first-bad coded (opt (num 1)) s (u .at) _ (coded-refused s (u .at) l e ee n)))
+
+    module _ (ze : e .refusal .number ≡ 0) (c : Flagged) (ec : c ≡ flaggedOf (flaggedAt s (e .at) 1)) where
+      marked : Answer codes e (coded .read s (u .at))
+      marked = coded-answered s (u .at) l e ee ze
+
+      pub cause-bad : (c .refusal .number ≡ 0 → ⊥) → release7AtOf (bad (c .refusal)) ≡ release7AtOf (behind (format release7 .read s p))
+      cause-bad n =
+          bad7 _
+          (then-bad coded rest7 s p _ _ _ (linked .is)
+          (then-bad coded (opt (num 1)) s (u .at) _ _ _ (marked .is) (flagged-refused s (e .at) 1 (omega arith) l c ec n)))
+
+      pub parts7-told : c .refusal .number ≡ 0 → (r : Refusal) → r ≡ noRefusal → whole7 r u e c ≡ release7AtOf (behind (format release7 .read s p))
+      parts7-told zc r z =
+          let caused = flag-answered s (e .at) 1 (omega arith) l c ec zc in
+          let all : format release7 .read s p ≡ ok (linked .value, (marked .value, caused .value)) (c .at) =
+          then-ok coded rest7 s p _ _ _ _ (linked .is) (then-ok coded (opt (num 1)) s (u .at) _ _ _ _ (marked .is) (caused .is)) in
+          ap (λ (x : Refusal). whole7 x u e c) z ∙ ap (λ (x : Lead). whole7 noRefusal x e c) (linked .told)
+          ∙ ap₂ (whole7 noRefusal (codedOf (ok (linked .value) (u .at)))) (marked .told) (caused .told)
+          ∙ sym (ap (λ (x : Res Release7Value). release7AtOf (behind x)) all)
+
+-- ## The message
+
+abbrev calls : Telling CallValue CallAt
+calls = record { of = callAtOf; refusal = λ c. c .refusal; at = λ c. c .at; fine = λ a q. refl; place = λ a q. refl; why = λ r. refl }
+
+abbrev sixes : Telling (Option Release6Value) Release6At
+sixes = record { of = release6AtOf; refusal = λ c. c .refusal; at = λ c. c .at; fine = λ a q. refl; place = λ a q. refl; why = λ r. refl }
+
+abbrev sevens : Telling (Option Release7Value) Release7At
+sevens = record { of = release7AtOf; refusal = λ c. c .refusal; at = λ c. c .at; fine = λ a q. refl; place = λ a q. refl; why = λ r. refl }
+
+abbrev whole : Refusal → CallAt → Release6At → Release7At → Reading
+whole r c x y = record { refusal = r; used = y .at; «record» = record { call = c .call; release6 = x .release; release7 = y .release } }
+
+-- the parts of the message
+abbrev notified : Format (CallValue ⊎ List ℕ)
+notified = either (format callGrammar) (format paging)
+
+abbrev added6 : Format (Option Release6Value)
+added6 = release (format release6)
+
+abbrev added7 : Format (Option Release7Value)
+added7 = release (format release7)
+
+-- the message has not 2 to 23 octets
+pub too-short : (s : List ℕ) → length s < 2 → readOctets s ≡ bad (ground 1)
+too-short s h = rw (lt-leb 2 (length s) h)
+
+pub too-long : (s : List ℕ) → 23 < length s → readOctets s ≡ bad (ground 1)
+too-long s h = rw (le-leb 2 (length s) (omega arith), lt-leb (length s) 23 h)
+
+module _ (s : List ℕ) (h : 2 ≤ length s) (l : length s ≤ 23) where
+  -- the first octet is not looked at
+  content-bad : (r : Refusal) → (notified ⨟ added6 ⨟ added7) .read s 8 ≡ bad r → readOctets s ≡ bad r
+  unfolding notification
+  content-bad r e = rw (le-leb 2 (length s) h, le-leb (length s) 23 l, le-leb 8 (length s * 8) (omega arith), e)
+
+  content-ok : (v : (CallValue ⊎ List ℕ) × (Option Release6Value × Option Release7Value)) (q : ℕ) → (notified ⨟ added6 ⨟ added7) .read s 8 ≡ ok v q
+      → readOctets s ≡ ok (field s 0 8, v) q
+  unfolding notification
+  content-ok v q e = rw (le-leb 2 (length s) h, le-leb (length s) 23 l, le-leb 8 (length s * 8) (omega arith), e)
+
+  pub branch-short : Short ≡ fetched s 8 1 → readOctets s ≡ bad (ranOut 8)
+  branch-short e = content-bad _ (first-bad notified (added6 ⨟ added7) s 8 _ (either-short (format callGrammar) (format paging) s 8 e))
+
+  module _ (b : ℕ) (e : Bits b ≡ fetched s 8 1) where
+    pub paging-refused : (b ≡ 0 → ⊥) → readOctets s ≡ bad (ground 8)
+    paging-refused n =
+        content-bad _
+        (first-bad notified (added6 ⨟ added7) s 8 _
+        (either-right (format callGrammar) (format paging) s 8 b e n ∙ rw (le-leb 9 (length s * 8) (omega arith))))
+
+    module _ (z : b ≡ 0) (c : CallAt) (ec : c ≡ callAtOf (readAt groupCall s 9)) where
+      called : c ≡ callAtOf (format callGrammar .read s 9)
+      unfolding groupCall
+      called = ec ∙ ap callAtOf (read-at groupCall s 9 (omega arith))
+
+      pub call-refused : (c .refusal .number ≡ 0 → ⊥) → readOctets s ≡ bad (c .refusal)
+      call-refused n =
+          content-bad _
+          (first-bad notified (added6 ⨟ added7) s 8 _
+          (either-left (format callGrammar) (format paging) s 8 b e z ∙ rw (unanswered calls c (format callGrammar .read s 9) called n)))
+
+      module _ (zc : c .refusal .number ≡ 0) (x : Release6At) (ex : x ≡ release6AtOf (readAt added6 s (c .at))) where
+        call : Answer calls c (format callGrammar .read s 9)
+        call = answered calls c (format callGrammar .read s 9) called (lawful callGrammar (omega arith) .grounds s 9) zc
+
+        notice : notified .read s 8 ≡ ok (inl (call .value)) (c .at)
+        notice = either-left (format callGrammar) (format paging) s 8 b e z ∙ rw (call .is)
+
+        six : x ≡ release6AtOf (added6 .read s (c .at))
+        six = ex ∙ ap release6AtOf (read-at added6 s (c .at) (omega arith))
+
+        pub release6-refused : (x .refusal .number ≡ 0 → ⊥) → readOctets s ≡ bad (x .refusal)
+        release6-refused n =
+            content-bad _
+            (then-bad notified (added6 ⨟ added7) s 8 _ _ _ notice (first-bad added6 added7 s (c .at) _ (unanswered sixes x (added6 .read s (c .at)) six n)))
+
+        module _ (zx : x .refusal .number ≡ 0) (y : Release7At) (ey : y ≡ release7AtOf (readAt added7 s (x .at))) where
+          sixth : Answer sixes x (added6 .read s (c .at))
+          sixth = answered sixes x (added6 .read s (c .at)) six (lawful (later release6) (omega arith) .grounds s (c .at)) zx
+
+          seven : y ≡ release7AtOf (added7 .read s (x .at))
+          seven = ey ∙ ap release7AtOf (read-at added7 s (x .at) (omega arith))
+
+          pub release7-refused : (y .refusal .number ≡ 0 → ⊥) → readOctets s ≡ bad (y .refusal)
+          release7-refused n =
+              content-bad _
+              (then-bad notified (added6 ⨟ added7) s 8 _ _ _ notice
+              (then-bad added6 added7 s (c .at) _ _ _ (sixth .is) (unanswered sevens y (added7 .read s (x .at)) seven n)))
+
+          pub message-told : y .refusal .number ≡ 0 → (r : Refusal) → r ≡ noRefusal → whole r c x y ≡ readingOf (readOctets s)
+          message-told zy r er =
+              let seventh = answered sevens y (added7 .read s (x .at)) seven (lawful (later release7) (omega arith) .grounds s (x .at)) zy in
+              let all : readOctets s ≡ ok (field s 0 8, (inl (call .value), (sixth .value, seventh .value))) (y .at) =
+              content-ok _ _
+              (then-ok notified (added6 ⨟ added7) s 8 _ _ _ _ notice (then-ok added6 added7 s (c .at) _ _ _ _ (sixth .is) (seventh .is))) in
+              ap (λ (w : Refusal). whole w c x y) er ∙ ap (λ (w : CallAt). whole noRefusal w x y) (call .told)
+              ∙ ap₂ (whole noRefusal (callAtOf (ok (call .value) (c .at)))) (sixth .told) (seventh .told) ∙ sym (ap readingOf all)

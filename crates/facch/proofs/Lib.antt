@@ -1,0 +1,2 @@
+pub mod Callees
+pub mod Promises

@@ -1,0 +1,4 @@
+pub mod Message
+pub mod Told
+pub mod Parts
+pub mod Promises

@@ -1,0 +1,50 @@
+-- NOTIFICATION/FACCH (44.018, 9.1.21a) as one grammar term. Assumes nothing.
+use mathlib.Core.List.{List, [], _∷_}
+use mathlib.Core.Bool.{Bool, false}
+use mathlib.Core.Option.{Option}
+use mathlib.Core.Logic.{_⊎_}
+use Prim.Native.Nat.{ℕ}
+use lib.ListN.{length}
+use lib.Dec.{leb}
+use Rattle.bits.specs.Field.{both, pick}
+use Rattle.csn1.specs.Format.{Res, bad, ground, Format}
+use Rattle.csn1.specs.Grammar.{Grammar, number, numbers, low-high, _and_, flagged, later, one-of, refuse, format}
+use Rattle.call.specs.Call.{CallValue, callGrammar}
+
+-- ## The releases
+
+abbrev pub Release6Value : Type 0
+Release6Value = Option (ℕ × ℕ) × Option ℕ
+
+-- {0 | 1 <CELL_GLOBAL_COUNT: bit (2)> <B22_COUNT: bit>} {0 | 1 <VSTK_RAND: bit (36)>}
+abbrev pub release6 : Grammar Release6Value
+release6 = flagged (number 2 and number 1) and flagged (number 36)
+
+abbrev pub Release7Value : Type 0
+Release7Value = ℕ × (ℕ × Option ℕ)
+
+-- <Priority Uplink Access: bit == L | bit == H> <Emergency_Ind: bit == L | bit == H> {0 | 1 <Paging Cause: bit (1)>}
+-- (003's braces put Paging Cause outside; document 01 places it inside Release 7)
+abbrev pub release7 : Grammar Release7Value
+release7 = low-high and low-high and flagged (number 1)
+
+-- ## The whole
+
+-- <Paging Information>: today it is refused as soon as its flag is in, before any bit of it is read
+abbrev pub paging : Grammar (List ℕ)
+paging = refuse 8 (λ _. false) (numbers [])
+
+abbrev pub Value : Type 0
+Value = ℕ × ((CallValue ⊎ List ℕ) × (Option Release6Value × Option Release7Value))
+
+-- <RR short PD: bit> <message type: bit(5)> <short layer 2 header: bit(2)>, which nobody looks at,
+-- {0 <Group Call information> | 1 <Paging Information>} {null | L | H <Release 6>} {null | L | H <Release 7>} <spare padding>
+abbrev pub message : Grammar Value
+message = number 8 and one-of callGrammar paging and later release6 and later release7
+
+unfoldable pub notification : Format Value
+notification = format message
+
+-- refusal 1: 2 to 23 octets
+abbrev pub readOctets : List ℕ → Res Value
+readOctets s = pick (both (leb 2 (length s)) (leb (length s) 23)) (notification .read s 0) (bad (ground 1))

@@ -1,0 +1,73 @@
+-- The record of a notification, from the value that was read. Assumes nothing.
+use mathlib.Core.List.{List}
+use mathlib.Core.Bool.{Bool, true, false}
+use mathlib.Core.Option.{Option, none, some}
+use mathlib.Core.Logic.{_⊎_, inl, inr}
+use Prim.Native.Nat.{ℕ}
+use Rattle.csn1.specs.Format.{Res, ok, bad, noRefusal}
+use Rattle.csn1.specs.Told.{isThere, orZero, isOne}
+use Rattle.call.specs.Call.{CallValue, callOf, noCall}
+use Rattle.call.specs.declared.Call.{Call}
+use Rattle.facch.specs.Message.{Release6Value, Release7Value, Value, readOctets}
+use Rattle.facch.specs.declared.Release6.{Release6}
+use Rattle.facch.specs.declared.Release7.{Release7}
+use Rattle.facch.specs.declared.Notification.{Notification}
+use Rattle.facch.specs.declared.Reading.{Reading}
+
+-- ## Release 6
+
+-- CELL_GLOBAL_COUNT and B22_COUNT, behind their one flag
+abbrev pub cellCount : Option (ℕ × ℕ) → ℕ
+cellCount none = 0
+cellCount (some c) = c .0
+
+abbrev pub b22Count : Option (ℕ × ℕ) → Bool
+b22Count none = false
+b22Count (some c) = isOne (c .1)
+
+abbrev pub noRelease6 : Release6
+noRelease6 = record { there = false; counted = false; cellcount = 0; b22 = false; given = false; rand = 0 }
+
+abbrev pub release6Of : Option Release6Value → Release6
+release6Of none = noRelease6
+release6Of (some v) =
+    record {
+      there = true;
+      counted = isThere (v .0);
+      cellcount = cellCount (v .0);
+      b22 = b22Count (v .0);
+      given = isThere (v .1);
+      rand = orZero (v .1);
+    }
+
+-- ## Release 7
+
+abbrev pub noRelease7 : Release7
+noRelease7 = record { there = false; uplink = false; emergency = false; caused = false }
+
+-- the Paging Cause itself is thrown away
+abbrev pub release7Of : Option Release7Value → Release7
+release7Of none = noRelease7
+release7Of (some v) = record { there = true; uplink = isOne (v .0); emergency = isOne (v .1 .0); caused = isThere (v .1 .1) }
+
+-- ## The whole
+
+-- what is notified: a call; paging is refused before it is told
+abbrev pub notified : CallValue ⊎ List ℕ → Call
+notified (inl c) = callOf c
+notified (inr p) = noCall
+
+abbrev pub recordOf : Value → Notification
+recordOf v = record { call = notified (v .1 .0); release6 = release6Of (v .1 .1 .0); release7 = release7Of (v .1 .1 .1) }
+
+abbrev pub noRecord : Notification
+noRecord = record { call = noCall; release6 = noRelease6; release7 = noRelease7 }
+
+-- a refusal is its number alone
+abbrev pub readingOf : Res Value → Reading
+readingOf (bad r) = record { refusal = r; used = 0; «record» = noRecord }
+readingOf (ok v q) = record { refusal = noRefusal; used = q; «record» = recordOf v }
+
+-- what `facch::read` answers for any octets
+abbrev pub readOf : List ℕ → Reading
+readOf s = readingOf (readOctets s)
