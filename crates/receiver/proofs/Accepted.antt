@@ -1,0 +1,88 @@
+-- What an accepted message has: an NLN of two bits, and not more entries than an answer has places. Assumes nothing.
+use mathlib.Core.Path.{_≡_, refl, ap}
+use mathlib.Core.Bool.{Bool, true, false}
+use mathlib.Core.List.{List, [], _∷_}
+use Prim.Native.Nat.{ℕ, zero, suc, _≤_, _<_}
+use native.Mathlib.Omega.{arith}
+use lib.Dec.{leb}
+use lib.ListN.{length, take, length-append}
+use borrow.Author.Tests.{ltb-true}
+use Rattle.csn1.specs.Told.{padded}
+use Rattle.csn1.proofs.Writing.{both-true}
+use Rattle.csn1.proofs.Telling.{picked, handed-on}
+use Rattle.nch.specs.declared.Notification.{Notification}
+use Rattle.nch.specs.Told.{readOf}
+use Rattle.nch.specs.Write.{callsOf, flaggedRight, inRange, recordRefusal, writeNumber}
+use Rattle.nch.proofs.Promises.{writing-gives-back-what-was-read, places-are-enough}
+use Rattle.receiver.specs.declared.Record.{Record}
+use Rattle.receiver.specs.declared.Slot.{Slot}
+use Rattle.receiver.specs.Model.{mapAt}
+use Rattle.receiver.specs.Entries.{callEntry, reducedEntry, nchEntries}
+use Rattle.receiver.specs.Step.{Event, nch, facch, joined, reselected, handedOver, reconfigured, tick, groundsOf, entriesOf, slotsAfter, allTold, noTold}
+use Rattle.receiver.proofs.Standing.{length-mapAt}
+
+-- ## NLN
+
+flagged-lt : (h : Bool) (v : ℕ) → flaggedRight h v 4 ≡ true → h ≡ true → v < 4
+flagged-lt true v e o = ltb-true v 4 e
+flagged-lt false v e o = absurd (let z : _≡_ {A = ℕ} 0 1 = cc in omega arith)
+
+written-nln : (m : Notification) → writeNumber m 20 ≡ 0 → flaggedRight (m .numbered) (m .nln) 4 ≡ true
+unfolding writeNumber recordRefusal inRange
+written-nln m e =
+    let a = handed-on (recordRefusal m) _ e in
+    let b = picked (inRange m) _ 12 (omega arith) (a .0) in
+    both-true (flaggedRight (m .numbered) (m .nln) 4) _ (both-true (leb (m .callcount) 4) _ (b .0) .1) .0
+
+-- where a message has an NLN, it is below 4
+pub read-nln : (s : List ℕ) → readOf s .refusal .number ≡ 0 → readOf s .«record» .numbered ≡ true → readOf s .«record» .nln < 4
+read-nln s z o = flagged-lt (readOf s .«record» .numbered) (readOf s .«record» .nln) (written-nln (readOf s .«record») (writing-gives-back-what-was-read s z .accepted)) o
+
+-- ## Entries
+
+take-le : {A : Type 0} (n : ℕ) (l : List A) → length (take n l) ≤ n
+take-le zero l = omega arith
+take-le (suc n) [] = omega arith
+take-le (suc n) (a ∷ l) = omega (arith, take-le n l)
+
+nch-few : (m : Notification) → m .callcount ≤ 4 → m .release6 .reducedcount ≤ 5 → length (nchEntries m) ≤ 9
+unfolding nchEntries
+nch-few m h k =
+    let xs : List Record = mapAt (callEntry m) 0 (callsOf m) in
+    let ys : List Record = mapAt (reducedEntry m) 0 (take (m .release6 .reducedcount) (m .release6 .reduced)) in
+    omega (
+      arith,
+      length-append xs ys,
+      length-mapAt (callEntry m) 0 (callsOf m),
+      length-mapAt (reducedEntry m) 0 (take (m .release6 .reducedcount) (m .release6 .reduced)),
+      take-le (m .callcount) (m .calls),
+      take-le (m .release6 .reducedcount) (m .release6 .reduced),
+    )
+
+-- an accepted event has at most nine
+pub few : (e : Event) → groundsOf e .number ≡ 0 → length (entriesOf e) ≤ 9
+few (nch t s) z = nch-few (readOf s .«record») (places-are-enough s z .0) (places-are-enough s z .1)
+few (facch t s) z = omega arith
+few (joined t k) z = omega arith
+few (reselected t) z = omega arith
+few (handedOver t) z = omega arith
+few (reconfigured t) z = omega arith
+few (tick t) z = omega arith
+
+-- ## Answers in their places
+
+pub take-padded : {A : Type 0} (z : A) (n : ℕ) (l : List A) → length l ≤ n → take (length l) (padded z n l) ≡ l
+take-padded z n [] h = refl
+take-padded z zero (a ∷ l) h = absurd (omega arith)
+take-padded z (suc n) (a ∷ l) h = ap (λ x. a ∷ x) (take-padded z n l (omega arith))
+
+length-told : (keys : List ℕ) (ch now : ℕ) (l : List Slot) (es : List Record) → length (allTold keys ch now l es) ≡ length es
+unfolding allTold
+length-told keys ch now l [] = refl
+length-told keys ch now l (e ∷ es) = ap suc (length-told keys ch now (slotsAfter keys ch now l e) es)
+
+-- the places in use say what each entry is told
+pub told-back : (keys : List ℕ) (ch now : ℕ) (l : List Slot) (es : List Record) → length es ≤ 9
+    → take (length es) (padded noTold 9 (allTold keys ch now l es)) ≡ allTold keys ch now l es
+told-back keys ch now l es h =
+    rw (← length-told keys ch now l es) (take-padded noTold 9 (allTold keys ch now l es) (omega (arith, length-told keys ch now l es)))

@@ -1,0 +1,15 @@
+pub mod Classes
+pub mod Loops
+pub mod Keys
+pub mod Sweeping
+pub mod MessageEntries
+pub mod Clock
+pub mod Meets
+pub mod Dropping
+pub mod Standing
+pub mod Accepted
+pub mod Isolation
+pub mod Beginning
+pub mod Joining
+pub mod Promises
+pub mod Entering

@@ -1,0 +1,51 @@
+-- The promises of specs/Promises. Assumes nothing.
+use mathlib.Core.Path.{refl, ap}
+use mathlib.Core.Option.{Option}
+use lib.Dec.{eqb}
+use borrow.Author.Tests.{eqb-false}
+use Rattle.receiver.specs.Model.{noRecord, timerAt, sweptSlots, expiredOf, droppedOf}
+use Rattle.receiver.specs.Step.{tickOf, refusalOf, ruleOf, stepOf}
+use Rattle.receiver.specs.One.{Half, One, spared, entriesIn, passed, stepSaid}
+use Rattle.receiver.specs.Promises.{No-call-disturbs-another, Joins-exactly-when, A-refused-event-changes-nothing, The-wrapped-difference-is-the-sum, Every-lost-half-is-counted-once, Expiries-and-drops-are-counted-apart}
+use Rattle.receiver.proofs.Dropping.{by-test, expired-all, dropped-all, lost-all}
+use Rattle.receiver.proofs.Joining.{young-aged, young-spared, joins-only, joins-then}
+use Rattle.receiver.proofs.Isolation.{isolated, viewed}
+use Rattle.receiver.proofs.Beginning.{started, starts, started-good, started-view, started-timer}
+
+pub no-call-disturbs-another : No-call-disturbs-another
+no-call-disturbs-another s keys t z key h c es ts =
+    rw (starts s keys z, ← started-timer s keys t z key h c, ← started-view s keys t z key h c) (isolated key c (started s keys) (started-good s keys t z key h c) es ts)
+
+pub the-wrapped-difference-is-the-sum : The-wrapped-difference-is-the-sum
+the-wrapped-difference-is-the-sum s keys t z key h c es ts =
+    rw (starts s keys z, ← started-timer s keys t z key h c, ← started-view s keys t z key h c)
+    (ap (λ (o : One). o .held) (viewed key c (started s keys) (started-good s keys t z key h c) es ts))
+
+pub joins-exactly-when : Joins-exactly-when
+unfolding stepSaid
+joins-exactly-when key c timer long s v k l =
+    let h : Option Half = spared key c (passed timer s (v .step)) (v .sight) in
+    let y = young-spared timer key c (passed timer s (v .step)) (v .sight) (young-aged timer (v .step) (s .held)) in
+    (joins-only c timer long h y (entriesIn (v .sight)) k l _ noRecord, joins-then c timer long h y (entriesIn (v .sight)) k l _ noRecord)
+
+pub a-refused-event-changes-nothing : A-refused-event-changes-nothing
+unfolding stepOf
+a-refused-event-changes-nothing r e n =
+    by-test (eqb (refusalOf r e .number) 0) (λ p. absurd ((rw p at n) refl)) (λ p. rw p)
+
+pub every-lost-half-is-counted-once : Every-lost-half-is-counted-once
+unfolding stepOf sweptSlots expiredOf droppedOf
+every-lost-half-is-counted-once r e z =
+    by-test (eqb (refusalOf r e .number) 0)
+    (λ p. rw p (lost-all (tickOf e) (timerAt (r .t3206) (r .t3208)) (ruleOf r e) 0 (r .slots)))
+    (λ p. absurd (eqb-false (refusalOf r e .number) 0 p (rw p at z)))
+
+pub expiries-and-drops-are-counted-apart : Expiries-and-drops-are-counted-apart
+unfolding stepOf sweptSlots expiredOf droppedOf
+expiries-and-drops-are-counted-apart r e z =
+    by-test (eqb (refusalOf r e .number) 0)
+    (λ p. rw p (
+      expired-all (tickOf e) (timerAt (r .t3206) (r .t3208)) (ruleOf r e) 0 (r .slots),
+      dropped-all (tickOf e) (timerAt (r .t3206) (r .t3208)) (ruleOf r e) 0 (r .slots),
+    ))
+    (λ p. absurd (eqb-false (refusalOf r e .number) 0 p (rw p at z)))

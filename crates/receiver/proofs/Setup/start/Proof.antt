@@ -1,0 +1,46 @@
+-- `receiver::Setup::start` meets its contract. Assumes nothing.
+use mathlib.Core.Path.{sym, _∙_}
+use borrow.Author.Tests.{not-true, not-false}
+use Rattle.receiver.specs.Model.{startedOf}
+use borrow.Author.Needs.{needs}
+use Rattle.receiver.proofs.Setup.start.Statement.{statement}
+use Rattle.receiver.proofs.Setup.start.Tie as tie
+
+is-right-requires : tie.Need-is-right-requires
+is-right-requires c κs = search needs
+
+ground-requires : tie.Need-ground-requires
+ground-requires c κs = search needs
+
+made-requires : tie.Need-made-requires
+made-requires c κs = search needs
+
+returns : tie.Need-returns
+unfolding startedOf
+returns c = simp (sym (c .before .before .before .is-right .ensures) ∙ not-true _ (c .before .before .if1 .taken), c .before .ground .ensures, c .made .ensures)
+
+key-places-requires : tie.Need-key-places-requires
+key-places-requires c κs = search needs
+
+no-refusal-requires : tie.Need-no-refusal-requires
+no-refusal-requires c κs = search needs
+
+made-requires-2 : tie.Need-made-requires-2
+made-requires-2 c κs = search needs
+
+returns-2 : tie.Need-returns-2
+unfolding startedOf
+returns-2 c = simp (sym (c .before .before .before .before .is-right .ensures) ∙ not-false _ (c .before .before .before .if1 .left), c .before .no-refusal .ensures, c .made2 .ensures, c .before .before .key-places .ensures)
+
+pub start-spec : {M : Type 1} → statement M
+start-spec =
+    tie.close
+    (tie.spec
+    is-right-requires
+    ground-requires
+    made-requires
+    returns
+    key-places-requires
+    no-refusal-requires
+    made-requires-2
+    returns-2)

@@ -1,0 +1,13 @@
+-- `receiver::events::refused` meets its contract. Assumes nothing.
+use borrow.Author.Needs.{needs}
+use Rattle.receiver.proofs.events.refused.Statement.{statement}
+use Rattle.receiver.proofs.events.refused.Tie as tie
+
+no-told-requires : tie.Need-no-told-requires
+no-told-requires c κs = search needs
+
+returns : tie.Need-returns
+returns c = rw (c .no-told .ensures)
+
+pub refused-spec : {M : Type 1} → statement M
+refused-spec = tie.close (tie.spec no-told-requires returns)

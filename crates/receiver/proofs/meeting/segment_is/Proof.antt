@@ -1,0 +1,19 @@
+-- `receiver::meeting::segment_is` meets its contract. Assumes nothing.
+use borrow.Author.Tests.{eq-eqb, ne-eqb, not-true, not-false}
+use Rattle.receiver.proofs.meeting.segment_is.Statement.{statement}
+use Rattle.receiver.proofs.meeting.segment_is.Tie as tie
+
+returns : tie.Need-returns
+returns c = simp (ne-eqb _ _ (c .if1 .taken))
+
+returns-2 : tie.Need-returns-2
+returns-2 c = simp (eq-eqb _ _ (c .before .before .if1 .left), not-true (c .before .before .before .args .e .segmented) (c .if2 .taken))
+
+returns-3 : tie.Need-returns-3
+returns-3 c = simp (eq-eqb _ _ (c .before .before .before .if1 .left), not-false (c .before .before .before .before .args .e .segmented) (c .before .if2 .left), c .if3 .taken)
+
+returns-4 : tie.Need-returns-4
+returns-4 c = simp (eq-eqb _ _ (c .before .before .before .before .if1 .left), not-false (c .before .before .before .before .before .args .e .segmented) (c .before .before .if2 .left), c .before .if3 .left)
+
+pub segment-is-spec : {M : Type 1} → statement M
+segment-is-spec = tie.close (tie.spec returns returns-2 returns-3 returns-4)

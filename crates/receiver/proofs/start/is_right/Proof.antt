@@ -1,0 +1,44 @@
+-- `receiver::start::is_right` meets its contract. Assumes nothing.
+use mathlib.Core.Path.{sym, _∙_}
+use borrow.Author.Tests.{le-leb, lt-leb, not-true, not-false}
+use Rattle.receiver.specs.Model.{setupRight}
+use borrow.Author.Needs.{needs}
+use Rattle.receiver.proofs.start.is_right.Statement.{statement}
+use Rattle.receiver.proofs.start.is_right.Tie as tie
+
+returns : tie.Need-returns
+unfolding setupRight
+returns c = simp (lt-leb _ _ (c .if1 .taken))
+
+is-timer-requires : tie.Need-is-timer-requires
+is-timer-requires c κs = search needs
+
+returns-2 : tie.Need-returns-2
+unfolding setupRight
+returns-2 c = simp (le-leb _ _ (c .before .before .if1 .left), sym (c .before .is-timer .ensures) ∙ not-true _ (c .if2 .taken))
+
+is-timer-requires-2 : tie.Need-is-timer-requires-2
+is-timer-requires-2 c κs = search needs
+
+returns-3 : tie.Need-returns-3
+unfolding setupRight
+returns-3 c = simp (le-leb _ _ (c .before .before .before .before .if1 .left), sym (c .before .before .before .is-timer .ensures) ∙ not-false _ (c .before .before .if2 .left), sym (c .before .is-timer2 .ensures) ∙ not-true _ (c .if3 .taken))
+
+keys-right-requires : tie.Need-keys-right-requires
+keys-right-requires c κs = search needs
+
+returns-4 : tie.Need-returns-4
+unfolding setupRight
+returns-4 c = simp (le-leb _ _ (c .before .before .before .before .before .if1 .left), sym (c .before .before .before .before .is-timer .ensures) ∙ not-false _ (c .before .before .before .if2 .left), sym (c .before .before .is-timer2 .ensures) ∙ not-false _ (c .before .if3 .left), c .keys-right .ensures)
+
+pub is-right-spec : {M : Type 1} → statement M
+is-right-spec =
+    tie.close
+    (tie.spec
+    returns
+    is-timer-requires
+    returns-2
+    is-timer-requires-2
+    returns-3
+    keys-right-requires
+    returns-4)

@@ -1,0 +1,71 @@
+-- `receiver::start::key_places` meets its contract. Assumes nothing.
+use mathlib.Core.Path.{_≡_, refl, _∙_}
+use mathlib.Core.Logic.{⊎-elim}
+use Prim.Native.Nat.{_-_, _≤_}
+use lib.ListN.{replicate}
+use Rattle.receiver.specs.Model.{noKey}
+use Rattle.receiver.proofs.Loops.{partAt}
+use Rattle.receiver.proofs.Keys.{placed, place-set, place-keep, place-all}
+use native.Mathlib.Omega.{arith}
+use borrow.Author.Needs.{needs}
+use Rattle.receiver.proofs.start.key_places.Statement.{statement}
+use Rattle.receiver.proofs.start.key_places.Tie as tie
+
+abbrev Inv-loop : tie.InvT-loop
+Inv-loop keys places₀ i₀ places i = (i ≤ 50) × (places ≡ partAt (placed keys) 0 i (replicate 50 noKey))
+
+abbrev μ-loop : tie.MeasureT-loop
+μ-loop keys places₀ i₀ places i = 50 - i
+
+loop-holds : tie.Need-loop-holds Inv-loop μ-loop
+loop-holds c = (omega arith, refl)
+
+mul-places : tie.Need-mul-places Inv-loop μ-loop
+mul-places c = search needs
+
+shared-slice-read-places : tie.Need-shared-slice-read-places Inv-loop μ-loop
+shared-slice-read-places c = search needs
+
+mul-places-2 : tie.Need-mul-places-2 Inv-loop μ-loop
+mul-places-2 c = search needs
+
+array-write-places : tie.Need-array-write-places Inv-loop μ-loop
+array-write-places c = search needs
+
+add-i : tie.Need-add-i Inv-loop μ-loop
+add-i c = search needs
+
+loop-less : tie.Need-loop-less Inv-loop μ-loop
+loop-less c = omega arith
+
+loop-again : tie.Need-loop-again Inv-loop μ-loop
+loop-again c =
+    let l = c .before .before .loop in
+    let ks = c .before .before .before .args .keys .now in (
+      omega arith,
+      ⊎-elim
+          (λ w. w .2 ∙ place-set ks (l .places) 50 (l .i) (l .inv .1) 0 (w .0 .taken))
+          (λ w. w .1 ∙ place-keep ks (l .places) 50 (l .i) (l .inv .1) (omega arith) (w .0 .left))
+          (c .if1 .came),
+    )
+
+returns : tie.Need-returns Inv-loop μ-loop
+returns c =
+    let l = c .before .loop in
+    place-all (c .before .before .args .keys .now) (l .places) 50 (l .i) (l .inv .1) (omega arith)
+
+pub key-places-spec : {M : Type 1} → statement M
+key-places-spec =
+    tie.close
+    (tie.spec
+    Inv-loop
+    μ-loop
+    loop-holds
+    mul-places
+    shared-slice-read-places
+    mul-places-2
+    array-write-places
+    add-i
+    loop-less
+    loop-again
+    returns)

@@ -1,0 +1,13 @@
+-- `receiver::store::timer_at` meets its contract. Assumes nothing.
+use borrow.Author.Tests.{eq-eqb, ne-eqb}
+use Rattle.receiver.proofs.store.timer_at.Statement.{statement}
+use Rattle.receiver.proofs.store.timer_at.Tie as tie
+
+returns : tie.Need-returns
+returns c = simp (eq-eqb _ _ (c .if1 .taken))
+
+returns-2 : tie.Need-returns-2
+returns-2 c = simp (ne-eqb _ _ (c .if1 .left))
+
+pub timer-at-spec : {M : Type 1} → statement M
+timer-at-spec = tie.close (tie.spec returns returns-2)

@@ -1,0 +1,133 @@
+-- The entries of a message, calls then reduced references, each with all that belongs to it. Assumes nothing.
+use mathlib.Core.List.{List, [], _∷_, _++_}
+use mathlib.Core.Bool.{Bool, true, false}
+use mathlib.Core.Option.{Option, none, some}
+use Prim.Native.Nat.{ℕ}
+use lib.ListN.{take}
+use Rattle.bits.specs.Field.{pick}
+use Rattle.csn1.specs.Told.{isThere}
+use Rattle.call.specs.declared.Call.{Call}
+use Rattle.call.specs.Call.{ciphered, noDescription}
+use Rattle.nch.specs.declared.Reduced.{Reduced}
+use Rattle.nch.specs.declared.Random.{Random}
+use Rattle.nch.specs.declared.Notification.{Notification}
+use Rattle.nch.specs.Write.{callsOf, isDescribed}
+use Rattle.nch.specs.Owners.{nth, orNot, randomsOf, marksOf, randomOfCall, randomOfReduced, emergencyOfCall}
+use Rattle.facch.specs.declared.Notification.{Notification as Message}
+use Rattle.receiver.specs.declared.Common.{Common}
+use Rattle.receiver.specs.declared.Record.{Record}
+use Rattle.receiver.specs.declared.messages.Owned.{Owned}
+use Rattle.receiver.specs.Model.{mapAt}
+
+-- ## NCH
+
+abbrev pub nchCommon : Notification → Common
+nchCommon m =
+    record {
+      counted = m .release6 .counted;
+      cellcount = m .release6 .cellcount;
+      b22 = false;
+      uplinked = m .release7 .uplinked;
+      uplink = m .release7 .uplink;
+      amr = m .release7 .amr;
+      fullrated = m .release7 .fullrated;
+      fullrate = m .release7 .fullrate;
+      halfrated = m .release7 .halfrated;
+      halfrate = m .release7 .halfrate;
+      sms = m .release7 .sms;
+      confidential = m .release7 .confidential;
+      private = m .release7 .private;
+    }
+
+-- an entry without a random entry has no Segment Id and no VSTK_RAND
+abbrev pub segmentOf : Option Random → Bool
+segmentOf none = false
+segmentOf (some r) = r .segment
+
+abbrev pub givenOf : Option Random → Bool
+givenOf none = false
+givenOf (some r) = r .given
+
+abbrev pub randOf : Option Random → ℕ
+randOf none = 0
+randOf (some r) = r .rand
+
+-- all that an entry is told of its random entry
+abbrev pub ownedOf : Option Random → Owned
+ownedOf r = record { there = isThere r; segment = segmentOf r; given = givenOf r; rand = randOf r }
+
+abbrev pub entryOf : Bool → Call → Option Random → Bool → Common → Record
+entryOf full c r emergency common =
+    record {
+      full = full;
+      call = c;
+      segmented = isThere r;
+      segment = segmentOf r;
+      given = givenOf r;
+      rand = randOf r;
+      emergency = emergency;
+      common = common;
+    }
+
+-- what a reduced reference says of its call
+abbrev pub reducedCall : Reduced → Call
+reducedCall r =
+    record {
+      reference = r .reference;
+      vgcs = r .vgcs;
+      acknowledged = false;
+      priority = 0;
+      cipher = 0;
+      described = false;
+      description = noDescription;
+    }
+
+-- a call, and a reduced reference, with the random entry at place j and the mark at place k, where it owns them
+unfoldable pub callWith : Notification → ℕ → ℕ → Call → Record
+callWith m j k c =
+    entryOf true c (pick (ciphered c) (nth j (randomsOf m)) none) (pick (isDescribed c) (orNot (nth k (marksOf m))) false) (nchCommon m)
+
+unfoldable pub reducedWith : Notification → ℕ → Reduced → Record
+reducedWith m j r = entryOf false (reducedCall r) (nth j (randomsOf m)) false (nchCommon m)
+
+unfoldable pub callEntry : Notification → ℕ → Call → Record
+callEntry m i c = entryOf true c (randomOfCall m i) (emergencyOfCall m i) (nchCommon m)
+
+unfoldable pub reducedEntry : Notification → ℕ → Reduced → Record
+reducedEntry m j r = entryOf false (reducedCall r) (randomOfReduced m j) false (nchCommon m)
+
+unfoldable pub nchEntries : Notification → List Record
+nchEntries m = mapAt (callEntry m) 0 (callsOf m) ++ mapAt (reducedEntry m) 0 (take (m .release6 .reducedcount) (m .release6 .reduced))
+
+-- ## FACCH: one call, no Segment Id; its uplink is there exactly if Release 7 is
+
+abbrev pub facchCommon : Message → Common
+facchCommon m =
+    record {
+      counted = m .release6 .counted;
+      cellcount = m .release6 .cellcount;
+      b22 = m .release6 .b22;
+      uplinked = m .release7 .there;
+      uplink = m .release7 .uplink;
+      amr = false;
+      fullrated = false;
+      fullrate = 0;
+      halfrated = false;
+      halfrate = 0;
+      sms = false;
+      confidential = false;
+      private = false;
+    }
+
+unfoldable pub facchEntry : Message → Record
+facchEntry m =
+    record {
+      full = true;
+      call = m .call;
+      segmented = false;
+      segment = false;
+      given = m .release6 .given;
+      rand = m .release6 .rand;
+      emergency = m .release7 .emergency;
+      common = facchCommon m;
+    }

@@ -1,0 +1,6 @@
+pub mod Model
+pub mod Store
+pub mod Entries
+pub mod Step
+pub mod One
+pub mod Promises

@@ -1,0 +1,248 @@
+-- The receiver's parts: clock, places, what drops a half, and what a half meets (document 01, "Setup, clock and store", "What each notified call is told"). Assumes nothing.
+use mathlib.Core.List.{List, [], _∷_}
+use mathlib.Core.Bool.{Bool, true, false, not}
+use Prim.Native.Nat.{ℕ, zero, suc, _+_, _-_, _*_, _/_, _%_, _^_}
+use lib.ListN.{length, getD, set, replicate}
+use lib.Dec.{leb, ltb, eqb}
+use Rattle.bits.specs.Field.{both, pick}
+use Rattle.csn1.specs.Format.{noRefusal, ground}
+use Rattle.csn1.specs.Told.{asBit}
+use Rattle.call.specs.declared.Call.{Call}
+use Rattle.call.specs.Call.{noCall, ciphered}
+use Rattle.receiver.specs.declared.Common.{Common}
+use Rattle.receiver.specs.declared.Record.{Record}
+use Rattle.receiver.specs.declared.Slot.{Slot}
+use Rattle.receiver.specs.declared.Receiver.{Receiver}
+use Rattle.receiver.specs.declared.Told.{Told}
+use Rattle.receiver.specs.declared.Rule.{Rule}
+use Rattle.receiver.specs.declared.Rule.the-variants.{Keep, Others, Side}
+use Rattle.receiver.specs.declared.Met.{Met}
+use Rattle.receiver.specs.declared.Setup.{Setup}
+use Rattle.receiver.specs.declared.Started.{Started}
+
+-- ## Nothing yet
+
+abbrev pub noCommon : Common
+noCommon =
+    record {
+      counted = false;
+      cellcount = 0;
+      b22 = false;
+      uplinked = false;
+      uplink = false;
+      amr = false;
+      fullrated = false;
+      fullrate = 0;
+      halfrated = false;
+      halfrate = 0;
+      sms = false;
+      confidential = false;
+      private = false;
+    }
+
+abbrev pub noRecord : Record
+noRecord = record { full = false; call = noCall; segmented = false; segment = false; given = false; rand = 0; emergency = false; common = noCommon }
+
+abbrev pub emptySlot : Slot
+emptySlot = record { half = 0; since = 0; «record» = noRecord }
+
+-- a key place that no subscription uses
+abbrev pub noKey : ℕ
+noKey = 4294967295
+
+-- ## The clock: a 32-bit millisecond counter that wraps
+
+abbrev pub wrapSub : ℕ → ℕ → ℕ
+wrapSub a b = (a + 2 ^ 32 - b) % 2 ^ 32
+
+-- a step of 2^31 or more is refused
+unfoldable pub late : ℕ → ℕ → Bool
+late now last = leb 2147483648 (wrapSub now last)
+
+-- ## Keys and places
+
+-- reference times 2 plus service flag
+abbrev pub keyOf : Call → ℕ
+keyOf c = c .reference * 2 + asBit (c .vgcs)
+
+-- the first place of a key among the keys, and their number where it is not there
+unfoldable pub indexOf : List ℕ → ℕ → ℕ
+indexOf [] key = 0
+indexOf (k ∷ ks) key = pick (eqb k key) 0 (suc (indexOf ks key))
+
+-- ## What drops a half
+
+-- what an event drops: nothing, the halves under other keys than the one at an index, or those of one channel
+abbrev pub spares : Rule → ℕ → Bool
+spares Keep i = true
+spares (Others k) i = eqb (i / 2) k
+spares (Side ch) i = not (eqb (i % 2) ch)
+
+-- T3206 runs for the NCH, T3208 for the FACCH
+abbrev pub timerAt : ℕ → ℕ → ℕ → ℕ
+timerAt t3206 t3208 i = pick (eqb (i % 2) 0) t3206 t3208
+
+abbrev pub isHeld : Slot → Bool
+isHeld s = not (eqb (s .half) 0)
+
+-- a half has run out where its age is at least its timer
+unfoldable pub ranOutOf : ℕ → ℕ → Slot → Bool
+ranOutOf now timer s = both (isHeld s) (leb timer (wrapSub now (s .since)))
+
+-- of those left, the event's own rule takes some
+unfoldable pub takenOf : ℕ → ℕ → Rule → ℕ → Slot → Bool
+takenOf now timer rule i s = both (isHeld s) (both (not (ranOutOf now timer s)) (not (spares rule i)))
+
+unfoldable pub keptOf : ℕ → ℕ → Rule → ℕ → Slot → Slot
+keptOf now timer rule i s = pick (ranOutOf now timer s) emptySlot (pick (takenOf now timer rule i s) emptySlot s)
+
+-- a list with each element changed by its place
+abbrev pub mapAt : {A B : Type 0} → (ℕ → A → B) → ℕ → List A → List B
+mapAt f k [] = []
+mapAt f k (x ∷ xs) = f k x ∷ mapAt f (suc k) xs
+
+-- how many pass a test that knows their place
+abbrev pub countAt : {A : Type 0} → (ℕ → A → Bool) → ℕ → List A → ℕ
+countAt t k [] = 0
+countAt t k (x ∷ xs) = asBit (t k x) + countAt t (suc k) xs
+
+unfoldable pub sweptSlots : Receiver → ℕ → Rule → List Slot
+sweptSlots r now rule = mapAt (λ i s. keptOf now (timerAt (r .t3206) (r .t3208) i) rule i s) 0 (r .slots)
+
+unfoldable pub expiredOf : Receiver → ℕ → List Slot → ℕ
+expiredOf r now l = countAt (λ i s. ranOutOf now (timerAt (r .t3206) (r .t3208) i) s) 0 l
+
+unfoldable pub droppedOf : Receiver → ℕ → Rule → ℕ
+droppedOf r now rule = countAt (λ i s. takenOf now (timerAt (r .t3206) (r .t3208) i) rule i s) 0 (r .slots)
+
+-- ## What an entry is, on channel ch
+
+abbrev pub isCiphered : Record → Bool
+isCiphered e = pick (e .full) (ciphered (e .call)) true
+
+-- Segment Id as it must be on the NCH; the FACCH has none
+abbrev pub segmentIs : ℕ → Bool → Record → Bool
+segmentIs ch b e = pick (eqb ch 0) (both (e .segmented) (pick b (e .segment) (not (e .segment)))) true
+
+abbrev pub isClear : Record → Bool
+isClear e = both (not (isCiphered e)) (e .call .described)
+
+abbrev pub isWhole : ℕ → Record → Bool
+isWhole ch e = both (isCiphered e) (both (e .call .described) (both (e .given) (segmentIs ch false e)))
+
+abbrev pub isFirst : ℕ → Record → Bool
+isFirst ch e = both (isCiphered e) (both (e .call .described) (both (not (e .given)) (segmentIs ch false e)))
+
+abbrev pub isSecond : ℕ → Record → Bool
+isSecond ch e = both (isCiphered e) (both (not (e .call .described)) (both (e .given) (segmentIs ch true e)))
+
+-- a call without a channel, and no second half
+abbrev pub isBare : Record → Bool
+isBare e = both (e .full) (not (e .call .described))
+
+-- 1 complete and clear, 2 complete in one piece, 3 a first half, 4 a second half, 6 no channel, 7 any other
+unfoldable pub classOf : ℕ → Record → ℕ
+classOf ch e =
+    pick (isClear e) 1 (pick (isWhole ch e) 2 (pick (isFirst ch e) 3 (pick (isSecond ch e) 4 (pick (isBare e) 6 7))))
+
+-- ## What a half meets
+
+-- all 36 bits are the same
+abbrev pub sameReference : Call → Call → Bool
+sameReference a b =
+    both (eqb (a .reference) (b .reference))
+    (both (eqb (asBit (a .vgcs)) (asBit (b .vgcs)))
+    (both (eqb (asBit (a .acknowledged)) (asBit (b .acknowledged))) (both (eqb (a .priority) (b .priority)) (eqb (a .cipher) (b .cipher)))))
+
+-- two full references must agree
+unfoldable pub agree : Record → Record → Bool
+agree a b = pick (both (a .full) (b .full)) (sameReference (a .call) (b .call)) true
+
+-- the count comes from the second half if there, else from the first
+abbrev pub withCount : Common → Common → Common
+withCount first second =
+    record {
+      counted = pick (second .counted) true (first .counted);
+      cellcount = pick (second .counted) (second .cellcount) (first .cellcount);
+      b22 = pick (second .counted) (second .b22) (first .b22);
+      uplinked = first .uplinked;
+      uplink = first .uplink;
+      amr = first .amr;
+      fullrated = first .fullrated;
+      fullrate = first .fullrate;
+      halfrated = first .halfrated;
+      halfrate = first .halfrate;
+      sms = first .sms;
+      confidential = first .confidential;
+      private = first .private;
+    }
+
+-- everything from the first half, VSTK_RAND from the second
+unfoldable pub joinedOf : Record → Record → Record
+joinedOf first second =
+    record {
+      full = first .full;
+      call = first .call;
+      segmented = first .segmented;
+      segment = first .segment;
+      given = true;
+      rand = second .rand;
+      emergency = first .emergency;
+      common = withCount (first .common) (second .common);
+    }
+
+-- an answer, and what the place holds then
+abbrev pub only : ℕ → Slot → Met
+only n s = record { number = n; told = noRecord; held = s }
+
+abbrev pub complete : ℕ → Record → Slot → Met
+complete n e s = record { number = n; told = e; held = s }
+
+abbrev pub storing : ℕ → ℕ → Record → Slot
+storing half now e = record { half = half; since = now; «record» = e }
+
+-- a half that comes: nothing held, the same half held, or the opposite one
+abbrev pub meetHalf : ℕ → Slot → Record → Record → Met → Met
+meetHalf half s e joined unheld =
+    pick (eqb (s .half) 0) unheld
+    (pick (eqb (s .half) half) (only 5 s) (pick (agree (s .«record») e) (complete 3 joined emptySlot) (only 7 s)))
+
+-- a second half that meets nothing is stored on the NCH, and told 8 on the FACCH
+unfoldable pub meetOf : ℕ → ℕ → Slot → Record → Met
+meetOf ch now s e =
+    pick (eqb (classOf ch e) 1) (complete 1 e s)
+    (pick (eqb (classOf ch e) 2) (complete 2 e s)
+    (pick (eqb (classOf ch e) 3) (meetHalf 1 s e (joinedOf e (s .«record»)) (only 4 (storing 1 now e)))
+    (pick (eqb (classOf ch e) 4) (meetHalf 2 s e (joinedOf (s .«record») e) (pick (eqb ch 0) (only 4 (storing 2 now e)) (only 8 s))) (only (classOf ch e) s))))
+
+-- ## Setup
+
+abbrev pub newReceiver : ℕ → ℕ → ℕ → List ℕ → Receiver
+newReceiver tick t3206 t3208 keys = record { slots = replicate 100 emptySlot; keys = keys; tick = tick; t3206 = t3206; t3208 = t3208; nln = 4 }
+
+-- the fifty key places: the keys as they were lent, then unused ones
+abbrev pub keyPlaces : ℕ → List ℕ → List ℕ
+keyPlaces zero l = []
+keyPlaces (suc n) [] = noKey ∷ keyPlaces n []
+keyPlaces (suc n) (k ∷ ks) = k ∷ keyPlaces n ks
+
+abbrev pub isTimer : ℕ → Bool
+isTimer t = both (leb 1 t) (leb t 60000)
+
+-- each is at most 199,999,999 and none comes again
+unfoldable pub keysRight : List ℕ → Bool
+keysRight [] = true
+keysRight (k ∷ ks) = both (leb k 199999999) (both (eqb (indexOf ks k) (length ks)) (keysRight ks))
+
+unfoldable pub setupRight : Setup → List ℕ → Bool
+setupRight s keys = both (leb (length keys) 50) (both (isTimer (s .t3206)) (both (isTimer (s .t3208)) (keysRight keys)))
+
+-- a refused setup is its number alone
+unfoldable pub startedOf : Setup → List ℕ → Started
+startedOf s keys =
+    pick (setupRight s keys) (record { refusal = noRefusal; receiver = newReceiver (s .tick) (s .t3206) (s .t3208) (keyPlaces 50 keys) })
+    (record { refusal = ground 10; receiver = newReceiver 0 0 0 (replicate 50 noKey) })
+
+-- the ready defaults
+abbrev pub readySetup : ℕ → Setup
+readySetup tick = record { tick = tick; t3206 = 5000; t3208 = 5000 }

@@ -1,0 +1,185 @@
+-- What is promised of the receiver (demand 3, and the identity of refused events). Assumes nothing.
+use mathlib.Core.Path.{_≡_}
+use mathlib.Core.List.{List, [], _∷_, _++_}
+use mathlib.Core.Bool.{Bool, true, false, not}
+use mathlib.Core.Option.{Option, none, some}
+use Prim.Native.Nat.{ℕ, zero, suc, _+_, _*_, _<_, _≤_}
+use lib.ListN.{length, take, getD}
+use lib.Dec.{eqb}
+use Rattle.bits.specs.Field.{both, pick}
+use Rattle.csn1.specs.Told.{asBit}
+use Rattle.receiver.specs.declared.Record.{Record}
+use Rattle.receiver.specs.declared.Receiver.{Receiver}
+use Rattle.receiver.specs.declared.Slot.{Slot}
+use Rattle.receiver.specs.declared.Told.{Told}
+use Rattle.receiver.specs.declared.Answer.{Answer}
+use Rattle.receiver.specs.declared.Setup.{Setup}
+use Rattle.receiver.specs.declared.Rule.the-variants.{Keep}
+use Rattle.receiver.specs.Model.{noRecord, emptySlot, wrapSub, indexOf, isHeld, sweptSlots, agree, joinedOf, startedOf}
+use Rattle.receiver.specs.Step.{Event, nch, facch, joined, reselected, handedOver, reconfigured, tick, tickOf, ruleOf, stepOf}
+use Rattle.receiver.specs.One.{Channel, onNch, onFacch, Kind, clear, piece, first, second, bare, unusable, kindOf, Which, theFirst, theSecond, Half, One, Said, Seen, seen, heldAfter, spared, entriesIn, passed, stepOne, stepSaid, runOne, fresh}
+
+-- ## 1. Isolation
+
+-- the answers under a key among the told entries
+unfoldable pub under : ℕ → List Told → List Said
+under key [] = []
+under key (t ∷ ts) = pick (eqb (t .key) key) (record { number = t .number; told = t .«record» } ∷ under key ts) (under key ts)
+
+-- an event's answers are on the channel of its message
+unfoldable pub answersOn : ℕ → Channel → Event → Answer → List Said
+answersOn key onNch (nch t s) a = under key (take (a .count) (a .entries))
+answersOn key onFacch (facch t s) a = under key (take (a .count) (a .entries))
+answersOn key onFacch (nch t s) a = []
+answersOn key onNch (facch t s) a = []
+answersOn key c (joined t k) a = []
+answersOn key c (reselected t) a = []
+answersOn key c (handedOver t) a = []
+answersOn key c (reconfigured t) a = []
+answersOn key c (tick t) a = []
+
+unfoldable pub answers : ℕ → Channel → Receiver → List Event → List Said
+answers key c r [] = []
+answers key c r (e ∷ es) = answersOn key c e (stepOf r e) ++ answers key c (stepOf r e .receiver) es
+
+-- T3206 runs on the NCH, T3208 on the FACCH
+abbrev pub timerOf : Channel → Setup → ℕ
+timerOf onNch s = s .t3206
+timerOf onFacch s = s .t3208
+
+-- every tick is a number of 32 bits
+abbrev pub Ticks : List Event → Type 0
+Ticks [] = Unit {0}
+Ticks (e ∷ es) = (tickOf e < 4294967296) × Ticks es
+
+-- For every accepted setup, every list of events, every subscribed key and both channels: the answers under that key on that channel are
+-- exactly those of the one-call receiver run on what that call sees.
+abbrev pub No-call-disturbs-another : Type 0
+No-call-disturbs-another =
+    (s : Setup) (keys : List ℕ)
+    → s .tick < 4294967296
+    → startedOf s keys .refusal .number ≡ 0
+    → (key : ℕ)
+    → indexOf keys key < length keys
+    → (c : Channel) (es : List Event)
+    → Ticks es
+    → answers key c (startedOf s keys .receiver) es ≡ runOne key c (timerOf c s) fresh (seen key c (s .tick) es)
+
+-- ## 2. When the one-call receiver joins
+
+-- a first half is opposite to a second
+abbrev pub Opposite : Kind → Which → Type 0
+Opposite clear w = ⊥
+Opposite piece w = ⊥
+Opposite first theFirst = ⊥
+Opposite first theSecond = Unit {0}
+Opposite second theFirst = Unit {0}
+Opposite second theSecond = ⊥
+Opposite bare w = ⊥
+Opposite unusable w = ⊥
+
+-- where h is held, the entry is a half, the opposite one is held and has not run out, and their references agree
+pub record Opposite-held (c : Channel) (timer : ℕ) (h : Option Half) (e : Record) : Type 0 where
+  pub half : Half
+  pub held : h ≡ some half
+  pub young : half .age < timer
+  pub opposite : Opposite (kindOf c e) (half .which)
+  pub agrees : agree (half .entry) e ≡ true
+
+-- everything from the first half, VSTK_RAND from the second, whichever of the two is held
+abbrev pub joinedWith : Half → Record → Record
+joinedWith h e = byHalf (h .which)
+  where
+    byHalf : Which → Record
+    byHalf theFirst = joinedOf (h .entry) e
+    byHalf theSecond = joinedOf e (h .entry)
+
+-- what is held when the k-th entry of a sight comes
+abbrev pub heldBefore : ℕ → Channel → ℕ → One → Seen → ℕ → Option Half
+heldBefore key c timer s v k = heldAfter c (spared key c (passed timer s (v .step)) (v .sight)) (take k (entriesIn (v .sight)))
+
+abbrev pub entryAt : Seen → ℕ → Record
+entryAt v k = getD (entriesIn (v .sight)) k noRecord
+
+-- what the k-th entry is told
+abbrev pub saidAt : ℕ → Channel → ℕ → One → Seen → ℕ → Said
+saidAt key c timer s v k = getD (stepSaid key c timer s v) k (record { number = 0; told = noRecord })
+
+-- An entry is told 3 exactly where it meets the opposite half; then it is told the joined record, and the place is free.
+abbrev pub Joins-exactly-when : Type 0
+Joins-exactly-when =
+    (key : ℕ) (c : Channel) (timer : ℕ)
+    → 1 ≤ timer
+    → (s : One) (v : Seen) (k : ℕ)
+    → k < length (entriesIn (v .sight))
+    → (saidAt key c timer s v k .number ≡ 3 → Opposite-held c timer (heldBefore key c timer s v k) (entryAt v k))
+    × ((o : Opposite-held c timer (heldBefore key c timer s v k) (entryAt v k))
+    → (saidAt key c timer s v k ≡ record { number = 3; told = joinedWith (o .half) (entryAt v k) }) × (heldBefore key c timer s v (suc k) ≡ none))
+
+-- ## 3. A refused event
+
+abbrev pub A-refused-event-changes-nothing : Type 0
+A-refused-event-changes-nothing = (r : Receiver) (e : Event) → (stepOf r e .refusal .number ≡ 0 → ⊥) → stepOf r e .receiver ≡ r
+
+-- ## 4. Time that has passed
+
+-- both receivers after events
+unfoldable pub after : Receiver → List Event → Receiver
+after r [] = r
+after r (e ∷ es) = after (stepOf r e .receiver) es
+
+unfoldable pub oneAfter : ℕ → Channel → ℕ → One → List Seen → One
+oneAfter key c timer s [] = s
+oneAfter key c timer s (v ∷ vs) = oneAfter key c timer (stepOne key c timer s v) vs
+
+abbrev pub numberOf : Channel → ℕ
+numberOf onNch = 0
+numberOf onFacch = 1
+
+abbrev pub halfOf : ℕ → ℕ → Record → Option Half
+halfOf zero age e = none
+halfOf (suc zero) age e = some (record { which = theFirst; age = age; entry = e })
+halfOf (suc (suc n)) age e = some (record { which = theSecond; age = age; entry = e })
+
+-- what a place holds, with the wrapped difference of the ticks for its age
+abbrev pub heldOf : ℕ → Slot → Option Half
+heldOf now s = halfOf (s .half) (wrapSub now (s .since)) (s .«record»)
+
+abbrev pub slotIn : ℕ → Channel → Receiver → Slot
+slotIn key c r = getD (r .slots) (2 * indexOf (r .keys) key + numberOf c) emptySlot
+
+-- After any events the place of a call holds what its own receiver holds, and the wrapped difference of the ticks is the sum of the accepted steps.
+abbrev pub The-wrapped-difference-is-the-sum : Type 0
+The-wrapped-difference-is-the-sum =
+    (s : Setup) (keys : List ℕ)
+    → s .tick < 4294967296
+    → startedOf s keys .refusal .number ≡ 0
+    → (key : ℕ)
+    → indexOf keys key < length keys
+    → (c : Channel) (es : List Event)
+    → Ticks es
+    → heldOf (after (startedOf s keys .receiver) es .tick) (slotIn key c (after (startedOf s keys .receiver) es))
+    ≡ oneAfter key c (timerOf c s) fresh (seen key c (s .tick) es) .held
+
+-- ## 5. Counts of what was lost
+
+-- how many places were held before and are not after
+unfoldable pub lostBetween : List Slot → List Slot → ℕ
+lostBetween [] l = 0
+lostBetween (s ∷ ss) [] = 0
+lostBetween (s ∷ ss) (t ∷ ts) = asBit (both (isHeld s) (not (isHeld t))) + lostBetween ss ts
+
+-- expiries and drops together are the halves held before the event and not after its own step, its entries not yet in
+abbrev pub Every-lost-half-is-counted-once : Type 0
+Every-lost-half-is-counted-once =
+    (r : Receiver) (e : Event)
+    → stepOf r e .refusal .number ≡ 0
+    → stepOf r e .expired + stepOf r e .dropped ≡ lostBetween (r .slots) (sweptSlots r (tickOf e) (ruleOf r e))
+
+-- an expiry is a half held before the event and not after its clock alone; a drop is one held after that and not after the event's own rule
+abbrev pub Expiries-and-drops-are-counted-apart : Type 0
+Expiries-and-drops-are-counted-apart =
+    (r : Receiver) (e : Event)
+    → stepOf r e .refusal .number ≡ 0
+    → (stepOf r e .expired ≡ lostBetween (r .slots) (sweptSlots r (tickOf e) Keep))
+    × (stepOf r e .dropped ≡ lostBetween (sweptSlots r (tickOf e) Keep) (sweptSlots r (tickOf e) (ruleOf r e)))

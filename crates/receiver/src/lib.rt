@@ -1,0 +1,106 @@
+// The receiver: halves of segmented notifications kept over time, and what each notified call is told.
+use call::Call;
+use csn1::Refusal;
+
+pub mod events;
+pub mod meeting;
+pub mod messages;
+pub mod start;
+pub mod store;
+
+// The parts that a message has once for all of its calls.
+pub struct Common {
+    pub counted: bool,
+    // CELL_GLOBAL_COUNT, and B22_COUNT where the channel has it.
+    pub cellcount: u8,
+    pub b22: bool,
+    pub uplinked: bool,
+    // Priority Uplink Access.
+    pub uplink: bool,
+    pub amr: bool,
+    pub fullrated: bool,
+    pub fullrate: u8,
+    pub halfrated: bool,
+    pub halfrate: u8,
+    pub sms: bool,
+    pub confidential: bool,
+    pub private: bool,
+}
+
+// An entry of a message with all that belongs to it: what a control room is told of a complete call.
+pub struct Record {
+    // A full reference of 36 bits; else a reduced one, whose other fields are zero.
+    pub full: bool,
+    pub call: Call,
+    pub segmented: bool,
+    // Segment Id.
+    pub segment: bool,
+    pub given: bool,
+    // VSTK_RAND.
+    pub rand: u64,
+    pub emergency: bool,
+    pub common: Common,
+}
+
+// A place for a half: which half it holds (0 none, 1 the first, 2 the second), since which tick, and its record.
+pub struct Slot {
+    pub half: u8,
+    pub since: u32,
+    pub record: Record,
+}
+
+// The place of subscription i on channel ch (0 NCH, 1 FACCH) is 2 * i + ch. An unused key place holds 2^32 - 1, which is no key.
+pub struct Receiver {
+    pub slots: [Slot; 100],
+    pub keys: [u32; 50],
+    pub tick: u32,
+    pub t3206: u32,
+    pub t3208: u32,
+    // The last NLN seen, and 4 while none is known.
+    pub nln: u8,
+}
+
+// What an entry is told: document 01's number, and for 1 to 3 the record.
+pub struct Told {
+    // Reference times 2 plus service flag.
+    pub key: u64,
+    pub number: u8,
+    pub record: Record,
+}
+
+// What an event is answered. A refusal is its number alone, and the receiver as it stood.
+pub struct Answer {
+    pub refusal: Refusal,
+    pub expired: usize,
+    pub dropped: usize,
+    pub count: usize,
+    pub entries: [Told; 9],
+    pub receiver: Receiver,
+}
+
+// What a setup is answered.
+pub struct Started {
+    pub refusal: Refusal,
+    pub receiver: Receiver,
+}
+
+// What an event drops beside what ran out: nothing, the halves under other keys than the one at an index, or those of one channel.
+pub enum Rule {
+    Keep,
+    Others(usize),
+    Side(usize),
+}
+
+// What an entry met: the number told, the record for 1 to 3, and what its place holds then.
+pub struct Met {
+    pub number: u8,
+    pub told: Record,
+    pub held: Slot,
+}
+
+// The numbers of a setup, beside its keys.
+pub struct Setup {
+    pub tick: u32,
+    pub t3206: u32,
+    pub t3208: u32,
+}

@@ -1,0 +1,261 @@
+// What an entry is, and what it meets at its place.
+ghost use mathlib.Core.Path.{_≡_};
+ghost use Rattle.csn1.specs.Told.{asBit};
+ghost use Rattle.receiver.specs.Model.{noCommon, noRecord, emptySlot, keyOf, isCiphered, segmentIs, isSecond, classOf, sameReference, agree, withCount, joinedOf, meetHalf, meetOf, only, complete, storing};
+use crate::Common;
+use crate::Met;
+use crate::Record;
+use crate::Slot;
+use call::Call;
+
+pub fn no_common() -> Common
+    ensures { λ r. ⌜ r ≡ noCommon ⌝ }
+{
+    Common {
+        counted: false,
+        cellcount: 0,
+        b22: false,
+        uplinked: false,
+        uplink: false,
+        amr: false,
+        fullrated: false,
+        fullrate: 0,
+        halfrated: false,
+        halfrate: 0,
+        sms: false,
+        confidential: false,
+        private: false,
+    }
+}
+
+pub fn no_record() -> Record
+    ensures { λ r. ⌜ r ≡ noRecord ⌝ }
+{
+    Record {
+        full: false,
+        call: call::no_call(),
+        segmented: false,
+        segment: false,
+        given: false,
+        rand: 0,
+        emergency: false,
+        common: no_common(),
+    }
+}
+
+// A place that holds nothing.
+pub fn empty_slot() -> Slot
+    ensures { λ r. ⌜ r ≡ emptySlot ⌝ }
+{
+    Slot {
+        half: 0,
+        since: 0,
+        record: no_record(),
+    }
+}
+
+// Reduced references all count as ciphered.
+fn is_ciphered(e: Record) -> bool
+    ensures { λ r. ⌜ r ≡ isCiphered e ⌝ }
+{
+    if !e.full {
+        return true;
+    }
+    1 <= e.call.cipher
+}
+
+// Segment Id as it must be on the NCH; the FACCH has none.
+fn segment_is(ch: usize, b: bool, e: Record) -> bool
+    ensures { λ r. ⌜ r ≡ segmentIs ch b e ⌝ }
+{
+    if ch != 0 {
+        return true;
+    }
+    if !e.segmented {
+        return false;
+    }
+    if b {
+        return e.segment;
+    }
+    !e.segment
+}
+
+// A second half: ciphered, not described, with VSTK_RAND, and Segment Id 1 on the NCH.
+fn is_second(ch: usize, e: Record) -> bool
+    ensures { λ r. ⌜ r ≡ isSecond ch e ⌝ }
+{
+    if !is_ciphered(e) {
+        return false;
+    }
+    if e.call.described {
+        return false;
+    }
+    if !e.given {
+        return false;
+    }
+    segment_is(ch, true, e)
+}
+
+// 1 complete and clear, 2 complete in one piece, 3 a first half, 4 a second half, 6 no channel, 7 any other.
+pub fn class(ch: usize, e: Record) -> u8
+    ensures { λ r. ⌜ r ≡ classOf ch e ⌝ }
+{
+    if e.call.described {
+        if !is_ciphered(e) {
+            return 1;
+        }
+        if segment_is(ch, false, e) {
+            if e.given {
+                return 2;
+            }
+            return 3;
+        }
+        return 7;
+    }
+    if is_second(ch, e) {
+        return 4;
+    }
+    if e.full {
+        return 6;
+    }
+    7
+}
+
+// All 36 bits are the same.
+fn same_reference(a: Call, b: Call) -> bool
+    ensures { λ r. ⌜ r ≡ sameReference a b ⌝ }
+{
+    if a.reference != b.reference {
+        return false;
+    }
+    if a.vgcs as u8 != b.vgcs as u8 {
+        return false;
+    }
+    if a.acknowledged as u8 != b.acknowledged as u8 {
+        return false;
+    }
+    if a.priority != b.priority {
+        return false;
+    }
+    a.cipher == b.cipher
+}
+
+// Two full references must agree.
+pub fn agrees(a: Record, b: Record) -> bool
+    ensures { λ r. ⌜ r ≡ agree a b ⌝ }
+{
+    if !a.full {
+        return true;
+    }
+    if !b.full {
+        return true;
+    }
+    let x = a.call;
+    let y = b.call;
+    same_reference(x, y)
+}
+
+// The count, with B22, comes from the second half if there, else from the first.
+fn with_count(first: Common, second: Common) -> Common
+    ensures { λ r. ⌜ r ≡ withCount first second ⌝ }
+{
+    let mut c = first;
+    if second.counted {
+        c.counted = true;
+        c.cellcount = second.cellcount;
+        c.b22 = second.b22;
+    }
+    c
+}
+
+// Everything from the first half, VSTK_RAND from the second.
+pub fn join(first: Record, second: Record) -> Record
+    ensures { λ r. ⌜ r ≡ joinedOf first second ⌝ }
+{
+    let a = first.common;
+    let b = second.common;
+    let call = first.call;
+    Record {
+        full: first.full,
+        call,
+        segmented: first.segmented,
+        segment: first.segment,
+        given: true,
+        rand: second.rand,
+        emergency: first.emergency,
+        common: with_count(a, b),
+    }
+}
+
+fn only_number(number: u8, held: Slot) -> Met
+    ensures { λ r. ⌜ r ≡ only number held ⌝ }
+{
+    Met {
+        number,
+        told: no_record(),
+        held,
+    }
+}
+
+// A half that comes where a half is held: the same one, or the opposite one, with which it joins if their references agree.
+fn meet_half(half: u8, held: Slot, e: Record, joined: Record) -> Met
+    requires { ⌜ (held .half ≡ 0 → ⊥) ⌝ }
+    ensures { λ r. ⌜ r ≡ meetHalf half held e joined (only 4 held) ⌝ }
+{
+    if held.half == half {
+        return only_number(5, held);
+    }
+    let h = held.record;
+    if !agrees(h, e) {
+        return only_number(7, held);
+    }
+    Met {
+        number: 3,
+        told: joined,
+        held: empty_slot(),
+    }
+}
+
+// What an entry on channel ch meets at its place, at tick now.
+pub fn meet(ch: usize, now: u32, held: Slot, e: Record) -> Met
+    ensures { λ r. ⌜ r ≡ meetOf ch now held e ⌝ }
+{
+    let c = class(ch, e);
+    if c < 3 {
+        return Met {
+            number: c,
+            told: e,
+            held,
+        };
+    }
+    if 4 < c {
+        return only_number(c, held);
+    }
+    if held.half != 0 {
+        let h = held.record;
+        if c == 3 {
+            return meet_half(1, held, e, join(e, h));
+        }
+        return meet_half(2, held, e, join(h, e));
+    }
+    if c == 4 {
+        if ch != 0 {
+            return only_number(8, held);
+        }
+    }
+    only_number(
+        4,
+        Slot {
+            half: c - 2,
+            since: now,
+            record: e,
+        },
+    )
+}
+
+// Reference times 2 plus service flag.
+pub fn key_of(c: Call) -> u64
+    ensures { λ r. ⌜ r ≡ keyOf c ⌝ }
+{
+    c.reference as u64 * 2 + c.vgcs as u64
+}

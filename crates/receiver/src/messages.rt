@@ -1,0 +1,242 @@
+// The entries of a message, each with all that belongs to it.
+ghost use mathlib.Core.Path.{_≡_};
+ghost use mathlib.Core.Bool.{false};
+ghost use mathlib.Core.Option.{none};
+ghost use Prim.Native.Nat.{min};
+ghost use lib.ListN.{length};
+ghost use Rattle.bits.specs.Field.{pick};
+ghost use Rattle.csn1.specs.Told.{asBit, padded};
+ghost use Rattle.call.specs.Call.{ciphered};
+ghost use Rattle.nch.specs.Octets.{count};
+ghost use Rattle.nch.specs.Write.{callsOf, isDescribed};
+ghost use Rattle.nch.specs.Owners.{nth, orNot, randomsOf, marksOf};
+ghost use Rattle.receiver.specs.Model.{noRecord, mapAt};
+ghost use Rattle.receiver.specs.Entries.{nchCommon, ownedOf, callWith, reducedWith, callEntry, nchEntries, facchEntry};
+use crate::Common;
+use crate::Record;
+use crate::meeting;
+use call::Call;
+use nch::Reduced;
+
+// At most nine entries, in order.
+pub struct Entries {
+    pub items: [Record; 9],
+    pub count: usize,
+}
+
+// The one entry of a FACCH message.
+pub fn facch_entry(m: facch::Notification) -> Record
+    ensures { λ r. ⌜ r ≡ facchEntry m ⌝ }
+{
+    let call = m.call;
+    Record {
+        full: true,
+        call,
+        segmented: false,
+        segment: false,
+        given: m.release6.given,
+        rand: m.release6.rand,
+        emergency: m.release7.emergency,
+        common: Common {
+            counted: m.release6.counted,
+            cellcount: m.release6.cellcount,
+            b22: m.release6.b22,
+            uplinked: m.release7.there,
+            uplink: m.release7.uplink,
+            amr: false,
+            fullrated: false,
+            fullrate: 0,
+            halfrated: false,
+            halfrate: 0,
+            sms: false,
+            confidential: false,
+            private: false,
+        },
+    }
+}
+
+fn nch_common(m: nch::Notification) -> Common
+    ensures { λ r. ⌜ r ≡ nchCommon m ⌝ }
+{
+    Common {
+        counted: m.release6.counted,
+        cellcount: m.release6.cellcount,
+        b22: false,
+        uplinked: m.release7.uplinked,
+        uplink: m.release7.uplink,
+        amr: m.release7.amr,
+        fullrated: m.release7.fullrated,
+        fullrate: m.release7.fullrate,
+        halfrated: m.release7.halfrated,
+        halfrate: m.release7.halfrate,
+        sms: m.release7.sms,
+        confidential: m.release7.confidential,
+        private: m.release7.private,
+    }
+}
+
+// The random entry that an entry owns, and all zero where it owns none.
+struct Owned {
+    there: bool,
+    segment: bool,
+    given: bool,
+    rand: u64,
+}
+
+fn owns_none() -> Owned
+    ensures { λ r. ⌜ r ≡ ownedOf none ⌝ }
+{
+    Owned {
+        there: false,
+        segment: false,
+        given: false,
+        rand: 0,
+    }
+}
+
+// The k-th random entry in use, counted from 0.
+fn random_at(m: nch::Notification, k: usize) -> Owned
+    ensures { λ r. ⌜ r ≡ ownedOf (nth k (randomsOf m)) ⌝ }
+{
+    if m.release6.randomcount <= k {
+        return owns_none();
+    }
+    if 9 <= k {
+        return owns_none();
+    }
+    let six = m.release6;
+    let one = six.randoms[k];
+    Owned {
+        there: true,
+        segment: one.segment,
+        given: one.given,
+        rand: one.rand,
+    }
+}
+
+// Only a ciphered call owns a random entry.
+fn random_of_call(m: nch::Notification, c: Call, k: usize) -> Owned
+    ensures { λ r. ⌜ r ≡ ownedOf (pick (ciphered c) (nth k (randomsOf m)) none) ⌝ }
+{
+    if c.cipher == 0 {
+        return owns_none();
+    }
+    random_at(m, k)
+}
+
+// Only a call with a description owns an emergency mark: the k-th in use, and without one it is in no emergency.
+fn emergency_of_call(m: nch::Notification, c: Call, k: usize) -> bool
+    ensures { λ r. ⌜ r ≡ pick (isDescribed c) (orNot (nth k (marksOf m))) false ⌝ }
+{
+    if !c.described {
+        return false;
+    }
+    if m.release7.markcount <= k {
+        return false;
+    }
+    if 4 <= k {
+        return false;
+    }
+    let seven = m.release7;
+    seven.marks[k]
+}
+
+// The entry of a call, with the random entry and the mark at these places where it owns one.
+fn call_entry(m: nch::Notification, c: Call, random: usize, mark: usize) -> Record
+    ensures { λ r. ⌜ r ≡ callWith m random mark c ⌝ }
+{
+    let owned = random_of_call(m, c, random);
+    Record {
+        full: true,
+        call: c,
+        segmented: owned.there,
+        segment: owned.segment,
+        given: owned.given,
+        rand: owned.rand,
+        emergency: emergency_of_call(m, c, mark),
+        common: nch_common(m),
+    }
+}
+
+// The entry of a reduced reference, with the random entry at this place. It has no mark.
+fn reduced_entry(m: nch::Notification, r: Reduced, random: usize) -> Record
+    ensures { λ e. ⌜ e ≡ reducedWith m random r ⌝ }
+{
+    let owned = random_at(m, random);
+    let mut call = call::no_call();
+    call.reference = r.reference;
+    call.vgcs = r.vgcs;
+    Record {
+        full: false,
+        call,
+        segmented: owned.there,
+        segment: owned.segment,
+        given: owned.given,
+        rand: owned.rand,
+        emergency: false,
+        common: nch_common(m),
+    }
+}
+
+// The smaller of two numbers.
+fn least(a: usize, b: usize) -> usize
+    ensures { λ r. ⌜ r ≡ min a b ⌝ }
+{
+    if b < a { b } else { a }
+}
+
+fn one_if(b: bool) -> usize
+    ensures { λ r. ⌜ r ≡ asBit b ⌝ }
+{
+    if b { 1 } else { 0 }
+}
+
+// The entries of the calls, and how many of the calls are ciphered.
+struct CallEntries {
+    items: [Record; 9],
+    count: usize,
+    ciphered: usize,
+}
+
+fn call_entries(m: nch::Notification) -> CallEntries
+    ensures { λ r. ⌜ (r .items ≡ padded noRecord 9 (mapAt (callEntry m) 0 (callsOf m))) × ((r .count ≡ length (callsOf m)) × (r .ciphered ≡ count ciphered (callsOf m))) ⌝ }
+{
+    let mut items = [meeting::no_record(); 9];
+    let count = least(m.callcount, 4);
+    let mut random: usize = 0;
+    let mut mark: usize = 0;
+    let mut i: usize = 0;
+    while i < count {
+        let c = m.calls[i];
+        items[i] = call_entry(m, c, random, mark);
+        random += one_if(1 <= c.cipher);
+        mark += one_if(c.described);
+        i += 1;
+    }
+    CallEntries {
+        items,
+        count,
+        ciphered: random,
+    }
+}
+
+// The entries of an NCH message: its calls, then its reduced references.
+pub fn nch_entries(m: nch::Notification) -> Entries
+    ensures { λ r. ⌜ (r .items ≡ padded noRecord 9 (nchEntries m)) × (r .count ≡ length (nchEntries m)) ⌝ }
+{
+    let calls = call_entries(m);
+    let mut items = calls.items;
+    let first = calls.count;
+    let six = m.release6;
+    let count = least(six.reducedcount, 5);
+    let mut j: usize = 0;
+    while j < count {
+        let r = six.reduced[j];
+        items[first + j] = reduced_entry(m, r, calls.ciphered + j);
+        j += 1;
+    }
+    Entries {
+        items,
+        count: first + count,
+    }
+}

@@ -1,0 +1,131 @@
+// Setting up: the numbers and the lent keys are tested, and a receiver that holds nothing is made.
+ghost use mathlib.Core.Path.{_≡_};
+ghost use lib.ListN.{length};
+ghost use Rattle.receiver.specs.Model.{newReceiver, keyPlaces, isTimer, keysRight, setupRight, startedOf, readySetup};
+ghost use Rattle.receiver.specs.Store.{standsFrom};
+use crate::Receiver;
+use crate::Setup;
+use crate::Started;
+use crate::meeting;
+
+impl Setup {
+    pub const KEYS: usize = 50;
+
+    pub const LONGEST: u32 = 60000;
+
+    pub const T3206: u32 = 5000;
+
+    pub const T3208: u32 = 5000;
+
+    // The ready defaults, from a first tick on.
+    pub fn ready(tick: u32) -> Self
+        ensures { λ r. ⌜ r ≡ readySetup tick ⌝ }
+    {
+        Self {
+            tick,
+            t3206: Self::T3206,
+            t3208: Self::T3208,
+        }
+    }
+
+    // A receiver for the lent keys, or refusal 10.
+    pub fn start(self, keys: &[u32]) -> Started
+        ensures { λ r. ⌜ r ≡ startedOf self (now (keys .entry)) ⌝ }
+    {
+        if !is_right(self, keys) {
+            return Started {
+                refusal: csn1::ground(10),
+                receiver: made(0, 0, 0, [4294967295u32; 50]),
+            };
+        }
+        let places = key_places(keys);
+        Started {
+            refusal: csn1::no_refusal(),
+            receiver: made(self.tick, self.t3206, self.t3208, places),
+        }
+    }
+}
+
+fn made(tick: u32, t3206: u32, t3208: u32, keys: [u32; 50]) -> Receiver
+    ensures { λ r. ⌜ r ≡ newReceiver tick t3206 t3208 keys ⌝ }
+{
+    let e = meeting::empty_slot();
+    Receiver {
+        slots: [e; 100],
+        keys,
+        tick,
+        t3206,
+        t3208,
+        nln: 4,
+    }
+}
+
+fn is_timer(t: u32) -> bool
+    ensures { λ r. ⌜ r ≡ isTimer t ⌝ }
+{
+    if t < 1 {
+        return false;
+    }
+    t <= Setup::LONGEST
+}
+
+fn is_right(s: Setup, keys: &[u32]) -> bool
+    ensures { λ r. ⌜ r ≡ setupRight s (now (keys .entry)) ⌝ }
+{
+    if Setup::KEYS < keys.len() {
+        return false;
+    }
+    if !is_timer(s.t3206) {
+        return false;
+    }
+    if !is_timer(s.t3208) {
+        return false;
+    }
+    keys_right(keys)
+}
+
+// Whether a key stands among those from a place on.
+fn stands_from(keys: &[u32], key: u32, from: usize) -> bool
+    ensures { λ r. ⌜ r ≡ standsFrom (now (keys .entry)) key from ⌝ }
+{
+    let mut i = from;
+    while i < keys.len() {
+        if keys[i] == key {
+            return true;
+        }
+        i += 1;
+    }
+    false
+}
+
+fn keys_right(keys: &[u32]) -> bool
+    ensures { λ r. ⌜ r ≡ keysRight (now (keys .entry)) ⌝ }
+{
+    let mut i: usize = 0;
+    while i < keys.len() {
+        let key = keys[i];
+        if 199999999 < key {
+            return false;
+        }
+        if stands_from(keys, key, i + 1) {
+            return false;
+        }
+        i += 1;
+    }
+    true
+}
+
+// The keys as they were lent, then unused places.
+fn key_places(keys: &[u32]) -> [u32; 50]
+    ensures { λ r. ⌜ r ≡ keyPlaces 50 (now (keys .entry)) ⌝ }
+{
+    let mut places = [4294967295u32; 50];
+    let mut i: usize = 0;
+    while i < 50 {
+        if i < keys.len() {
+            places[i] = keys[i];
+        }
+        i += 1;
+    }
+    places
+}

@@ -1,0 +1,131 @@
+// The clock, the keys, and the one sweep over all places that drops what ran out and what an event takes.
+ghost use mathlib.Core.Path.{_≡_};
+ghost use Prim.Native.Nat.{_<_};
+ghost use Rattle.receiver.specs.Model.{wrapSub, late, indexOf, spares, timerAt, ranOutOf, takenOf, keptOf, sweptSlots, expiredOf, droppedOf};
+ghost use Rattle.receiver.specs.Store.{fateOf, withSlots};
+use crate::Receiver;
+use crate::Rule;
+use crate::Slot;
+use crate::meeting;
+
+// The milliseconds from one tick to another, on a counter that wraps.
+pub fn elapsed(now: u32, last: u32) -> u32
+    ensures { λ r. ⌜ r ≡ wrapSub now last ⌝ }
+{
+    std::num::wrapping_sub_u32(now, last)
+}
+
+// Whether a tick is refused: a step of 2^31 or more.
+pub fn is_late(now: u32, last: u32) -> bool
+    ensures { λ r. ⌜ r ≡ late now last ⌝ }
+{
+    2147483648 <= elapsed(now, last)
+}
+
+// A key as a wider number: twice a reference of any 32 bits is one.
+fn wide(key: u32) -> u64
+    ensures { λ r. ⌜ r ≡ key ⌝ }
+{
+    key as u64
+}
+
+// The first place of a key, and 50 where it is not there.
+pub fn index_of(keys: [u32; 50], key: u64) -> usize
+    ensures { λ r. ⌜ r ≡ indexOf keys key ⌝ }
+{
+    let mut i: usize = 0;
+    while i < 50 {
+        if wide(keys[i]) == key {
+            return i;
+        }
+        i += 1;
+    }
+    i
+}
+
+fn spared(rule: Rule, i: usize) -> bool
+    ensures { λ r. ⌜ r ≡ spares rule i ⌝ }
+{
+    match rule {
+        Rule::Keep => true,
+        Rule::Others(k) => i / 2 == k,
+        Rule::Side(ch) => i % 2 != ch,
+    }
+}
+
+fn timer_at(t3206: u32, t3208: u32, i: usize) -> u32
+    ensures { λ r. ⌜ r ≡ timerAt t3206 t3208 i ⌝ }
+{
+    if i % 2 == 0 {
+        return t3206;
+    }
+    t3208
+}
+
+fn ran_out(now: u32, timer: u32, s: Slot) -> bool
+    ensures { λ r. ⌜ r ≡ ranOutOf now timer s ⌝ }
+{
+    if s.half == 0 {
+        return false;
+    }
+    timer <= elapsed(now, s.since)
+}
+
+// What becomes of a place: it stays as it is, its half ran out, or the rule takes its half.
+enum Fate {
+    Stays,
+    RanOut,
+    Taken,
+}
+
+fn fate_of(now: u32, timer: u32, rule: Rule, i: usize, s: Slot) -> Fate
+    ensures { λ r. ⌜ r ≡ fateOf now timer rule i s ⌝ }
+{
+    if s.half == 0 {
+        return Fate::Stays;
+    }
+    if ran_out(now, timer, s) {
+        return Fate::RanOut;
+    }
+    if spared(rule, i) {
+        return Fate::Stays;
+    }
+    Fate::Taken
+}
+
+pub struct Swept {
+    pub receiver: Receiver,
+    pub expired: usize,
+    pub dropped: usize,
+}
+
+// One sweep: what ran out goes first and is counted apart, then what the rule takes.
+pub fn sweep(mut r: Receiver, now: u32, rule: Rule) -> Swept
+    ensures { λ w. ⌜ (w .receiver ≡ withSlots r (sweptSlots r now rule))
+        × ((w .expired ≡ expiredOf r now (r .slots)) × (w .dropped ≡ droppedOf r now rule)) ⌝ }
+{
+    let e = meeting::empty_slot();
+    let mut expired: usize = 0;
+    let mut dropped: usize = 0;
+    let mut i: usize = 0;
+    while i < 100 {
+        let s = r.slots[i];
+        match fate_of(now, timer_at(r.t3206, r.t3208, i), rule, i, s) {
+            Fate::Stays => {}
+            Fate::RanOut => {
+                r.slots[i] = e;
+                expired += 1;
+            }
+            Fate::Taken => {
+                r.slots[i] = e;
+                dropped += 1;
+            }
+        }
+        i += 1;
+    }
+    Swept {
+        receiver: r,
+        expired,
+        dropped,
+    }
+}
