@@ -10,6 +10,3 @@ pub mod Round
 pub mod Promises
 pub mod Owners
 pub mod Whole
-pub mod Testing
-pub mod InRange
-pub mod Putting

@@ -10,9 +10,7 @@ use csn1::Refusal;
 
 mod additions6;
 mod additions7;
-mod calls;
-mod checks;
-pub mod writer;
+pub mod calls;
 
 // A Reduced GCR: the reference and service flag of a call that another message carries whole.
 pub struct Reduced {

@@ -155,7 +155,7 @@ fn show_record(m: Notification) {
 // What the writer makes of the record again.
 fn show_written(m: Notification) {
     let mut back = [0u8; 20];
-    let refusal = nch::writer::write(m, &mut back);
+    let refusal = nch_write::write(m, &mut back);
     if refusal != 0 {
         show(b" not written ", refusal as u64);
         return;

@@ -1,4 +1,5 @@
 -- `nch::refused` meets its contract. Assumes nothing.
+use native.Mathlib.Omega.{arith}
 use mathlib.Core.Path.{ap, ap₂, _∙_}
 use mathlib.Core.List.{[], _∷_}
 use mathlib.Core.Bool.{false}
@@ -12,13 +13,13 @@ use Rattle.nch.proofs.refused.Statement.{statement}
 use Rattle.nch.proofs.refused.Tie as tie
 
 no-call-requires : tie.Need-no-call-requires
-no-call-requires c κs = search needs
+no-call-requires c κs = omega arith
 
 absent-requires : tie.Need-absent-requires
-absent-requires c κs = search needs
+absent-requires c κs = omega arith
 
 absent-requires-2 : tie.Need-absent-requires-2
-absent-requires-2 c κs = search needs
+absent-requires-2 c κs = omega arith
 
 returns : tie.Need-returns
 returns c =

@@ -1,13 +1,14 @@
 -- `nch::additions6::absent` meets its contract. Assumes nothing.
+use native.Mathlib.Omega.{arith}
 use borrow.Author.Needs.{needs}
 use Rattle.nch.proofs.additions6.absent.Statement.{statement}
 use Rattle.nch.proofs.additions6.absent.Tie as tie
 
 no-reduced-requires : tie.Need-no-reduced-requires
-no-reduced-requires c κs = search needs
+no-reduced-requires c κs = omega arith
 
 no-random-requires : tie.Need-no-random-requires
-no-random-requires c κs = search needs
+no-random-requires c κs = omega arith
 
 returns : tie.Need-returns
 returns c = rw (c .before .no-reduced .ensures, c .no-random .ensures)

@@ -1,10 +1,11 @@
 -- `nch::additions6::no_reduceds` meets its contract. Assumes nothing.
+use native.Mathlib.Omega.{arith}
 use borrow.Author.Needs.{needs}
 use Rattle.nch.proofs.additions6.no_reduceds.Statement.{statement}
 use Rattle.nch.proofs.additions6.no_reduceds.Tie as tie
 
 no-reduced-requires : tie.Need-no-reduced-requires
-no-reduced-requires c κs = search needs
+no-reduced-requires c κs = omega arith
 
 returns : tie.Need-returns
 returns c = rw (c .no-reduced .ensures)

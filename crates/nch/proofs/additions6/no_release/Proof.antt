@@ -1,10 +1,11 @@
 -- `nch::additions6::no_release` meets its contract. Assumes nothing.
+use native.Mathlib.Omega.{arith}
 use borrow.Author.Needs.{needs}
 use Rattle.nch.proofs.additions6.no_release.Statement.{statement}
 use Rattle.nch.proofs.additions6.no_release.Tie as tie
 
 absent-requires : tie.Need-absent-requires
-absent-requires c κs = search needs
+absent-requires c κs = omega arith
 
 returns : tie.Need-returns
 returns c = rw (c .absent .ensures)

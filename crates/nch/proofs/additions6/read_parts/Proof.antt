@@ -38,10 +38,10 @@ randoms-got c =
     answered randoms (f .result) (list (format random) .read (now (c .before .before .before .before .before .before .before .before .before .before .args .s)) p) (f .ensures) (randoms-ground (now (c .before .before .before .before .before .before .before .before .before .before .args .s)) p) (c .if3 .left)
 
 read-flagged-requires : tie.Need-read-flagged-requires
-read-flagged-requires c κs = search needs
+read-flagged-requires c κs = omega arith
 
 no-release-requires : tie.Need-no-release-requires
-no-release-requires c κs = search needs
+no-release-requires c κs = omega arith
 
 returns : tie.Need-returns
 returns c =
@@ -51,10 +51,10 @@ returns c =
     c .no-release .ensures ∙ sym (ap partsTold (first-bad (opt (num 2)) lists (now (a .s)) (a .at) _ x))
 
 read-reduceds-requires : tie.Need-read-reduceds-requires
-read-reduceds-requires c κs = search needs
+read-reduceds-requires c κs = omega arith
 
 no-release-requires-2 : tie.Need-no-release-requires-2
-no-release-requires-2 c κs = search needs
+no-release-requires-2 c κs = omega arith
 
 returns-2 : tie.Need-returns-2
 returns-2 c =
@@ -66,10 +66,10 @@ returns-2 c =
     ∙ sym (ap partsTold (then-bad (opt (num 2)) lists (now (a .s)) (a .at) _ _ _ (count-got (c .before .before .before .before) .is) (first-bad (list (format reduced)) (list (format random)) (now (a .s)) p _ y)))
 
 read-randoms-requires : tie.Need-read-randoms-requires
-read-randoms-requires c κs = search needs
+read-randoms-requires c κs = omega arith
 
 no-release-requires-3 : tie.Need-no-release-requires-3
-no-release-requires-3 c κs = search needs
+no-release-requires-3 c κs = omega arith
 
 returns-3 : tie.Need-returns-3
 returns-3 c =
@@ -81,7 +81,7 @@ returns-3 c =
     c .no-release3 .ensures ∙ sym (ap partsTold (then-bad (opt (num 2)) lists (now (a .s)) (a .at) _ _ _ (count-got (c .before .before .before .before .before .before .before) .is) y))
 
 no-refusal-requires : tie.Need-no-refusal-requires
-no-refusal-requires c κs = search needs
+no-refusal-requires c κs = omega arith
 
 cast-t10 : tie.Need-cast-t10
 cast-t10 c =

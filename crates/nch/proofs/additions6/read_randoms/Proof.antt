@@ -50,28 +50,28 @@ rand-reached : (c : tie.Else2 Inv-entries μ-entries) → Reached (now (c .befor
 rand-reached c = flagged-reached (now (c .before .before .before .before .before .before .before .before .before .before .before .before .before .before .before .args .s)) (c .before .before .before .before .before .before .before .before .before .before .before .before .entries .at + 2) 36 (rand-got c .number) (c .before .before .read-flagged .result .at) (rand-got c .is)
 
 no-random-requires : tie.Need-no-random-requires Inv-entries μ-entries
-no-random-requires c κs = search needs
+no-random-requires c κs = omega arith
 
 entries-holds : tie.Need-entries-holds Inv-entries μ-entries
 entries-holds c = entries-begin _ _ _ _ _ _ _ (rw (c .no-random .ensures))
 
 field-requires : tie.Need-field-requires Inv-entries μ-entries
-field-requires c κs = search needs
+field-requires c κs = omega arith
 
 enum-known-flag : tie.Need-enum-known-flag Inv-entries μ-entries
-enum-known-flag c = search needs
+enum-known-flag c = omega arith
 
 enum-told : tie.Need-enum-told Inv-entries μ-entries
-enum-told c = search needs
+enum-told c = omega arith
 
 ran-out-requires : tie.Need-ran-out-requires Inv-entries μ-entries
-ran-out-requires c κs = search needs
+ran-out-requires c κs = omega arith
 
 no-randoms-requires : tie.Need-no-randoms-requires Inv-entries μ-entries
-no-randoms-requires c κs = search needs
+no-randoms-requires c κs = omega arith
 
 no-refusal-requires : tie.Need-no-refusal-requires Inv-entries μ-entries
-no-refusal-requires c κs = search needs
+no-refusal-requires c κs = omega arith
 
 add-t16 : tie.Need-add-t16 Inv-entries μ-entries
 add-t16 c = omega (arith, flag-within (c .before .before))
@@ -80,37 +80,37 @@ add-field : tie.Need-add-field Inv-entries μ-entries
 add-field c = omega (arith, flag-within (c .before))
 
 field-requires-2 : tie.Need-field-requires-2 Inv-entries μ-entries
-field-requires-2 c κs = search needs
+field-requires-2 c κs = omega arith
 
 enum-known-segment : tie.Need-enum-known-segment Inv-entries μ-entries
-enum-known-segment c = search needs
+enum-known-segment c = omega arith
 
 enum-told-2 : tie.Need-enum-told-2 Inv-entries μ-entries
-enum-told-2 c = search needs
+enum-told-2 c = omega arith
 
 add-ran-out : tie.Need-add-ran-out Inv-entries μ-entries
 add-ran-out c = omega (arith, flag-within (c .before .before .before .before))
 
 ran-out-requires-2 : tie.Need-ran-out-requires-2 Inv-entries μ-entries
-ran-out-requires-2 c κs = search needs
+ran-out-requires-2 c κs = omega arith
 
 no-randoms-requires-2 : tie.Need-no-randoms-requires-2 Inv-entries μ-entries
-no-randoms-requires-2 c κs = search needs
+no-randoms-requires-2 c κs = omega arith
 
 add-read-flagged : tie.Need-add-read-flagged Inv-entries μ-entries
 add-read-flagged c = omega (arith, segment-within c)
 
 read-flagged-requires : tie.Need-read-flagged-requires Inv-entries μ-entries
-read-flagged-requires c κs = search needs
+read-flagged-requires c κs = omega arith
 
 no-randoms-requires-3 : tie.Need-no-randoms-requires-3 Inv-entries μ-entries
-no-randoms-requires-3 c κs = search needs
+no-randoms-requires-3 c κs = omega arith
 
 mul-items : tie.Need-mul-items Inv-entries μ-entries
-mul-items c = search needs
+mul-items c = omega arith
 
 array-set-from-items : tie.Need-array-set-from-items Inv-entries μ-entries
-array-set-from-items c = search needs
+array-set-from-items c = omega arith
 
 add-count : tie.Need-add-count Inv-entries μ-entries
 add-count c = omega (arith, flag-within (c .before .before .before .before .before .before .before .before .before), c .before .before .before .before .before .before .before .before .before .before .before .before .before .entries .inv .bound)

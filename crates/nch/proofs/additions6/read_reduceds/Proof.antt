@@ -53,28 +53,28 @@ fields-reached : (c : tie.After-fields Inv-fields μ-fields Inv-entries μ-entri
 fields-reached c = row-reached widths (now (c .before .before .before .before .before .before .before .before .before .before .args .s)) (c .before .before .before .before .before .before .before .entries .at + 1) (c .before .fields .parts) (c .before .fields .next) (fields-got c)
 
 no-reduced-requires : tie.Need-no-reduced-requires Inv-fields μ-fields Inv-entries μ-entries
-no-reduced-requires c κs = search needs
+no-reduced-requires c κs = omega arith
 
 entries-holds : tie.Need-entries-holds Inv-fields μ-fields Inv-entries μ-entries
 entries-holds c = entries-begin _ _ _ _ _ _ _ (rw (c .no-reduced .ensures))
 
 field-requires : tie.Need-field-requires Inv-fields μ-fields Inv-entries μ-entries
-field-requires c κs = search needs
+field-requires c κs = omega arith
 
 enum-known-flag : tie.Need-enum-known-flag Inv-fields μ-fields Inv-entries μ-entries
-enum-known-flag c = search needs
+enum-known-flag c = omega arith
 
 enum-told : tie.Need-enum-told Inv-fields μ-fields Inv-entries μ-entries
-enum-told c = search needs
+enum-told c = omega arith
 
 ran-out-requires : tie.Need-ran-out-requires Inv-fields μ-fields Inv-entries μ-entries
-ran-out-requires c κs = search needs
+ran-out-requires c κs = omega arith
 
 no-reduceds-requires : tie.Need-no-reduceds-requires Inv-fields μ-fields Inv-entries μ-entries
-no-reduceds-requires c κs = search needs
+no-reduceds-requires c κs = omega arith
 
 no-refusal-requires : tie.Need-no-refusal-requires Inv-fields μ-fields Inv-entries μ-entries
-no-refusal-requires c κs = search needs
+no-refusal-requires c κs = omega arith
 
 add-t19 : tie.Need-add-t19 Inv-fields μ-fields Inv-entries μ-entries
 add-t19 c = omega (arith, flag-within (c .before .before))
@@ -86,70 +86,70 @@ fields-holds : tie.Need-fields-holds Inv-fields μ-fields Inv-entries μ-entries
 fields-holds c = fields-begin _ _ _ _ refl (flag-within (c .before))
 
 mul-width : tie.Need-mul-width Inv-fields μ-fields Inv-entries μ-entries
-mul-width c = search needs
+mul-width c = omega arith
 
 array-read-width : tie.Need-array-read-width Inv-fields μ-fields Inv-entries μ-entries
-array-read-width c = search needs
+array-read-width c = omega arith
 
 field-requires-2 : tie.Need-field-requires-2 Inv-fields μ-fields Inv-entries μ-entries
-field-requires-2 c κs = search needs
+field-requires-2 c κs = omega arith
 
 enum-known-v : tie.Need-enum-known-v Inv-fields μ-fields Inv-entries μ-entries
-enum-known-v c = search needs
+enum-known-v c = omega arith
 
 enum-told-2 : tie.Need-enum-told-2 Inv-fields μ-fields Inv-entries μ-entries
-enum-told-2 c = search needs
+enum-told-2 c = omega arith
 
 add-ran-out : tie.Need-add-ran-out Inv-fields μ-fields Inv-entries μ-entries
 add-ran-out c = omega (arith, flag-within (c .before .before .before .before .before .before))
 
 ran-out-requires-2 : tie.Need-ran-out-requires-2 Inv-fields μ-fields Inv-entries μ-entries
-ran-out-requires-2 c κs = search needs
+ran-out-requires-2 c κs = omega arith
 
 no-reduceds-requires-2 : tie.Need-no-reduceds-requires-2 Inv-fields μ-fields Inv-entries μ-entries
-no-reduceds-requires-2 c κs = search needs
+no-reduceds-requires-2 c κs = omega arith
 
 mul-parts : tie.Need-mul-parts Inv-fields μ-fields Inv-entries μ-entries
-mul-parts c = search needs
+mul-parts c = omega arith
 
 array-write-parts : tie.Need-array-write-parts Inv-fields μ-fields Inv-entries μ-entries
-array-write-parts c = search needs
+array-write-parts c = omega arith
 
 add-next-2 : tie.Need-add-next-2 Inv-fields μ-fields Inv-entries μ-entries
 add-next-2 c = omega (arith, part-within c)
 
 add-k : tie.Need-add-k Inv-fields μ-fields Inv-entries μ-entries
-add-k c = search needs
+add-k c = omega arith
 
 fields-less : tie.Need-fields-less Inv-fields μ-fields Inv-entries μ-entries
-fields-less c = search needs
+fields-less c = omega arith
 
 fields-again : tie.Need-fields-again Inv-fields μ-fields Inv-entries μ-entries
 fields-again c = fields-next _ _ _ _ _ _ (c .before .before .before .before .before .fields .inv) _ (omega arith) (part-got c)
 
 array-read-if2 : tie.Need-array-read-if2 Inv-fields μ-fields Inv-entries μ-entries
-array-read-if2 c = search needs
+array-read-if2 c = omega arith
 
 ground-requires : tie.Need-ground-requires Inv-fields μ-fields Inv-entries μ-entries
-ground-requires c κs = search needs
+ground-requires c κs = omega arith
 
 no-reduceds-requires-3 : tie.Need-no-reduceds-requires-3 Inv-fields μ-fields Inv-entries μ-entries
-no-reduceds-requires-3 c κs = search needs
+no-reduceds-requires-3 c κs = omega arith
 
 array-read-t37 : tie.Need-array-read-t37 Inv-fields μ-fields Inv-entries μ-entries
-array-read-t37 c = search needs
+array-read-t37 c = omega arith
 
 cast-t38 : tie.Need-cast-t38 Inv-fields μ-fields Inv-entries μ-entries
-cast-t38 c = search needs
+cast-t38 c = omega arith
 
 array-read-t41 : tie.Need-array-read-t41 Inv-fields μ-fields Inv-entries μ-entries
-array-read-t41 c = search needs
+array-read-t41 c = omega arith
 
 mul-items : tie.Need-mul-items Inv-fields μ-fields Inv-entries μ-entries
-mul-items c = search needs
+mul-items c = omega arith
 
 array-set-from-items : tie.Need-array-set-from-items Inv-fields μ-fields Inv-entries μ-entries
-array-set-from-items c = search needs
+array-set-from-items c = omega arith
 
 add-count : tie.Need-add-count Inv-fields μ-fields Inv-entries μ-entries
 add-count c = omega (arith, flag-within (c .before .before .before .before .before), c .before .before .before .before .before .before .before .before .before .entries .inv .bound)

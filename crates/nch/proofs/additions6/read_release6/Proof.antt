@@ -16,10 +16,10 @@ use Rattle.nch.proofs.additions6.read_release6.Statement.{statement}
 use Rattle.nch.proofs.additions6.read_release6.Tie as tie
 
 ran-out-requires : tie.Need-ran-out-requires
-ran-out-requires c κs = search needs
+ran-out-requires c κs = omega arith
 
 no-release-requires : tie.Need-no-release-requires
-no-release-requires c κs = search needs
+no-release-requires c κs = omega arith
 
 returns : tie.Need-returns
 returns c =
@@ -28,10 +28,10 @@ returns c =
     ∙ sym (ap release6AtOf (read-long (release (format release6)) (now (a .s)) (a .at) (omega arith)))
 
 read-lead-requires : tie.Need-read-lead-requires
-read-lead-requires c κs = search needs
+read-lead-requires c κs = omega arith
 
 no-release-requires-2 : tie.Need-no-release-requires-2
-no-release-requires-2 c κs = search needs
+no-release-requires-2 c κs = omega arith
 
 returns-2 : tie.Need-returns-2
 returns-2 c =
@@ -42,10 +42,10 @@ returns-2 c =
     ∙ release-refused (format release6) (now (a .s)) (a .at) (omega arith) (l .result) (l .ensures) (c .before .if2 .taken)))
 
 no-refusal-requires : tie.Need-no-refusal-requires
-no-refusal-requires c κs = search needs
+no-refusal-requires c κs = omega arith
 
 absent-requires : tie.Need-absent-requires
-absent-requires c κs = search needs
+absent-requires c κs = omega arith
 
 returns-3 : tie.Need-returns-3
 returns-3 c =
@@ -56,7 +56,7 @@ returns-3 c =
     ∙ release-absent (format release6) (now (a .s)) (a .at) (omega arith) (l .result) (l .ensures) (c .before .before .before .before .if2 .left) (not-true _ (c .before .before .if3 .taken))))
 
 read-parts-requires : tie.Need-read-parts-requires
-read-parts-requires c κs = search needs
+read-parts-requires c κs = omega arith
 
 returns-4 : tie.Need-returns-4
 returns-4 c =

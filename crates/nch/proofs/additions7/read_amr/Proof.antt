@@ -38,19 +38,19 @@ half-read : (c : tie.Else3) → Answer flags (c .before .before .read-flagged2 .
 half-read c = flag-answered (now (c .before .before .before .before .before .before .before .before .before .before .before .before .args .s)) (c .before .before .before .before .before .read-flagged .result .at) 4 (omega arith) (c .before .before .before .before .before .before .before .before .before .before .before .before .pre) (c .before .before .read-flagged2 .result) (c .before .before .read-flagged2 .ensures) (omega arith)
 
 field-requires : tie.Need-field-requires
-field-requires c κs = search needs
+field-requires c κs = omega arith
 
 enum-known-flag : tie.Need-enum-known-flag
-enum-known-flag c = search needs
+enum-known-flag c = omega arith
 
 enum-told : tie.Need-enum-told
-enum-told c = search needs
+enum-told c = omega arith
 
 ran-out-requires : tie.Need-ran-out-requires
-ran-out-requires c κs = search needs
+ran-out-requires c κs = omega arith
 
 no-amr-requires : tie.Need-no-amr-requires
-no-amr-requires c κs = search needs
+no-amr-requires c κs = omega arith
 
 returns : tie.Need-returns
 returns c =
@@ -60,7 +60,7 @@ returns c =
     ∙ sym (ap amrAtOf (opt-short (format amr) (now (a .s)) (a .at) e))
 
 no-refusal-requires : tie.Need-no-refusal-requires
-no-refusal-requires c κs = search needs
+no-refusal-requires c κs = omega arith
 
 add-t10 : tie.Need-add-t10
 add-t10 c = omega (arith, flag-within (c .before .before))
@@ -75,10 +75,10 @@ add-read-flagged : tie.Need-add-read-flagged
 add-read-flagged c = omega (arith, flag-within (c .before))
 
 read-flagged-requires : tie.Need-read-flagged-requires
-read-flagged-requires c κs = search needs
+read-flagged-requires c κs = omega arith
 
 no-amr-requires-2 : tie.Need-no-amr-requires-2
-no-amr-requires-2 c κs = search needs
+no-amr-requires-2 c κs = omega arith
 
 returns-3 : tie.Need-returns-3
 returns-3 c =
@@ -90,10 +90,10 @@ returns-3 c =
     (flagged-refused (now (a .s)) (a .at + 1) 4 (omega arith) (c .before .before .before .before .before .before .before .before .before .before .pre) (u .result) (u .ensures) (c .before .if2 .taken)))))
 
 read-flagged-requires-2 : tie.Need-read-flagged-requires-2
-read-flagged-requires-2 c κs = search needs
+read-flagged-requires-2 c κs = omega arith
 
 no-amr-requires-3 : tie.Need-no-amr-requires-3
-no-amr-requires-3 c κs = search needs
+no-amr-requires-3 c κs = omega arith
 
 returns-4 : tie.Need-returns-4
 returns-4 c =
@@ -104,7 +104,7 @@ returns-4 c =
     (flagged-refused (now (a .s)) (c .before .before .before .before .before .before .read-flagged .result .at) 4 (omega arith) (c .before .before .before .before .before .before .before .before .before .before .before .before .before .pre) (c .before .before .before .read-flagged2 .result) (c .before .before .before .read-flagged2 .ensures) (c .before .if3 .taken)))))
 
 no-refusal-requires-2 : tie.Need-no-refusal-requires-2
-no-refusal-requires-2 c κs = search needs
+no-refusal-requires-2 c κs = omega arith
 
 returns-5 : tie.Need-returns-5
 returns-5 c =

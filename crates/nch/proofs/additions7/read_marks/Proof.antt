@@ -47,22 +47,22 @@ entries-holds : tie.Need-entries-holds Inv-entries μ-entries
 entries-holds c = entries-begin (num 1) isOne false 4 _ _ _ refl
 
 field-requires : tie.Need-field-requires Inv-entries μ-entries
-field-requires c κs = search needs
+field-requires c κs = omega arith
 
 enum-known-flag : tie.Need-enum-known-flag Inv-entries μ-entries
-enum-known-flag c = search needs
+enum-known-flag c = omega arith
 
 enum-told : tie.Need-enum-told Inv-entries μ-entries
-enum-told c = search needs
+enum-told c = omega arith
 
 ran-out-requires : tie.Need-ran-out-requires Inv-entries μ-entries
-ran-out-requires c κs = search needs
+ran-out-requires c κs = omega arith
 
 no-marks-requires : tie.Need-no-marks-requires Inv-entries μ-entries
-no-marks-requires c κs = search needs
+no-marks-requires c κs = omega arith
 
 no-refusal-requires : tie.Need-no-refusal-requires Inv-entries μ-entries
-no-refusal-requires c κs = search needs
+no-refusal-requires c κs = omega arith
 
 add-t14 : tie.Need-add-t14 Inv-entries μ-entries
 add-t14 c = omega (arith, flag-within (c .before .before))
@@ -71,25 +71,25 @@ add-field : tie.Need-add-field Inv-entries μ-entries
 add-field c = omega (arith, flag-within (c .before))
 
 field-requires-2 : tie.Need-field-requires-2 Inv-entries μ-entries
-field-requires-2 c κs = search needs
+field-requires-2 c κs = omega arith
 
 enum-known-mark : tie.Need-enum-known-mark Inv-entries μ-entries
-enum-known-mark c = search needs
+enum-known-mark c = omega arith
 
 enum-told-2 : tie.Need-enum-told-2 Inv-entries μ-entries
-enum-told-2 c = search needs
+enum-told-2 c = omega arith
 
 add-ran-out : tie.Need-add-ran-out Inv-entries μ-entries
 add-ran-out c = omega (arith, flag-within (c .before .before .before .before))
 
 ran-out-requires-2 : tie.Need-ran-out-requires-2 Inv-entries μ-entries
-ran-out-requires-2 c κs = search needs
+ran-out-requires-2 c κs = omega arith
 
 no-marks-requires-2 : tie.Need-no-marks-requires-2 Inv-entries μ-entries
-no-marks-requires-2 c κs = search needs
+no-marks-requires-2 c κs = omega arith
 
 array-write-items : tie.Need-array-write-items Inv-entries μ-entries
-array-write-items c = search needs
+array-write-items c = omega arith
 
 add-count : tie.Need-add-count Inv-entries μ-entries
 add-count c = omega (arith, flag-within (c .before .before .before .before .before .before), c .before .before .before .before .before .before .before .before .before .before .entries .inv .bound)

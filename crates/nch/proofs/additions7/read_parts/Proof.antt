@@ -18,10 +18,10 @@ fit c =
     rates-fit (now (a .s)) (a .at) (c .before .before .before .before .before .before .before .before .before .before .before .before .before .before .before .before .before .pre) (m .result) (m .ensures) (c .before .before .before .before .before .before .before .before .before .before .before .before .before .if1 .left) (u .result) (u .ensures) (c .before .before .before .before .before .before .before .before .before .before .if2 .left) (r .result) (r .ensures) (c .before .before .before .before .before .before .before .if3 .left)
 
 read-marks-requires : tie.Need-read-marks-requires
-read-marks-requires c κs = search needs
+read-marks-requires c κs = omega arith
 
 no-release-requires : tie.Need-no-release-requires
-no-release-requires c κs = search needs
+no-release-requires c κs = omega arith
 
 returns : tie.Need-returns
 returns c =
@@ -30,10 +30,10 @@ returns c =
     c .no-release .ensures ∙ marks-bad (now (a .s)) (a .at) (c .before .before .before .before .before .pre) (m .result) (m .ensures) (c .before .if1 .taken)
 
 read-flagged-requires : tie.Need-read-flagged-requires
-read-flagged-requires c κs = search needs
+read-flagged-requires c κs = omega arith
 
 no-release-requires-2 : tie.Need-no-release-requires-2
-no-release-requires-2 c κs = search needs
+no-release-requires-2 c κs = omega arith
 
 returns-2 : tie.Need-returns-2
 returns-2 c =
@@ -43,10 +43,10 @@ returns-2 c =
     c .no-release2 .ensures ∙ uplink-bad (now (a .s)) (a .at) (c .before .before .before .before .before .before .before .before .pre) (m .result) (m .ensures) (c .before .before .before .before .if1 .left) (u .result) (u .ensures) (c .before .if2 .taken)
 
 read-amr-requires : tie.Need-read-amr-requires
-read-amr-requires c κs = search needs
+read-amr-requires c κs = omega arith
 
 no-release-requires-3 : tie.Need-no-release-requires-3
-no-release-requires-3 c κs = search needs
+no-release-requires-3 c κs = omega arith
 
 returns-3 : tie.Need-returns-3
 returns-3 c =
@@ -57,10 +57,10 @@ returns-3 c =
     c .no-release3 .ensures ∙ amr-bad (now (a .s)) (a .at) (c .before .before .before .before .before .before .before .before .before .before .before .pre) (m .result) (m .ensures) (c .before .before .before .before .before .before .before .if1 .left) (u .result) (u .ensures) (c .before .before .before .before .if2 .left) (r .result) (r .ensures) (c .before .if3 .taken)
 
 read-sms-requires : tie.Need-read-sms-requires
-read-sms-requires c κs = search needs
+read-sms-requires c κs = omega arith
 
 no-release-requires-4 : tie.Need-no-release-requires-4
-no-release-requires-4 c κs = search needs
+no-release-requires-4 c κs = omega arith
 
 returns-4 : tie.Need-returns-4
 returns-4 c =
@@ -72,7 +72,7 @@ returns-4 c =
     c .no-release4 .ensures ∙ sms-bad (now (a .s)) (a .at) (c .before .before .before .before .before .before .before .before .before .before .before .before .before .before .pre) (m .result) (m .ensures) (c .before .before .before .before .before .before .before .before .before .before .if1 .left) (u .result) (u .ensures) (c .before .before .before .before .before .before .before .if2 .left) (r .result) (r .ensures) (c .before .before .before .before .if3 .left) (t .result) (t .ensures) (c .before .if4 .taken)
 
 no-refusal-requires : tie.Need-no-refusal-requires
-no-refusal-requires c κs = search needs
+no-refusal-requires c κs = omega arith
 
 cast-t10 : tie.Need-cast-t10
 cast-t10 c = omega (arith, fit c .0)

@@ -38,19 +38,19 @@ confidential-read c =
     num-got (now (a .s)) (a .at + 1) 1 _ (confidential-got c) ∙ ap (ok (c .before .confidential .given .0 .0)) (omega arith)
 
 field-requires : tie.Need-field-requires
-field-requires c κs = search needs
+field-requires c κs = omega arith
 
 enum-known-flag : tie.Need-enum-known-flag
-enum-known-flag c = search needs
+enum-known-flag c = omega arith
 
 enum-told : tie.Need-enum-told
-enum-told c = search needs
+enum-told c = omega arith
 
 ran-out-requires : tie.Need-ran-out-requires
-ran-out-requires c κs = search needs
+ran-out-requires c κs = omega arith
 
 no-sms-requires : tie.Need-no-sms-requires
-no-sms-requires c κs = search needs
+no-sms-requires c κs = omega arith
 
 returns : tie.Need-returns
 returns c =
@@ -60,7 +60,7 @@ returns c =
     ∙ sym (ap smsAtOf (opt-short (num 1 ⨟ num 1) (now (a .s)) (a .at) e))
 
 no-refusal-requires : tie.Need-no-refusal-requires
-no-refusal-requires c κs = search needs
+no-refusal-requires c κs = omega arith
 
 add-t10 : tie.Need-add-t10
 add-t10 c = omega (arith, flag-within (c .before .before))
@@ -75,22 +75,22 @@ add-field : tie.Need-add-field
 add-field c = omega (arith, flag-within (c .before))
 
 field-requires-2 : tie.Need-field-requires-2
-field-requires-2 c κs = search needs
+field-requires-2 c κs = omega arith
 
 enum-known-confidential : tie.Need-enum-known-confidential
-enum-known-confidential c = search needs
+enum-known-confidential c = omega arith
 
 enum-told-2 : tie.Need-enum-told-2
-enum-told-2 c = search needs
+enum-told-2 c = omega arith
 
 add-ran-out : tie.Need-add-ran-out
 add-ran-out c = omega (arith, flag-within (c .before .before .before .before))
 
 ran-out-requires-2 : tie.Need-ran-out-requires-2
-ran-out-requires-2 c κs = search needs
+ran-out-requires-2 c κs = omega arith
 
 no-sms-requires-2 : tie.Need-no-sms-requires-2
-no-sms-requires-2 c κs = search needs
+no-sms-requires-2 c κs = omega arith
 
 returns-3 : tie.Need-returns-3
 returns-3 c =
@@ -104,22 +104,22 @@ add-field-2 : tie.Need-add-field-2
 add-field-2 c = omega (arith, flag-within (c .before .before .before .before .before))
 
 field-requires-3 : tie.Need-field-requires-3
-field-requires-3 c κs = search needs
+field-requires-3 c κs = omega arith
 
 enum-known-private : tie.Need-enum-known-private
-enum-known-private c = search needs
+enum-known-private c = omega arith
 
 enum-told-3 : tie.Need-enum-told-3
-enum-told-3 c = search needs
+enum-told-3 c = omega arith
 
 add-ran-out-2 : tie.Need-add-ran-out-2
 add-ran-out-2 c = omega (arith, flag-within (c .before .before .before .before .before .before .before .before))
 
 ran-out-requires-3 : tie.Need-ran-out-requires-3
-ran-out-requires-3 c κs = search needs
+ran-out-requires-3 c κs = omega arith
 
 no-sms-requires-3 : tie.Need-no-sms-requires-3
-no-sms-requires-3 c κs = search needs
+no-sms-requires-3 c κs = omega arith
 
 returns-4 : tie.Need-returns-4
 returns-4 c =
@@ -130,7 +130,7 @@ returns-4 c =
     (then-bad (num 1) (num 1) (now (a .s)) (a .at + 1) _ _ _ (confidential-read (c .before .before .before .before .before)) (num-short (now (a .s)) (a .at + 2) 1 (omega arith) e))))
 
 no-refusal-requires-2 : tie.Need-no-refusal-requires-2
-no-refusal-requires-2 c κs = search needs
+no-refusal-requires-2 c κs = omega arith
 
 add-t12 : tie.Need-add-t12
 add-t12 c = omega (arith, flag-within (c .before .before .before .before .before .before .before .before .before .before))

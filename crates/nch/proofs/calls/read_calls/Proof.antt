@@ -48,10 +48,10 @@ one-past c =
     (flag-within (c .before .before .before .before)) (c .if3 .left)
 
 ran-out-requires : tie.Need-ran-out-requires Inv-entries μ-entries
-ran-out-requires c κs = search needs
+ran-out-requires c κs = omega arith
 
 no-calls-requires : tie.Need-no-calls-requires Inv-entries μ-entries
-no-calls-requires c κs = search needs
+no-calls-requires c κs = omega arith
 
 returns : tie.Need-returns Inv-entries μ-entries
 returns c =
@@ -60,28 +60,28 @@ returns c =
     ∙ sym (ap callsAtOf (read-long (list groupCall) (now (a .s)) (a .from) (omega arith)))
 
 no-call-requires : tie.Need-no-call-requires Inv-entries μ-entries
-no-call-requires c κs = search needs
+no-call-requires c κs = omega arith
 
 entries-holds : tie.Need-entries-holds Inv-entries μ-entries
 entries-holds c = entries-begin groupCall callOf noCall 4 _ _ _ (ap (λ (x : Call). x ∷ x ∷ x ∷ x ∷ []) (c .no-call .ensures))
 
 field-requires : tie.Need-field-requires Inv-entries μ-entries
-field-requires c κs = search needs
+field-requires c κs = omega arith
 
 enum-known-flag : tie.Need-enum-known-flag Inv-entries μ-entries
-enum-known-flag c = search needs
+enum-known-flag c = omega arith
 
 enum-told : tie.Need-enum-told Inv-entries μ-entries
-enum-told c = search needs
+enum-told c = omega arith
 
 ran-out-requires-2 : tie.Need-ran-out-requires-2 Inv-entries μ-entries
-ran-out-requires-2 c κs = search needs
+ran-out-requires-2 c κs = omega arith
 
 no-calls-requires-2 : tie.Need-no-calls-requires-2 Inv-entries μ-entries
-no-calls-requires-2 c κs = search needs
+no-calls-requires-2 c κs = omega arith
 
 no-refusal-requires : tie.Need-no-refusal-requires Inv-entries μ-entries
-no-refusal-requires c κs = search needs
+no-refusal-requires c κs = omega arith
 
 add-t19 : tie.Need-add-t19 Inv-entries μ-entries
 add-t19 c = omega (arith, flag-within (c .before .before))
@@ -90,16 +90,16 @@ add-read : tie.Need-add-read Inv-entries μ-entries
 add-read c = omega (arith, flag-within (c .before))
 
 read-requires : tie.Need-read-requires Inv-entries μ-entries
-read-requires c κs = search needs
+read-requires c κs = omega arith
 
 no-calls-requires-3 : tie.Need-no-calls-requires-3 Inv-entries μ-entries
-no-calls-requires-3 c κs = search needs
+no-calls-requires-3 c κs = omega arith
 
 mul-calls : tie.Need-mul-calls Inv-entries μ-entries
-mul-calls c = search needs
+mul-calls c = omega arith
 
 array-set-from-calls : tie.Need-array-set-from-calls Inv-entries μ-entries
-array-set-from-calls c = search needs
+array-set-from-calls c = omega arith
 
 add-count : tie.Need-add-count Inv-entries μ-entries
 add-count c = omega (arith, flag-within (c .before .before .before .before .before), c .before .before .before .before .before .before .before .before .before .entries .inv .bound)

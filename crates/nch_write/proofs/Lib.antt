@@ -1,0 +1,3 @@
+pub mod Testing
+pub mod InRange
+pub mod Putting

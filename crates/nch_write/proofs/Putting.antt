@@ -1,0 +1,151 @@
+-- What the writer's loops and flags put: an item of each list behind its 1, and the numbers that are put as one. Assumes nothing.
+use mathlib.Core.Path.{_≡_, sym, ap, _∙_}
+use mathlib.Core.List.{List, [], _∷_, _++_}
+use mathlib.Core.Bool.{Bool, true, false, not}
+use Prim.Native.Nat.{ℕ, zero, suc, _+_, _*_, _^_, _≤_, _<_}
+use native.Mathlib.Omega.{arith}
+use native.Mathlib.Numerals.{add-one}
+use lib.ListN.{length, getD, take, set, replicate}
+use lib.Seq.{take-all, take-suc, take-suc-set}
+use lib.Dec.{leb, eqb}
+use borrow.Author.Tests.{ltb-true, leb-true, eqb-true, le-leb, lt-leb, eq-eqb, ne-eqb}
+use Rattle.bits.specs.Field.{both, pick, afterPut}
+use Rattle.csn1.specs.Format.{num, numBits, _⨟_, opt, putBits}
+use Rattle.csn1.specs.Grammar.{format}
+use Rattle.csn1.specs.Put.{Put}
+use Rattle.csn1.specs.Told.{there, asBit}
+use Rattle.csn1.proofs.Writing.{both-true, flag-lt}
+use Rattle.csn1.proofs.Putting.{Laid, laid-then, laid-row, laid-bit, laid, bits}
+use Rattle.call.specs.declared.Call.{Call}
+use Rattle.call.specs.Call.{groupCall, callValue, oneToEight}
+use Rattle.call.specs.Write.{callInRange, callIsLow, callLengthRight, callHopsRight, callSize, canPutCall, afterPutCall}
+use Rattle.call.proofs.Laws.{call-anywhere, sizeFrom, call-size}
+use Rattle.nch.specs.declared.Reduced.{Reduced}
+use Rattle.nch.specs.declared.Random.{Random}
+use Rattle.nch.specs.declared.Notification.{Notification}
+use Rattle.nch.specs.Octets.{reduced, random, notification}
+use Rattle.nch.specs.Told.{reducedValue, randomValue, valueOf}
+use Rattle.nch.specs.Write.{all, flaggedRight, callRight, recordRefusal, form, writeNumber, written, afterWrite}
+
+-- ## What the places and flags say
+
+pub all-at : {A : Type 0} (t : A → Bool) (z : A) (xs : List A) (n i : ℕ) → all t (take n xs) ≡ true → i < n → n ≤ length xs → t (getD xs i z) ≡ true
+unfolding all
+all-at t z [] n i e h l = absurd (omega arith)
+all-at t z (x ∷ xs) zero i e h l = absurd (omega arith)
+all-at t z (x ∷ xs) (suc n) zero e h l = both-true (t x) (all t (take n xs)) e .0
+all-at t z (x ∷ xs) (suc n) (suc i) e h l = all-at t z xs n i (both-true (t x) (all t (take n xs)) e .1) (omega arith) (omega arith)
+
+pub flag-limit : (h : Bool) (v n : ℕ) → flaggedRight h v n ≡ true → 0 < n → v < n
+flag-limit true v n e k = ltb-true v n e
+flag-limit false v n e k = omega (arith, eqb-true v 0 e)
+
+-- ## Numbers put as one, behind the leading 1
+
+-- d is b after they were put
+module _ (b d : List ℕ) (p : ℕ) (size : length b * 8 ≡ 160) where
+  pub mark-put : (m : Bool) (v : ℕ) → d ≡ afterPut b p 2 v → v ≡ 2 + asBit m → Laid 160 p (1 ∷ numBits 1 (asBit m)) (p + 2) b d
+  unfolding numBits
+  mark-put m v e x = laid-row b d p size (1 ∷ 1 ∷ []) (1 ∷ asBit m ∷ []) v e (omega arith) (omega arith) ((omega arith, (flag-lt m, tt)))
+
+  pub reduced-put : (r : Reduced) (v : ℕ) → r .reference < 2 ^ 27 → d ≡ afterPut b p 29 v → v ≡ 268435456 + r .reference * 2 + asBit (r .vgcs)
+      → Laid 160 p (1 ∷ format reduced .bits 160 (p + 1) (reducedValue r)) (p + 29) b d
+  unfolding numBits
+  reduced-put r v h e x =
+      laid-row b d p size (1 ∷ 27 ∷ 1 ∷ []) (1 ∷ reducedValue r) v e (omega arith) (omega arith) ((omega arith, (h, (flag-lt (r .vgcs), tt))))
+
+  pub sms-put : (t x y : Bool) (v : ℕ) → t ≡ true → d ≡ afterPut b p 3 v → v ≡ 4 + 2 * asBit x + asBit y
+      → Put (opt (num 1 ⨟ num 1)) 160 p (there t (asBit x, asBit y)) (p + 3) b d
+  unfolding numBits
+  sms-put t x y v h e k =
+      rw h (laid {F = opt (num 1 ⨟ num 1)} (laid-row b d p size (1 ∷ 1 ∷ 1 ∷ []) (1 ∷ asBit x ∷ asBit y ∷ []) v e (omega arith) (omega arith) ((omega arith, (flag-lt x, (flag-lt y, tt))))))
+
+  -- a random entry's flag and number go behind
+  pub random-put : (r : Random) (v q : ℕ) (e : List ℕ) → d ≡ afterPut b p 2 v → v ≡ 2 + asBit (r .segment) → Put (opt (num 36)) 160 (p + 2) (there (r .given) (r .rand)) q d e
+      → Laid 160 p (1 ∷ format random .bits 160 (p + 1) (randomValue r)) q b e
+  unfolding numBits
+  random-put r v q e x y f =
+      let k : p + 1 + 1 ≡ p + 2 = omega arith in
+      rw k (laid-then (mark-put (r .segment) v x y) (bits {F = opt (num 36)} f))
+
+-- ## A call
+
+-- k bits at p, put by `call::writer::put`
+call-laid : (b d : List ℕ) (p : ℕ) (c : Call) → length b ≡ 20 → callRight c ≡ true → d ≡ afterPutCall b p c → Laid 160 p (groupCall .bits 160 p (callValue c)) (p + callSize c) b d
+unfolding callSize canPutCall afterPutCall
+call-laid b d p c n r e =
+    record {
+      next = ap (λ (x : List ℕ). p + length x) (sym (call-anywhere 160 p (callValue c)));
+      same =
+          λ h.
+          e ∙ rw (r, le-leb (length b) 4096 (omega arith), le-leb (p + length (groupCall .bits 0 0 (callValue c))) (length b * 8) (omega arith))
+          (ap (putBits b p) (sym (call-anywhere 160 p (callValue c))));
+    }
+
+pub call-put : (b d e : List ℕ) (p : ℕ) (c : Call) → length b ≡ 20 → length d ≡ 20 → callRight c ≡ true → d ≡ afterPut b p 1 1 → e ≡ afterPutCall d (p + 1) c
+    → Laid 160 p (1 ∷ groupCall .bits 160 (p + 1) (callValue c)) (p + 1 + callSize c) b e
+call-put b d e p c n m r x y = laid-then (laid-bit b d p (omega arith) 1 x (omega arith)) (call-laid d e (p + 1) c m r y)
+
+pub call-short : (c : Call) → callRight c ≡ true → callSize c ≤ 135
+unfolding callLengthRight
+call-short c r =
+    let a = both-true (callInRange c) _ r in
+    let b = both-true (callIsLow c) _ (a .1) in
+    rw (call-size c) (go (c .described) (c .description .hopping) (c .description .shortlist) (both-true (callLengthRight c) (callHopsRight c) (b .1) .0))
+  where
+    go : (d h s : Bool) → pick (both d (both h (not s))) (oneToEight (c .description .length)) true ≡ true → sizeFrom d h s (c .description .length) ≤ 135
+    go false h s e = omega arith
+    go true false s e = omega arith
+    go true true true e = omega arith
+    go true true false e =
+        let n = c .description .length in
+        omega (arith, leb-true n 8 (both-true (leb 1 n) (leb n 8) e .1))
+
+-- ## A list copied
+
+pub copied-next : (f o : List ℕ) (i : ℕ) → take i o ≡ take i f → i < length o → i < length f → take (i + 1) (set o i (getD f i 0)) ≡ take (i + 1) f
+copied-next f o i e h k =
+    rw (add-one i) (take-suc-set o i (getD f i 0) h ∙ ap (λ (l : List ℕ). l ++ (getD f i 0 ∷ [])) e ∙ sym (take-suc f i 0 k))
+
+pub copied : (f o : List ℕ) (i : ℕ) → take i o ≡ take i f → length o ≤ i → length f ≤ i → o ≡ f
+copied f o i e h k = sym (take-all i o h) ∙ e ∙ take-all i f k
+
+-- ## What `write` answers
+
+-- r is the refusal of the record, and b the buffer
+module _ (m : Notification) (b : List ℕ) (r : ℕ) (x : r ≡ recordRefusal m) where
+  pub write-refused : (r ≡ 0 → ⊥) → (r ≡ writeNumber m (length b)) × (b ≡ afterWrite m b)
+  unfolding writeNumber afterWrite
+  write-refused h =
+      let e = ne-eqb (recordRefusal m) 0 (λ z. h (x ∙ z)) in
+      (rw e x, rw (e, e))
+
+  -- nothing is refused, and f is the form over padding
+  module _ (o : r ≡ 0) (used : ℕ) (f : List ℕ) (p : Put notification 160 0 (valueOf m) used (replicate 20 43) f) where
+    accepted : eqb (recordRefusal m) 0 ≡ true
+    accepted = eq-eqb (recordRefusal m) 0 (sym x ∙ o)
+
+    size-is : used ≡ length (form m)
+    unfolding form
+    size-is = p .next ∙ omega arith
+
+    -- and the form is not put into the buffer
+    refused : both (leb (length (form m)) 160) (eqb (length b) 20) ≡ false → (11 ≡ writeNumber m (length b)) × (b ≡ afterWrite m b)
+    unfolding writeNumber afterWrite
+    refused e = (rw (accepted, e), rw (accepted, e))
+
+    pub write-long : 160 < used → (11 ≡ writeNumber m (length b)) × (b ≡ afterWrite m b)
+    write-long h = refused (rw (lt-leb (length (form m)) 160 (omega (arith, size-is))))
+
+    module _ (h : used ≤ 160) where
+      short : leb (length (form m)) 160 ≡ true
+      short = le-leb (length (form m)) 160 (omega (arith, size-is))
+
+      pub write-elsewhere : (length b ≡ 20 → ⊥) → (11 ≡ writeNumber m (length b)) × (b ≡ afterWrite m b)
+      write-elsewhere n = refused (rw (short, ne-eqb (length b) 20 n))
+
+      pub write-done : length b ≡ 20 → (d : List ℕ) → d ≡ f → (0 ≡ writeNumber m (length b)) × (d ≡ afterWrite m b)
+      unfolding writeNumber afterWrite written form
+      write-done n d e =
+          let t = eq-eqb (length b) 20 n in
+          (rw (accepted, short, t), rw (accepted, short, t) (e ∙ p .same h))

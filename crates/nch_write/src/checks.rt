@@ -1,0 +1,319 @@
+// What the writer refuses, one test for each number of document 01's table, over the whole record.
+ghost use mathlib.Core.Path.{_≡_};
+ghost use mathlib.Core.Bool.{not};
+ghost use lib.ListN.{take};
+ghost use Rattle.bits.specs.Field.{both};
+ghost use Rattle.call.specs.Write.{callInRange, callIsZero, callIsLow, callLengthRight, callHopsRight};
+ghost use Rattle.nch.specs.Write.{placesRight, all, flaggedRight, behind, reducedInRange, reducedIsZero, reducedIsLow, randomInRange, randomIsZero, yes, release6InRange, flagsInRange, release7InRange, inRange, recordRefusal};
+use call::Call;
+use nch::Notification;
+use nch::Random;
+use nch::Reduced;
+use nch::Release6;
+use nch::Release7;
+use nch::calls;
+
+// A number behind a flag: below its limit, and 0 where the flag is not set.
+fn flagged_right(there: bool, v: u64, limit: u64) -> bool
+    ensures { λ r. ⌜ r ≡ flaggedRight there v limit ⌝ }
+{
+    if there {
+        return v < limit;
+    }
+    v == 0
+}
+
+// A bit behind a flag: not set where the flag is not.
+fn bit_right(there: bool, b: bool) -> bool
+    ensures { λ r. ⌜ r ≡ behind there b ⌝ }
+{
+    if there {
+        return true;
+    }
+    !b
+}
+
+fn calls_in_range(calls: [Call; 4], n: usize) -> bool
+    ensures { λ r. ⌜ r ≡ placesRight callInRange callIsZero n calls ⌝ }
+{
+    let mut i: usize = 0;
+    while i < 4 {
+        let c = calls[i];
+        if i < n {
+            if !call::writer::in_range(c) {
+                return false;
+            }
+        } else {
+            if !call::writer::is_zero(c) {
+                return false;
+            }
+        }
+        i += 1;
+    }
+    true
+}
+
+fn reduced_is_zero(c: Reduced) -> bool
+    ensures { λ r. ⌜ r ≡ reducedIsZero c ⌝ }
+{
+    if c.reference != 0 {
+        return false;
+    }
+    !c.vgcs
+}
+
+fn reduceds_in_range(items: [Reduced; 5], n: usize) -> bool
+    ensures { λ r. ⌜ r ≡ placesRight reducedInRange reducedIsZero n items ⌝ }
+{
+    let mut i: usize = 0;
+    while i < 5 {
+        let c = items[i];
+        if i < n {
+            if 134217727 < c.reference {
+                return false;
+            }
+        } else {
+            if !reduced_is_zero(c) {
+                return false;
+            }
+        }
+        i += 1;
+    }
+    true
+}
+
+fn random_is_zero(c: Random) -> bool
+    ensures { λ r. ⌜ r ≡ randomIsZero c ⌝ }
+{
+    if c.segment {
+        return false;
+    }
+    if c.given {
+        return false;
+    }
+    c.rand == 0
+}
+
+fn randoms_in_range(items: [Random; 9], n: usize) -> bool
+    ensures { λ r. ⌜ r ≡ placesRight randomInRange randomIsZero n items ⌝ }
+{
+    let mut i: usize = 0;
+    while i < 9 {
+        let c = items[i];
+        if i < n {
+            if !flagged_right(c.given, c.rand, 68719476736) {
+                return false;
+            }
+        } else {
+            if !random_is_zero(c) {
+                return false;
+            }
+        }
+        i += 1;
+    }
+    true
+}
+
+fn marks_in_range(marks: [bool; 4], n: usize) -> bool
+    ensures { λ r. ⌜ r ≡ placesRight yes not n marks ⌝ }
+{
+    let mut i: usize = 0;
+    while i < 4 {
+        let m = marks[i];
+        if n <= i {
+            if m {
+                return false;
+            }
+        }
+        i += 1;
+    }
+    true
+}
+
+fn release6_in_range(r: Release6) -> bool
+    ensures { λ b. ⌜ b ≡ release6InRange r ⌝ }
+{
+    if 5 < r.reducedcount {
+        return false;
+    }
+    if 9 < r.randomcount {
+        return false;
+    }
+    if !r.there {
+        if r.counted {
+            return false;
+        }
+        if r.reducedcount != 0 {
+            return false;
+        }
+        if r.randomcount != 0 {
+            return false;
+        }
+    }
+    if !flagged_right(r.counted, r.cellcount as u64, 4) {
+        return false;
+    }
+    let reduced = r.reduced;
+    if !reduceds_in_range(reduced, r.reducedcount) {
+        return false;
+    }
+    let randoms = r.randoms;
+    randoms_in_range(randoms, r.randomcount)
+}
+
+// The parts of Release 7 that are bits and numbers behind flags.
+fn flags_in_range(r: Release7) -> bool
+    ensures { λ b. ⌜ b ≡ flagsInRange r ⌝ }
+{
+    if !bit_right(r.uplinked, r.uplink) {
+        return false;
+    }
+    if !bit_right(r.amr, r.fullrated) {
+        return false;
+    }
+    if !bit_right(r.amr, r.halfrated) {
+        return false;
+    }
+    if !flagged_right(r.fullrated, r.fullrate as u64, 16) {
+        return false;
+    }
+    if !flagged_right(r.halfrated, r.halfrate as u64, 16) {
+        return false;
+    }
+    if !bit_right(r.sms, r.confidential) {
+        return false;
+    }
+    bit_right(r.sms, r.private)
+}
+
+fn release7_in_range(r: Release7) -> bool
+    ensures { λ b. ⌜ b ≡ release7InRange r ⌝ }
+{
+    if 4 < r.markcount {
+        return false;
+    }
+    if !r.there {
+        if r.markcount != 0 {
+            return false;
+        }
+        if r.uplinked {
+            return false;
+        }
+        if r.amr {
+            return false;
+        }
+        if r.sms {
+            return false;
+        }
+    }
+    let marks = r.marks;
+    if !marks_in_range(marks, r.markcount) {
+        return false;
+    }
+    flags_in_range(r)
+}
+
+// Refusal 12 is not due.
+pub fn in_range(m: Notification) -> bool
+    ensures { λ r. ⌜ r ≡ inRange m ⌝ }
+{
+    if 4 < m.callcount {
+        return false;
+    }
+    if !flagged_right(m.numbered, m.nln as u64, 4) {
+        return false;
+    }
+    let calls = m.calls;
+    if !calls_in_range(calls, m.callcount) {
+        return false;
+    }
+    let six = m.release6;
+    if !release6_in_range(six) {
+        return false;
+    }
+    let seven = m.release7;
+    release7_in_range(seven)
+}
+
+// What three refusals ask of all calls in use.
+struct Tested {
+    low: bool,
+    lengths: bool,
+    hops: bool,
+}
+
+fn both_hold(a: bool, b: bool) -> bool
+    ensures { λ r. ⌜ r ≡ both a b ⌝ }
+{
+    if a {
+        return b;
+    }
+    false
+}
+
+fn calls_tested(calls: [Call; 4], n: usize) -> Tested
+    ensures { λ r. ⌜ (r .low ≡ all callIsLow (take n calls)) × ((r .lengths ≡ all callLengthRight (take n calls)) × (r .hops ≡ all callHopsRight (take n calls))) ⌝ }
+{
+    let mut low = true;
+    let mut lengths = true;
+    let mut hops = true;
+    let mut i: usize = 0;
+    while i < 4 {
+        let c = calls[i];
+        if i < n {
+            low = both_hold(low, call::writer::is_low(c));
+            lengths = both_hold(lengths, call::writer::length_right(c));
+            hops = both_hold(hops, call::writer::hops_right(c));
+        }
+        i += 1;
+    }
+    Tested { low, lengths, hops }
+}
+
+fn reduceds_low(items: [Reduced; 5], n: usize) -> bool
+    ensures { λ r. ⌜ r ≡ all reducedIsLow (take n items) ⌝ }
+{
+    let mut i: usize = 0;
+    while i < 5 {
+        let c = items[i];
+        if i < n {
+            if 99999999 < c.reference {
+                return false;
+            }
+        }
+        i += 1;
+    }
+    true
+}
+
+// The number of the first refusal that is due before the written form is looked at: 12, 4, 3, 5, 6, 7, or 0 where none is.
+pub fn refusal(m: Notification) -> u8
+    ensures { λ r. ⌜ r ≡ recordRefusal m ⌝ }
+{
+    if !in_range(m) {
+        return 12;
+    }
+    let cs = m.calls;
+    let six = m.release6;
+    let reduced = six.reduced;
+    let t = calls_tested(cs, m.callcount);
+    if !t.low {
+        return 4;
+    }
+    if !reduceds_low(reduced, six.reducedcount) {
+        return 4;
+    }
+    if !t.lengths {
+        return 3;
+    }
+    if !t.hops {
+        return 5;
+    }
+    if calls::count_ciphered(cs, m.callcount) + six.reducedcount < six.randomcount {
+        return 6;
+    }
+    if calls::count_described(cs, m.callcount) < m.release7.markcount {
+        return 7;
+    }
+    0
+}
