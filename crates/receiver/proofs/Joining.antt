@@ -12,7 +12,8 @@ use Rattle.bits.specs.Field.{pick}
 use Rattle.receiver.specs.declared.Record.{Record}
 use Rattle.receiver.specs.Model.{agree, joinedOf}
 use Rattle.receiver.specs.One.{Channel, onNch, onFacch, Kind, clear, piece, first, second, bare, unusable, kindOf, Which, theFirst, theSecond, Half, One, Said, Heard, met, meetKind, meetOne, Sight, nothing, joins, leavesCell, handsOver, reconfigures, message, aged, changed, heldAfter, saidOf, spared}
-use Rattle.receiver.specs.Promises.{Opposite, Opposite-held, joinedWith}
+use Rattle.receiver.specs.History.{Opposite}
+use Rattle.receiver.specs.Promises.{Opposite-held, joinedWith}
 
 -- ## One entry
 

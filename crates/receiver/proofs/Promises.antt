@@ -1,14 +1,19 @@
 -- The promises of specs/Promises. Assumes nothing.
-use mathlib.Core.Path.{refl, ap}
+use mathlib.Core.Path.{refl, sym, ap, _∙_}
+use mathlib.Core.List.{List, []}
 use mathlib.Core.Option.{Option}
 use lib.Dec.{eqb}
 use borrow.Author.Tests.{eqb-false}
+use Rattle.csn1.specs.declared.Refusal.{Refusal}
 use Rattle.receiver.specs.Model.{noRecord, timerAt, sweptSlots, expiredOf, droppedOf}
 use Rattle.receiver.specs.Step.{tickOf, refusalOf, ruleOf, stepOf}
-use Rattle.receiver.specs.One.{Half, One, spared, entriesIn, passed, stepSaid}
-use Rattle.receiver.specs.Promises.{No-call-disturbs-another, Joins-exactly-when, A-refused-event-changes-nothing, The-wrapped-difference-is-the-sum, Every-lost-half-is-counted-once, Expiries-and-drops-are-counted-apart}
+use Rattle.receiver.specs.One.{Half, One, spared, entriesIn, passed, stepSaid, fresh}
+use Rattle.receiver.specs.History.{Moment, untilEntry, pastOf}
+use Rattle.receiver.specs.Promises.{No-call-disturbs-another, Joins-exactly-when, oneAfter, Held-is-history, Joins-exactly-when-over-history, A-refused-event-changes-nothing, The-number-is-on-its-ground, The-wrapped-difference-is-the-sum, Every-lost-half-is-counted-once, Expiries-and-drops-are-counted-apart}
 use Rattle.receiver.proofs.Dropping.{by-test, expired-all, dropped-all, lost-all}
 use Rattle.receiver.proofs.Joining.{young-aged, young-spared, joins-only, joins-then}
+use Rattle.receiver.proofs.Grounds.{refused-as, late-first, in-time, on-ground}
+use Rattle.receiver.proofs.History.{came, stayed, held-after, held-until}
 use Rattle.receiver.proofs.Isolation.{isolated, viewed}
 use Rattle.receiver.proofs.Beginning.{started, starts, started-good, started-view, started-timer}
 
@@ -28,10 +33,39 @@ joins-exactly-when key c timer long s v k l =
     let y = young-spared timer key c (passed timer s (v .step)) (v .sight) (young-aged timer (v .step) (s .held)) in
     (joins-only c timer long h y (entriesIn (v .sight)) k l _ noRecord, joins-then c timer long h y (entriesIn (v .sight)) k l _ noRecord)
 
+pub held-is-history : Held-is-history
+held-is-history key c timer long vs h =
+    let q = held-after key c timer vs in
+    (λ p. came key c timer long (pastOf [] vs) h (sym q ∙ p), λ o. q ∙ stayed key c timer long (pastOf [] vs) h o)
+
+pub joins-exactly-when-over-history : Joins-exactly-when-over-history
+joins-exactly-when-over-history key c timer long vs v k l =
+    let s : One = oneAfter key c timer fresh vs in
+    let past : List Moment = untilEntry (pastOf [] vs) v k in
+    let q = held-until key c timer vs v k in
+    let j = joins-exactly-when key c timer long s v k l in (
+      λ p.
+          let o = j .0 p in
+          record { half = o .half; history = came key c timer long past (o .half) (sym q ∙ o .held); opposite = o .opposite; agrees = o .agrees },
+      λ o.
+          j .1 (record {
+            half = o .half;
+            held = q ∙ stayed key c timer long past (o .half) (o .history);
+            young = o .history .young;
+            opposite = o .opposite;
+            agrees = o .agrees;
+          }) .0,
+    )
+
 pub a-refused-event-changes-nothing : A-refused-event-changes-nothing
 unfolding stepOf
 a-refused-event-changes-nothing r e n =
     by-test (eqb (refusalOf r e .number) 0) (λ p. absurd ((rw p at n) refl)) (λ p. rw p)
+
+pub the-number-is-on-its-ground : The-number-is-on-its-ground
+the-number-is-on-its-ground r e =
+    let w = ap (λ (x : Refusal). x .number) (refused-as r e) in
+    (λ h. w ∙ late-first r e h, λ h. on-ground e (stepOf r e .refusal .number) (w ∙ in-time r e h), refused-as r e)
 
 pub every-lost-half-is-counted-once : Every-lost-half-is-counted-once
 unfolding stepOf sweptSlots expiredOf droppedOf

@@ -1,13 +1,15 @@
 -- What is promised of the receiver (demand 3, and the identity of refused events). Assumes nothing.
 use mathlib.Core.Path.{_≡_}
 use mathlib.Core.List.{List, [], _∷_, _++_}
-use mathlib.Core.Bool.{Bool, true, false, not}
+use mathlib.Core.Bool.{true, not}
 use mathlib.Core.Option.{Option, none, some}
 use Prim.Native.Nat.{ℕ, zero, suc, _+_, _*_, _<_, _≤_}
 use lib.ListN.{length, take, getD}
 use lib.Dec.{eqb}
 use Rattle.bits.specs.Field.{both, pick}
 use Rattle.csn1.specs.Told.{asBit}
+use Rattle.nch.specs.Told.{readOf}
+use Rattle.facch.specs.Told.{readOf as readFacch}
 use Rattle.receiver.specs.declared.Record.{Record}
 use Rattle.receiver.specs.declared.Receiver.{Receiver}
 use Rattle.receiver.specs.declared.Slot.{Slot}
@@ -16,8 +18,9 @@ use Rattle.receiver.specs.declared.Answer.{Answer}
 use Rattle.receiver.specs.declared.Setup.{Setup}
 use Rattle.receiver.specs.declared.Rule.the-variants.{Keep}
 use Rattle.receiver.specs.Model.{noRecord, emptySlot, wrapSub, indexOf, isHeld, sweptSlots, agree, joinedOf, startedOf}
-use Rattle.receiver.specs.Step.{Event, nch, facch, joined, reselected, handedOver, reconfigured, tick, tickOf, ruleOf, stepOf}
-use Rattle.receiver.specs.One.{Channel, onNch, onFacch, Kind, clear, piece, first, second, bare, unusable, kindOf, Which, theFirst, theSecond, Half, One, Said, Seen, seen, heldAfter, spared, entriesIn, passed, stepOne, stepSaid, runOne, fresh}
+use Rattle.receiver.specs.Step.{Event, nch, facch, joined, reselected, handedOver, reconfigured, tick, tickOf, refusalOf, ruleOf, stepOf}
+use Rattle.receiver.specs.One.{Channel, onNch, onFacch, kindOf, Which, theFirst, theSecond, Half, One, Said, Seen, seen, heldAfter, spared, entriesIn, passed, stepOne, stepSaid, runOne, fresh}
+use Rattle.receiver.specs.History.{Moment, untilEntry, pastOf, Opposite, Came-and-stayed}
 
 -- ## 1. Isolation
 
@@ -67,17 +70,6 @@ No-call-disturbs-another =
 
 -- ## 2. When the one-call receiver joins
 
--- a first half is opposite to a second
-abbrev pub Opposite : Kind → Which → Type 0
-Opposite clear w = ⊥
-Opposite piece w = ⊥
-Opposite first theFirst = ⊥
-Opposite first theSecond = Unit {0}
-Opposite second theFirst = Unit {0}
-Opposite second theSecond = ⊥
-Opposite bare w = ⊥
-Opposite unusable w = ⊥
-
 -- where h is held, the entry is a half, the opposite one is held and has not run out, and their references agree
 pub record Opposite-held (c : Channel) (timer : ℕ) (h : Option Half) (e : Record) : Type 0 where
   pub half : Half
@@ -116,21 +108,68 @@ Joins-exactly-when =
     × ((o : Opposite-held c timer (heldBefore key c timer s v k) (entryAt v k))
     → (saidAt key c timer s v k ≡ record { number = 3; told = joinedWith (o .half) (entryAt v k) }) × (heldBefore key c timer s v (suc k) ≡ none))
 
+-- the one-call receiver after what it saw
+unfoldable pub oneAfter : ℕ → Channel → ℕ → One → List Seen → One
+oneAfter key c timer s [] = s
+oneAfter key c timer s (v ∷ vs) = oneAfter key c timer (stepOne key c timer s v) vs
+
+-- the opposite half came in the past, nothing discarded it since, and their references agree
+pub record Opposite-came (key : ℕ) (c : Channel) (timer : ℕ) (past : List Moment) (e : Record) : Type 0 where
+  pub half : Half
+  pub history : Came-and-stayed key c timer past half
+  pub opposite : Opposite (kindOf c e) (half .which)
+  pub agrees : agree (half .entry) e ≡ true
+
+-- what the receiver holds after any events is the half that came and stayed
+abbrev pub Held-is-history : Type 0
+Held-is-history =
+    (key : ℕ) (c : Channel) (timer : ℕ)
+    → 1 ≤ timer
+    → (vs : List Seen) (h : Half)
+    → (oneAfter key c timer fresh vs .held ≡ some h → Came-and-stayed key c timer (pastOf [] vs) h)
+    × (Came-and-stayed key c timer (pastOf [] vs) h → oneAfter key c timer fresh vs .held ≡ some h)
+
+-- After any events, the k-th entry of the next one is told 3 exactly where the opposite half came and nothing discarded it since.
+abbrev pub Joins-exactly-when-over-history : Type 0
+Joins-exactly-when-over-history =
+    (key : ℕ) (c : Channel) (timer : ℕ)
+    → 1 ≤ timer
+    → (vs : List Seen) (v : Seen) (k : ℕ)
+    → k < length (entriesIn (v .sight))
+    → (saidAt key c timer (oneAfter key c timer fresh vs) v k .number ≡ 3
+    → Opposite-came key c timer (untilEntry (pastOf [] vs) v k) (entryAt v k))
+    × ((o : Opposite-came key c timer (untilEntry (pastOf [] vs) v k) (entryAt v k))
+    → saidAt key c timer (oneAfter key c timer fresh vs) v k ≡ record { number = 3; told = joinedWith (o .half) (entryAt v k) })
+
 -- ## 3. A refused event
 
 abbrev pub A-refused-event-changes-nothing : Type 0
 A-refused-event-changes-nothing = (r : Receiver) (e : Event) → (stepOf r e .refusal .number ≡ 0 → ⊥) → stepOf r e .receiver ≡ r
 
+-- the number that an event in time carries: its message's own, 4 exactly where a joined key is above 199,999,999, none otherwise
+abbrev pub On-ground : Event → ℕ → Type 0
+On-ground (nch t s) n = n ≡ readOf s .refusal .number
+On-ground (facch t s) n = n ≡ readFacch s .refusal .number
+On-ground (joined t k) n = (k ≤ 199999999 → n ≡ 0) × (199999999 < k → n ≡ 4)
+On-ground (reselected t) n = n ≡ 0
+On-ground (handedOver t) n = n ≡ 0
+On-ground (reconfigured t) n = n ≡ 0
+On-ground (tick t) n = n ≡ 0
+
+-- a step of 2^31 or more is 9 whatever else is wrong; else the number is on the event's own ground; and it is the one that `refusalOf` names
+abbrev pub The-number-is-on-its-ground : Type 0
+The-number-is-on-its-ground =
+    (r : Receiver) (e : Event)
+    → (2147483648 ≤ wrapSub (tickOf e) (r .tick) → stepOf r e .refusal .number ≡ 9)
+    × (wrapSub (tickOf e) (r .tick) < 2147483648 → On-ground e (stepOf r e .refusal .number))
+    × (stepOf r e .refusal ≡ refusalOf r e)
+
 -- ## 4. Time that has passed
 
--- both receivers after events
+-- the receiver after events
 unfoldable pub after : Receiver → List Event → Receiver
 after r [] = r
 after r (e ∷ es) = after (stepOf r e .receiver) es
-
-unfoldable pub oneAfter : ℕ → Channel → ℕ → One → List Seen → One
-oneAfter key c timer s [] = s
-oneAfter key c timer s (v ∷ vs) = oneAfter key c timer (stepOne key c timer s v) vs
 
 abbrev pub numberOf : Channel → ℕ
 numberOf onNch = 0

@@ -1,0 +1,40 @@
+-- The number of a refused event is on its ground, in the table's order. Assumes nothing.
+use mathlib.Core.Path.{_≡_, sym, ap, _∙_}
+use Prim.Native.Nat.{ℕ, _≤_, _<_}
+use lib.Dec.{eqb}
+use borrow.Author.Tests.{eqb-true, le-leb, lt-leb}
+use Rattle.csn1.specs.declared.Refusal.{Refusal}
+use Rattle.csn1.specs.Format.{noRefusal, ground}
+use Rattle.receiver.specs.declared.Receiver.{Receiver}
+use Rattle.receiver.specs.Model.{wrapSub, late}
+use Rattle.receiver.specs.Step.{Event, nch, facch, joined, reselected, handedOver, reconfigured, tick, tickOf, groundsOf, refusalOf, stepOf}
+use Rattle.receiver.specs.Promises.{On-ground}
+use Rattle.receiver.proofs.Dropping.{by-test}
+
+-- a refusal is its number alone, so that number 0 is no refusal
+no-number : (w : Refusal) → w .number ≡ 0 → noRefusal ≡ w
+no-number w z = ap (λ (n : ℕ). record { number = n }) (sym z)
+
+-- what is refused is what refuses
+pub refused-as : (r : Receiver) (e : Event) → stepOf r e .refusal ≡ refusalOf r e
+unfolding stepOf
+refused-as r e =
+    by-test (eqb (refusalOf r e .number) 0) (λ p. rw p (no-number (refusalOf r e) (eqb-true (refusalOf r e .number) 0 p))) (λ p. rw p)
+
+pub late-first : (r : Receiver) (e : Event) → 2147483648 ≤ wrapSub (tickOf e) (r .tick) → refusalOf r e .number ≡ 9
+unfolding refusalOf late ground
+late-first r e h = rw (le-leb 2147483648 (wrapSub (tickOf e) (r .tick)) h)
+
+pub in-time : (r : Receiver) (e : Event) → wrapSub (tickOf e) (r .tick) < 2147483648 → refusalOf r e .number ≡ groundsOf e .number
+unfolding refusalOf late
+in-time r e h = rw (lt-leb 2147483648 (wrapSub (tickOf e) (r .tick)) h)
+
+pub on-ground : (e : Event) (n : ℕ) → n ≡ groundsOf e .number → On-ground e n
+unfolding ground
+on-ground (nch t s) n q = q
+on-ground (facch t s) n q = q
+on-ground (joined t k) n q = (λ h. q ∙ rw (le-leb k 199999999 h), λ h. q ∙ rw (lt-leb k 199999999 h))
+on-ground (reselected t) n q = q
+on-ground (handedOver t) n q = q
+on-ground (reconfigured t) n q = q
+on-ground (tick t) n q = q

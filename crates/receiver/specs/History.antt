@@ -1,0 +1,165 @@
+-- What a call has seen, moment by moment, and the half that came and that nothing discarded since. No state of a receiver is used. Assumes nothing.
+use mathlib.Core.Path.{_≡_}
+use mathlib.Core.Logic.{_⊎_}
+use mathlib.Core.List.{List, [], _∷_, _++_, map}
+use mathlib.Core.Bool.{true}
+use mathlib.Core.Option.{Option, none, some}
+use Prim.Native.Nat.{ℕ, _+_, _-_, _≤_, _<_}
+use lib.ListN.{take}
+use Rattle.receiver.specs.declared.Record.{Record}
+use Rattle.receiver.specs.Model.{agree}
+use Rattle.receiver.specs.One.{Channel, onNch, onFacch, Kind, clear, piece, first, second, bare, unusable, kindOf, Which, theFirst, theSecond, Half, Sight, nothing, joins, leavesCell, handsOver, reconfigures, message, Seen, entriesIn}
+
+-- ## Moments
+
+pub data Moment : Type 0 where
+  -- milliseconds from one accepted event to the next
+  wait : ℕ → Moment
+  -- a call of a key is joined
+  join : ℕ → Moment
+  reselection handover reconfiguration : Moment
+  -- a message's NLN, before its entries
+  nln : ℕ → Moment
+  entry : Record → Moment
+
+-- what an event is besides its entries
+abbrev pub opening : Sight → List Moment
+opening nothing = []
+opening (joins k) = join k ∷ []
+opening leavesCell = reselection ∷ []
+opening handsOver = handover ∷ []
+opening reconfigures = reconfiguration ∷ []
+opening (message none es) = []
+opening (message (some n) es) = nln n ∷ []
+
+-- a past, its latest moment first, followed by moments in order
+abbrev pub followed : List Moment → List Moment → List Moment
+followed past [] = past
+followed past (m ∷ ms) = followed (m ∷ past) ms
+
+-- an event before its entries, as far as its first k, and the whole of it
+abbrev pub opened : List Moment → Seen → List Moment
+opened past v = followed (wait (v .step) ∷ past) (opening (v .sight))
+
+abbrev pub untilEntry : List Moment → Seen → ℕ → List Moment
+untilEntry past v k = followed (opened past v) (map entry (take k (entriesIn (v .sight))))
+
+abbrev pub afterEvent : List Moment → Seen → List Moment
+afterEvent past v = followed (opened past v) (map entry (entriesIn (v .sight)))
+
+-- all moments of what was seen
+unfoldable pub pastOf : List Moment → List Seen → List Moment
+pastOf past [] = past
+pastOf past (v ∷ vs) = pastOf (afterEvent past v) vs
+
+-- the last NLN seen, unknown at the start
+abbrev pub lastNln : List Moment → Option ℕ
+lastNln [] = none
+lastNln (wait t ∷ past) = lastNln past
+lastNln (join k ∷ past) = lastNln past
+lastNln (reselection ∷ past) = lastNln past
+lastNln (handover ∷ past) = lastNln past
+lastNln (reconfiguration ∷ past) = lastNln past
+lastNln (nln n ∷ past) = some n
+lastNln (entry e ∷ past) = lastNln past
+
+-- the sum of the steps
+abbrev pub took : Moment → ℕ
+took (wait t) = t
+took (join k) = 0
+took reselection = 0
+took handover = 0
+took reconfiguration = 0
+took (nln n) = 0
+took (entry e) = 0
+
+abbrev pub elapsed : List Moment → ℕ
+elapsed [] = 0
+elapsed (m ∷ past) = elapsed past + took m
+
+-- ## What comes, and what discards
+
+-- a first half is opposite to a second
+abbrev pub Opposite : Kind → Which → Type 0
+Opposite clear w = ⊥
+Opposite piece w = ⊥
+Opposite first theFirst = ⊥
+Opposite first theSecond = Unit {0}
+Opposite second theFirst = Unit {0}
+Opposite second theSecond = ⊥
+Opposite bare w = ⊥
+Opposite unusable w = ⊥
+
+-- a half that is stored where nothing is held: on the FACCH the first only
+abbrev pub Storable : Channel → Kind → Which → Type 0
+Storable c clear w = ⊥
+Storable c piece w = ⊥
+Storable c first theFirst = Unit {0}
+Storable c first theSecond = ⊥
+Storable c second theFirst = ⊥
+Storable onNch second theSecond = Unit {0}
+Storable onFacch second theSecond = ⊥
+Storable c bare w = ⊥
+Storable c unusable w = ⊥
+
+-- the NLN is no change: none was seen before, or the same one
+abbrev pub Same-nln : Option ℕ → ℕ → Type 0
+Same-nln none n = Unit {0}
+Same-nln (some l) n = l ≡ n
+
+abbrev pub Not-nch : Channel → Type 0
+Not-nch onNch = ⊥
+Not-nch onFacch = Unit {0}
+
+abbrev pub Not-facch : Channel → Type 0
+Not-facch onNch = Unit {0}
+Not-facch onFacch = ⊥
+
+-- the moment after a past does not discard the half w of entry e: no join of another key, no change of cell on the NCH, no handover or reconfiguration
+-- on the FACCH, no change of NLN (only the NCH shows one), no entry that joined with it. Time is counted apart.
+abbrev pub Spares : ℕ → Channel → List Moment → Which → Record → Moment → Type 0
+Spares key c past w e (wait t) = Unit {0}
+Spares key c past w e (join k) = k ≡ key
+Spares key c past w e reselection = Not-nch c
+Spares key c past w e handover = Not-facch c
+Spares key c past w e reconfiguration = Not-facch c
+Spares key c past w e (nln n) = Same-nln (lastNln past) n
+Spares key c past w e (entry x) = Opposite (kindOf c x) w → agree e x ≡ true → ⊥
+
+-- ## The half that stands
+
+-- the moment is the coming of the half
+abbrev pub Begins : Channel → Half → Moment → Type 0
+Begins c h (wait t) = ⊥
+Begins c h (join k) = ⊥
+Begins c h reselection = ⊥
+Begins c h handover = ⊥
+Begins c h reconfiguration = ⊥
+Begins c h (nln n) = ⊥
+Begins c h (entry e) = (e ≡ h .entry) × (h .age ≡ 0) × Storable c (kindOf c e) (h .which)
+
+abbrev pub younger : ℕ → Half → Half
+younger t h = record { which = h .which; age = h .age - t; entry = h .entry }
+
+-- a half stands where the last moment spared one that stood, and it is not as old as its timer; or where that moment was its coming, and none stood
+unfoldable pub Standing : ℕ → Channel → ℕ → List Moment → Half → Type 0
+Standing key c timer [] h = ⊥
+Standing key c timer (m ∷ past) h =
+    (Spares key c past (h .which) (h .entry) m × (took m ≤ h .age) × (h .age < timer) × Standing key c timer past (younger (took m) h))
+    ⊎ (Begins c h m × ((g : Half) → Standing key c timer past g → ⊥))
+
+-- each later moment, after what was before it, spares the half
+abbrev pub All-spare : ℕ → Channel → Which → Record → List Moment → List Moment → Type 0
+All-spare key c w e before [] = Unit {0}
+All-spare key c w e before (m ∷ later) = Spares key c (later ++ before) w e m × All-spare key c w e before later
+
+-- The history of a half that stands: it came where none stood, nothing discarded it later, and the steps since then are its age, below its timer.
+pub record Came-and-stayed (key : ℕ) (c : Channel) (timer : ℕ) (past : List Moment) (h : Half) : Type 0 where
+  pub before : List Moment
+  pub later : List Moment
+  pub split : past ≡ later ++ (entry (h .entry) ∷ before)
+  pub half : Storable c (kindOf c (h .entry)) (h .which)
+  pub free : (g : Half) → Standing key c timer before g → ⊥
+  pub spared : All-spare key c (h .which) (h .entry) (entry (h .entry) ∷ before) later
+  pub summed : elapsed later ≡ h .age
+  pub young : h .age < timer
