@@ -3,9 +3,10 @@
 set -u
 cd "$(dirname "$0")/.." || exit 1
 passed=0 failed=0
-for name in nch facch gcc; do
+for crate in nch_vectors facch_vectors gcc_vectors receiver_events; do
+    name=${crate%_vectors}
     for part in stdin stdout; do
-        if tools/expected $name $part | cmp - crates/${name}_vectors/$part; then passed=$((passed + 1)); else failed=$((failed + 1)); fi
+        if tools/expected "${name#receiver_}" $part | cmp - crates/$crate/$part; then passed=$((passed + 1)); else failed=$((failed + 1)); fi
     done
 done
 echo "$passed passed, $failed failed"
