@@ -86,3 +86,11 @@ module _ (s : List ℕ) (at w : ℕ) (r : Bool) (e : r ≡ inside s at w) where
   put-inside v q t p n f m a g =
       let c : canPut s at w v ≡ true = rw (there n) (sym f ∙ not-false q m) in
       (sym c, rw c (g ∙ ap (λ (x : ℕ). setField s x w v) a))
+
+-- ## Answers, where the place says whether the bits are there
+
+pub fetched-here : (s : List ℕ) (at w v : ℕ) → w ≤ 64 → at + w ≤ length s * 8 → v ≡ field s at w → Bits v ≡ fetched s at w
+fetched-here s at w v h l f = fetched-bits s at w true (in-reach (length s) at w h l) v refl f
+
+pub fetched-gone : (s : List ℕ) (at w : ℕ) → length s * 8 < at + w → Short ≡ fetched s at w
+fetched-gone s at w h = fetched-short s at w false (run-out (length s) at w h) refl

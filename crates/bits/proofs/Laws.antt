@@ -25,6 +25,11 @@ pub field-suc : (s : List ℕ) (at w : ℕ) → field s at (suc w) ≡ field s a
 unfolding field
 field-suc s at w = refl
 
+-- a field of one bit
+pub field-one : (s : List ℕ) (at : ℕ) → field s at 1 ≡ getD s (at / 8) 0 / 2 ^ (7 - at % 8) % 2
+unfolding field bit
+field-one s at = rw add-zero (omega arith)
+
 pub field-lt : (s : List ℕ) (at w : ℕ) → field s at w < 2 ^ w
 unfolding field
 field-lt s at zero = omega arith

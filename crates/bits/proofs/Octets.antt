@@ -2,7 +2,7 @@
 use mathlib.Core.Path.{_≡_, refl, sym, ap, ap₂, _∙_, subst}
 use mathlib.Core.List.{List}
 use Prim.Native.Nat.{ℕ, zero, suc, _+_, _-_, _*_, _/_, _%_, _^_, _≤_, _<_}
-use native.Mathlib.Nat.{add-zero, add-suc, add-comm, add-assoc, mul-assoc, mod-lt, pow-suc, div-one, one-mul, mod-eq-of-lt}
+use native.Mathlib.Nat.{add-zero, add-suc, add-comm, add-assoc, mul-assoc, mod-lt, pow-suc, div-one, div-eq-of-lt, one-mul, zero-mul, mod-eq-of-lt}
 use native.Mathlib.Numerals.{add-one, one-add}
 use native.Mathlib.Omega.{arith}
 use lib.Arith.{digits-lt}
@@ -84,6 +84,16 @@ cut s b n at w m v h l k q e =
     ∙ ap (λ (x : ℕ). x / 2 ^ r % 2 ^ w) (e ∙ ap (field s b) g)
     ∙ field-part s b (at - b) w r
     ∙ ap (λ (x : ℕ). field s x w) a
+
+-- a field is cut out of the eight octets from its first on
+pub cut-first : (s : List ℕ) (at w v : ℕ) → w ≤ 57 → v ≡ field s (at / 8 * 8) 64 → v * 2 ^ (at % 8) % 2 ^ 64 / 2 ^ (64 - w) ≡ field s at w
+cut-first s at w v h e = cut s (at / 8 * 8) 64 at w (at % 8) v (omega arith) (omega arith) (omega arith) (omega arith) e
+
+-- all of whose bits are 0
+pub cut-none : (s : List ℕ) (at w v : ℕ) → w ≤ 57 → v ≡ 0 → v ≡ field s (at / 8 * 8) 64 → field s at w ≡ 0
+cut-none s at w v h z e =
+    let n : v * 2 ^ (at % 8) % 2 ^ 64 ≡ 0 = ap (λ (x : ℕ). x % 2 ^ 64) (ap (λ (x : ℕ). x * 2 ^ (at % 8)) z ∙ zero-mul (2 ^ (at % 8))) in
+    sym (cut-first s at w v h e) ∙ ap (λ (x : ℕ). x / 2 ^ (64 - w)) n ∙ div-eq-of-lt (pow-pos (64 - w))
 
 -- a field that reaches into the ninth octet from i on, of which x is what the shift by k leaves
 pub cut-over : (s : List ℕ) (i at w m v k x : ℕ) → m < 8 → w ≤ 64 → 64 < m + w → i * 8 + m ≡ at → k + m + w ≡ 72 → v ≡ field s (i * 8) 64

@@ -97,8 +97,31 @@ fn within(n: usize, at: usize, width: usize) -> bool
     true
 }
 
-// The number in the width bits from at on, for any place and width.
-pub fn fetch(s: &[u8], at: usize, width: usize) -> Got
+// The bit at a place: its octet alone is looked at.
+fn fetch_bit(s: &[u8], at: usize) -> Got
+    ensures { λ r. ⌜ r ≡ fetched (now (s .entry)) at 1 ⌝ }
+{
+    let i = at / 8;
+    if i < s.len() {
+        return Got::Bits((wide(s[i]) >> (7 - at % 8)) % 2);
+    }
+    Got::Short
+}
+
+// A field that the eight octets from its first on have whole. The test asks all of them, so that the compiler keeps them as one load.
+fn ahead(s: &[u8], at: usize, width: usize) -> u64
+    requires { ⌜ (0 < width) × ((width ≤ 57) × (at / 8 + 8 ≤ length (now s))) ⌝ }
+    ensures { λ r. ⌜ r ≡ field (now (s .entry)) at width ⌝ }
+{
+    let v = eight(s, at / 8);
+    if v == 0 {
+        return 0;
+    }
+    (v << (at % 8)) >> (64 - width)
+}
+
+// The number in the width bits from at on, wherever they are and however many.
+fn fetch_any(s: &[u8], at: usize, width: usize) -> Got
     ensures { λ r. ⌜ r ≡ fetched (now (s .entry)) at width ⌝ }
 {
     if !within(s.len(), at, width) {
@@ -108,6 +131,25 @@ pub fn fetch(s: &[u8], at: usize, width: usize) -> Got
         return Got::Bits(0);
     }
     Got::Bits(window(s, at, width))
+}
+
+// The number in the width bits from at on, for any place and width. The usual fields, a bit or what eight octets ahead have, are quick.
+pub fn fetch(s: &[u8], at: usize, width: usize) -> Got
+    ensures { λ r. ⌜ r ≡ fetched (now (s .entry)) at width ⌝ }
+{
+    if width == 1 {
+        return fetch_bit(s, at);
+    }
+    if width < 1 {
+        return fetch_any(s, at, width);
+    }
+    if 57 < width {
+        return fetch_any(s, at, width);
+    }
+    if at / 8 + 8 <= s.len() {
+        return Got::Bits(ahead(s, at, width));
+    }
+    fetch_any(s, at, width)
 }
 
 // The octet o with part in the take bits that end above its lowest `below` bits.

@@ -1,7 +1,7 @@
 -- What the reader of a call goes by: from what its fetches found to what the grammar reads. Assumes nothing.
-use mathlib.Core.Path.{_≡_, refl, ap, _∙_}
+use mathlib.Core.Path.{_≡_, refl, sym, ap, _∙_}
 use mathlib.Core.List.{List, [], _∷_}
-use mathlib.Core.Bool.{true}
+use mathlib.Core.Bool.{true, false}
 use mathlib.Core.Option.{Option, none, some}
 use mathlib.Core.Logic.{_⊎_, inl, inr}
 use Prim.Native.Nat.{ℕ, _+_, _*_, _/_, _%_, _≤_, _<_}
@@ -14,12 +14,13 @@ use Rattle.csn1.specs.Grammar.{format}
 use Rattle.csn1.specs.Promises.{Grounded}
 use Rattle.csn1.specs.Told.{isThere}
 use Rattle.csn1.proofs.Promises.{lawful}
-use Rattle.csn1.proofs.Reading.{found-lt, num-got, num-short, cuts, row-got, row-short, opt-short, opt-none, opt-some, either-short, either-left, either-right}
+use Rattle.csn1.proofs.Reading.{Halves, halves, found-lt, num-got, num-short, cuts, row-got, row-short, opt-short, opt-none, opt-some, either-short, either-left, either-right}
 use Rattle.call.specs.declared.CallAt.{CallAt}
 use Rattle.call.specs.declared.DescriptionAt.{DescriptionAt}
 use Rattle.call.specs.declared.FrequenciesAt.{FrequenciesAt}
-use Rattle.call.specs.Call.{allocation, frequencies, description, DescriptionValue, groupCall, descriptionOf}
-use Rattle.call.specs.Told.{callAtOf, descriptionAtOf, frequenciesAtOf, callFrom}
+use Rattle.call.specs.declared.Quick.{Quick}
+use Rattle.call.specs.Call.{allocation, frequencies, description, DescriptionValue, CallValue, groupCall, descriptionOf}
+use Rattle.call.specs.Told.{callAtOf, descriptionAtOf, frequenciesAtOf, callFrom, gathered, flatFrom, notQuick, Quickly}
 
 -- a value changed twice on its way out is changed once
 changed : {A B C : Type 0} (x : Res A) (f : A → B) (g : B → C)
@@ -183,3 +184,44 @@ module _ (h : ℕ) (d : DescriptionAt) where
 
 pub description-grounded : (s : List ℕ) (p : ℕ) → Grounded (format description .read s p)
 description-grounded s p = lawful description (omega arith) .grounds s p
+
+-- ## A call by one or two fetches
+
+-- the call that a number of 37 bits tells, with a channel
+flat-told : (led channel q : ℕ) (d : Option DescriptionValue)
+    → descriptionOf d ≡ record { channel = channel; hopping = false; shortlist = false; length = 0; frequencies = 0 }
+    → gathered (flatFrom led (isThere d) channel q) ≡ callAtOf (ok (cuts widths (led / 2), d) q)
+flat-told led channel q d e =
+    let reference : led / 1024 ≡ led / 2 / 512 = omega arith in
+    let service : led / 512 % 2 ≡ led / 2 / 256 % 2 = omega arith in
+    let acknowledgement : led / 256 % 2 ≡ led / 2 / 128 % 2 = omega arith in
+    let priority : led / 32 % 8 ≡ led / 2 / 16 % 8 = omega arith in
+    rw (reference, service, acknowledgement, priority, ← e) (call-told (led / 2) d q)
+
+-- behind the 36 bits and the flag
+module _ (s : List ℕ) (p led : ℕ) (e : Bits led ≡ fetched s p 37) (l : led / 1024 ≤ 99999999) where
+  led-parts : Halves s p 36 1 led
+  led-parts = halves s p 36 1 led (omega arith) e
+
+  pub plain-told : led % 2 ≡ 0 → gathered (flatFrom led false 0 (p + 37)) ≡ callAtOf (groupCall .read s p)
+  plain-told z =
+      flat-told led 0 (p + 37) none refl
+      ∙ sym (ap callAtOf (call-plain s p (led / 2) (led-parts .first) (omega arith) (led % 2) (led-parts .second) z))
+
+  pub fixed-told : (led % 2 ≡ 0 → ⊥) → (c : ℕ) → Bits c ≡ fetched s (p + 37) 25 → c % 2 ≡ 0 → c / 8192 % 2 ≡ 0
+      → gathered (flatFrom led true (c / 2) (p + 62)) ≡ callAtOf (groupCall .read s p)
+  fixed-told n c g z y =
+      let h : Halves s (p + 37) 24 1 c = halves s (p + 37) 24 1 c (omega arith) g in
+      let q : p + 37 + 25 ≡ p + 62 = omega arith in
+      let k : groupCall .read s p ≡ ok (cuts widths (led / 2), some ((c / 2, 0), none)) (p + 62) =
+      call-described s p (led / 2) (led-parts .first) (omega arith) (led % 2) (led-parts .second) n
+      ∙ rw (description-fixed s (p + 37) (c / 2) (h .first) (c % 2) (h .second) (omega arith) z, q) in
+      flat-told led (c / 2) (p + 62) (some ((c / 2, 0), none)) refl ∙ sym (ap callAtOf k)
+
+-- nothing is said of what was not done
+pub not-quickly : (q : Quick) (x : Res CallValue) → q ≡ notQuick → Quickly q x
+not-quickly q x e =
+    record {
+      small = omega (arith, ap (λ (y : Quick). y .led) e);
+      right = λ d. absurd (let f : q .done ≡ false = ap (λ (y : Quick). y .done) e in let z : _≡_ {A = ℕ} 0 1 = cc in omega arith);
+    }

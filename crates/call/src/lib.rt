@@ -6,7 +6,7 @@ ghost use Rattle.csn1.specs.Format.{bad, opt};
 ghost use Rattle.csn1.specs.Grammar.{format};
 ghost use Rattle.csn1.specs.Told.{readAt};
 ghost use Rattle.call.specs.Call.{groupCall, description, frequencies, noDescription, noCall};
-ghost use Rattle.call.specs.Told.{callAtOf, descriptionAtOf, frequenciesAtOf, callFrom};
+ghost use Rattle.call.specs.Told.{callAtOf, descriptionAtOf, frequenciesAtOf, callFrom, gathered, flatFrom, notQuick, Quickly};
 use bits::Got;
 use csn1::Refusal;
 
@@ -223,8 +223,8 @@ fn call_from(head: u64, described: bool, description: Description) -> Call
     }
 }
 
-// One call of a message, at any place. Refusal 4 is given right behind the 36 bits.
-pub fn read(s: &[u8], at: usize) -> CallAt
+// One call of a message, a field at a time. Refusal 4 is given right behind the 36 bits.
+fn read_steps(s: &[u8], at: usize) -> CallAt
     ensures { λ r. ⌜ r ≡ callAtOf (readAt groupCall (now (s .entry)) at) ⌝ }
 {
     if csn1::LONGEST < s.len() {
@@ -255,5 +255,166 @@ pub fn read(s: &[u8], at: usize) -> CallAt
         refusal: csn1::no_refusal(),
         call: call_from(head, true, description),
         at: d.at,
+    }
+}
+
+// A call and the place behind it with nothing inside another: the ways to it meet in plain numbers, and the call is made once.
+struct Flat {
+    refusal: Refusal,
+    reference: u32,
+    vgcs: bool,
+    acknowledged: bool,
+    priority: u8,
+    cipher: u8,
+    described: bool,
+    channel: u32,
+    hopping: bool,
+    shortlist: bool,
+    length: u8,
+    frequencies: u64,
+    at: usize,
+}
+
+// The way a field at a time.
+fn flat_steps(s: &[u8], at: usize) -> Flat
+    ensures { λ r. ⌜ gathered r ≡ callAtOf (readAt groupCall (now (s .entry)) at) ⌝ }
+{
+    let c = read_steps(s, at);
+    let refusal = c.refusal;
+    Flat {
+        refusal,
+        reference: c.call.reference,
+        vgcs: c.call.vgcs,
+        acknowledged: c.call.acknowledged,
+        priority: c.call.priority,
+        cipher: c.call.cipher,
+        described: c.call.described,
+        channel: c.call.description.channel,
+        hopping: c.call.description.hopping,
+        shortlist: c.call.description.shortlist,
+        length: c.call.description.length,
+        frequencies: c.call.description.frequencies,
+        at: c.at,
+    }
+}
+
+// A call that does not hop, from its 37 bits: the reference's 36 and the flag behind them.
+fn fixed(led: u64, described: bool, channel: u32, at: usize) -> Flat
+    requires { ⌜ led < 137438953472 ⌝ }
+    ensures { λ r. ⌜ r ≡ flatFrom led described channel at ⌝ }
+{
+    Flat {
+        refusal: csn1::no_refusal(),
+        reference: (led / 1024) as u32,
+        vgcs: led / 512 % 2 == 1,
+        acknowledged: led / 256 % 2 == 1,
+        priority: (led / 32 % 8) as u8,
+        cipher: (led / 2 % 16) as u8,
+        described,
+        channel,
+        hopping: false,
+        shortlist: false,
+        length: 0,
+        frequencies: 0,
+        at,
+    }
+}
+
+// What one or two fetches found: a call that does not hop, or that it is not done so.
+struct Quick {
+    done: bool,
+    led: u64,
+    described: bool,
+    channel: u32,
+    at: usize,
+}
+
+fn not_quick() -> Quick
+    ensures { λ r. ⌜ r ≡ notQuick ⌝ }
+{
+    Quick {
+        done: false,
+        led: 0,
+        described: false,
+        channel: 0,
+        at: 0,
+    }
+}
+
+// A call with no description, or on a channel that does not hop; any other, and every refusal, is not done.
+fn read_quick(s: &[u8], at: usize) -> Quick
+    ensures { λ r. ⌜ Quickly r (readAt groupCall (now (s .entry)) at) ⌝ }
+{
+    if csn1::LONGEST < s.len() {
+        return not_quick();
+    }
+    let Got::Bits(led) = bits::reader::field(s, at, 37) else {
+        return not_quick();
+    };
+    if 99999999 < led / 1024 {
+        return not_quick();
+    }
+    if led % 2 == 0 {
+        return Quick {
+            done: true,
+            led,
+            described: false,
+            channel: 0,
+            at: at + 37,
+        };
+    }
+    let Got::Bits(channel) = bits::reader::field(s, at + 37, 25) else {
+        return not_quick();
+    };
+    if channel % 2 != 0 {
+        return not_quick();
+    }
+    if channel / 8192 % 2 != 0 {
+        return not_quick();
+    }
+    Quick {
+        done: true,
+        led,
+        described: true,
+        channel: (channel / 2) as u32,
+        at: at + 62,
+    }
+}
+
+// By one or two fetches where that does, else a field at a time. Each way is called once, so that the compiler keeps the fields in registers.
+fn read_flat(s: &[u8], at: usize) -> Flat
+    ensures { λ r. ⌜ gathered r ≡ callAtOf (readAt groupCall (now (s .entry)) at) ⌝ }
+{
+    let q = read_quick(s, at);
+    if q.done {
+        return fixed(q.led, q.described, q.channel, q.at);
+    }
+    flat_steps(s, at)
+}
+
+// One call of a message, at any place.
+pub fn read(s: &[u8], at: usize) -> CallAt
+    ensures { λ r. ⌜ r ≡ callAtOf (readAt groupCall (now (s .entry)) at) ⌝ }
+{
+    let p = read_flat(s, at);
+    let refusal = p.refusal;
+    CallAt {
+        refusal,
+        call: Call {
+            reference: p.reference,
+            vgcs: p.vgcs,
+            acknowledged: p.acknowledged,
+            priority: p.priority,
+            cipher: p.cipher,
+            described: p.described,
+            description: Description {
+                channel: p.channel,
+                hopping: p.hopping,
+                shortlist: p.shortlist,
+                length: p.length,
+                frequencies: p.frequencies,
+            },
+        },
+        at: p.at,
     }
 }

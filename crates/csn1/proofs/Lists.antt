@@ -65,6 +65,11 @@ module _ {A B : Type 0} (F : Format A) (told : A → B) (z : B) (n : ℕ) (s : L
         bound = omega arith;
       }
 
+  -- none were read
+  pub entries-none : (items : List B) (e : items ≡ replicate n z) → entries-begin items e .acc ≡ []
+  unfolding entries-begin
+  entries-none items e = refl
+
   module _ (items : List B) (count at : ℕ) (i : Entries F told z n s start items count at) where
     pub entries-short : Short ≡ fetched s at 1 → list F .read s start ≡ bad (ranOut at)
     entries-short e = i .rest ∙ items-short F s at (i .fuel) (i .acc) e
@@ -104,6 +109,17 @@ module _ {A B : Type 0} (F : Format A) (told : A → B) (z : B) (n : ℕ) (s : L
     pub entries-counted : (f : ℕ) (a : A) (q : ℕ) → Bits f ≡ fetched s at 1 → (f ≡ 0 → ⊥) → F .read s (at + 1) ≡ ok a q → at + 1 ≤ q
         → n ≤ count → Entries F told z n s start items (count + 1) q
     entries-counted f a q e y x l h = on f a q items e y x l (i .kept ∙ sym (padded-full told z n (i .acc) a (omega (arith, i .many))))
+
+    -- and what was read then
+    pub kept-acc : (f : ℕ) (a : A) (q : ℕ) (b : B) (e : Bits f ≡ fetched s at 1) (y : f ≡ 0 → ⊥) (x : F .read s (at + 1) ≡ ok a q) (l : at + 1 ≤ q) (h : count < n)
+        (g : b ≡ told a) → entries-kept f a q b e y x l h g .acc ≡ i .acc ++ (a ∷ [])
+    unfolding entries-kept on
+    kept-acc f a q b e y x l h g = refl
+
+    pub counted-acc : (f : ℕ) (a : A) (q : ℕ) (e : Bits f ≡ fetched s at 1) (y : f ≡ 0 → ⊥) (x : F .read s (at + 1) ≡ ok a q) (l : at + 1 ≤ q) (h : n ≤ count)
+        → entries-counted f a q e y x l h .acc ≡ i .acc ++ (a ∷ [])
+    unfolding entries-counted on
+    counted-acc f a q e y x l h = refl
 
 -- ## How many entries fit
 

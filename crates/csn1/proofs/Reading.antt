@@ -13,6 +13,7 @@ use borrow.Author.Tests.{leb-true, leb-false, le-leb, lt-leb, eq-eqb, ne-eqb}
 use Rattle.bits.specs.Field.{field, fetched, both, pick}
 use Rattle.bits.specs.declared.Got.the-variants.{Bits, Short}
 use Rattle.bits.proofs.Laws.{field-lt, field-split}
+use Rattle.bits.proofs.Answers.{fetched-here}
 use Rattle.csn1.specs.declared.Refusal.{Refusal}
 use Rattle.csn1.specs.Format.{Res, ok, bad, _then_, ranOut, noRefusal, Format, num, row, total, fieldsAt, readItems, opt, release, padBit, coded, either, _▹_}
 use Rattle.csn1.specs.Promises.{Grounded}
@@ -43,6 +44,22 @@ missing s p w h e = go (leb (p + w) (length s * 8)) refl (rw (le-leb w 64 h) at 
 
 pub found-lt : (s : List ℕ) (p w v : ℕ) → Bits v ≡ fetched s p w → v < 2 ^ w
 found-lt s p w v e = rw (found s p w v e .is) (field-lt s p w)
+
+-- a field that was found is two, one after the other
+pub record Halves (s : List ℕ) (p a b v : ℕ) : Type 0 where
+  pub first : Bits (v / 2 ^ b) ≡ fetched s p a
+  pub second : Bits (v % 2 ^ b) ≡ fetched s (p + a) b
+
+pub halves : (s : List ℕ) (p a b v : ℕ) → a + b ≤ 64 → Bits v ≡ fetched s p (a + b) → Halves s p a b v
+halves s p a b v h e =
+    let f = found s p (a + b) v e in
+    let k : v ≡ field s p a * 2 ^ b + field s (p + a) b = f .is ∙ field-split s p a b in
+    let l : field s (p + a) b < 2 ^ b = field-lt s (p + a) b in
+    let w : p + (a + b) ≤ length s * 8 = f .within in
+    record {
+      first = fetched-here s p a (v / 2 ^ b) (omega arith) (omega arith) (ap (λ (z : ℕ). z / 2 ^ b) k ∙ high (field s p a) b l);
+      second = fetched-here s (p + a) b (v % 2 ^ b) (omega arith) (omega arith) (ap (λ (z : ℕ). z % 2 ^ b) k ∙ low (field s p a) b l);
+    }
 
 -- ## A number
 

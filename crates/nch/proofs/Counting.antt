@@ -1,6 +1,6 @@
 -- How many of a list's first values pass a test, counted one by one. Assumes nothing.
-use mathlib.Core.Path.{_≡_, ap, ap₂, sym, _∙_}
-use mathlib.Core.List.{List, _∷_}
+use mathlib.Core.Path.{_≡_, refl, ap, ap₂, sym, _∙_}
+use mathlib.Core.List.{List, [], _∷_, _++_}
 use mathlib.Core.Bool.{Bool, true, false}
 use Prim.Native.Nat.{ℕ, suc, _+_, _-_, _≤_, _<_}
 use native.Mathlib.Numerals.{add-one}
@@ -8,6 +8,7 @@ use native.Mathlib.Omega.{arith}
 use lib.ListN.{length, getD, take, drop, drop-of-length-le}
 use lib.Seq.{drop-cons, take-nil}
 use Rattle.bits.specs.Field.{pick}
+use Rattle.csn1.specs.Told.{asBit}
 use Rattle.nch.specs.Octets.{count}
 
 -- at the head of a loop over a list: of the first i, and the first n, as many as found pass
@@ -48,3 +49,16 @@ module _ {A : Type 0} (t : A → Bool) (n : ℕ) (l : List A) where
     counted-end h =
         sym (c .rest ∙ ap (λ (y : List A). found + count t (take (n - i) y)) (drop-of-length-le l {i = i} h)
         ∙ ap (λ (y : List A). found + count t y) (take-nil (n - i)) ∙ omega arith)
+
+-- one more value at the end of a list
+pub count-more : {A : Type 0} (t : A → Bool) (l : List A) (a : A) → count t (l ++ (a ∷ [])) ≡ count t l + asBit (t a)
+count-more t [] a = go (t a)
+  where
+    go : (b : Bool) → pick b (1 + 0) 0 ≡ 0 + asBit b
+    go true = refl
+    go false = refl
+count-more t (c ∷ l) a = go (t c) (count t (l ++ (a ∷ []))) (count t l) (asBit (t a)) (count-more t l a)
+  where
+    go : (b : Bool) (m n k : ℕ) → m ≡ n + k → pick b (1 + m) m ≡ pick b (1 + n) n + k
+    go true m n k e = omega arith
+    go false m n k e = e

@@ -1,15 +1,16 @@
 -- How what was read of a part is told, with the place behind it. Assumes nothing.
-use mathlib.Core.List.{List, [], _∷_, map}
-use mathlib.Core.Bool.{Bool, true, false}
-use mathlib.Core.Option.{Option, none, some}
+use mathlib.Core.List.{List, [], map}
+use mathlib.Core.Bool.{false}
+use mathlib.Core.Option.{Option}
 use Prim.Native.Nat.{ℕ}
 use lib.ListN.{length}
 use Rattle.csn1.specs.Format.{Res, ok, bad, noRefusal}
 use Rattle.csn1.specs.Told.{isThere, orZero, isOne, padded}
 use Rattle.call.specs.Call.{CallValue, callOf, noCall}
-use Rattle.nch.specs.Octets.{Release6Value, AmrValue, Release7Value}
+use Rattle.nch.specs.Octets.{Release6Value, AmrValue, Release7Value, count, cipheredValue, describedValue}
 use Rattle.nch.specs.Told.{reducedOf, noReduced, randomOf, noRandom, noRelease6, release6Of, fullRate, halfRate, confidentiality, privacy, noRelease7, release7Of}
 use Rattle.nch.specs.declared.calls.CallsAt.{CallsAt}
+use Rattle.nch.specs.declared.calls.Listed.{Listed}
 use Rattle.nch.specs.declared.additions6.ReducedsAt.{ReducedsAt}
 use Rattle.nch.specs.declared.additions6.RandomsAt.{RandomsAt}
 use Rattle.nch.specs.declared.additions6.Release6At.{Release6At}
@@ -23,6 +24,19 @@ use Rattle.nch.specs.declared.additions7.Release7At.{Release7At}
 abbrev pub callsAtOf : Res (List CallValue) → CallsAt
 callsAtOf (bad r) = record { refusal = r; count = 0; calls = padded noCall 4 []; at = 0 }
 callsAtOf (ok l q) = record { refusal = noRefusal; count = length l; calls = padded noCall 4 (map callOf l); at = q }
+
+-- the calls with how many are ciphered, and how many described
+abbrev pub listedOf : Res (List CallValue) → Listed
+listedOf (bad r) = record { refusal = r; count = 0; ciphered = 0; described = 0; calls = padded noCall 4 []; at = 0 }
+listedOf (ok l q) =
+    record {
+      refusal = noRefusal;
+      count = length l;
+      ciphered = count cipheredValue l;
+      described = count describedValue l;
+      calls = padded noCall 4 (map callOf l);
+      at = q;
+    }
 
 abbrev pub reducedsAtOf : Res (List (List ℕ)) → ReducedsAt
 reducedsAtOf (bad r) = record { refusal = r; count = 0; items = padded noReduced 5 []; at = 0 }

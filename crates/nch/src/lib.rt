@@ -1,9 +1,6 @@
 // NT/N Rest Octets (44.018, 10.5.2.22c): the 20 octets of the notification channel, read and written.
 ghost use mathlib.Core.Path.{_≡_};
-ghost use lib.ListN.{length};
 ghost use Rattle.csn1.specs.Format.{bad};
-ghost use Rattle.csn1.specs.Grammar.{format};
-ghost use Rattle.nch.specs.Octets.{parts};
 ghost use Rattle.nch.specs.Told.{readOf, readingOf};
 use call::Call;
 use csn1::Refusal;
@@ -96,16 +93,15 @@ fn refused(refusal: Refusal) -> Reading
     }
 }
 
-// The four parts of twenty octets, one after the other.
-fn read_parts(octets: &[u8]) -> Reading
-    requires { ⌜ length (now octets) ≡ 20 ⌝ }
-    ensures { λ r. ⌜ r ≡ readingOf (format parts .read (now (octets .entry)) 0) ⌝ }
+// Reads any octets. In twenty the NLN is always there; refusals 6 and 7 come behind the whole message. All is in one function, so that the record is copied once.
+pub fn read(octets: &[u8]) -> Reading
+    ensures { λ r. ⌜ r ≡ readOf (now (octets .entry)) ⌝ }
 {
-    let nln = csn1::read_flagged(octets, 0, 2);
-    if nln.refusal.number != 0 {
-        return refused(nln.refusal);
+    if octets.len() != 20 {
+        return refused(csn1::ground(1));
     }
-    let c = calls::read_calls(octets, nln.at);
+    let nln = csn1::read_flagged(octets, 0, 2);
+    let c = calls::read_listed(octets, nln.at);
     if c.refusal.number != 0 {
         return refused(c.refusal);
     }
@@ -116,6 +112,12 @@ fn read_parts(octets: &[u8]) -> Reading
     let seven = additions7::read_release7(octets, six.at);
     if seven.refusal.number != 0 {
         return refused(seven.refusal);
+    }
+    if c.ciphered + six.release.reducedcount < six.release.randomcount {
+        return refused(csn1::ground(6));
+    }
+    if c.described < seven.release.markcount {
+        return refused(csn1::ground(7));
     }
     let calls = c.calls;
     let release6 = six.release;
@@ -132,26 +134,4 @@ fn read_parts(octets: &[u8]) -> Reading
             release7,
         },
     }
-}
-
-// Reads any octets. Refusals 6 and 7 come after the whole message.
-pub fn read(octets: &[u8]) -> Reading
-    ensures { λ r. ⌜ r ≡ readOf (now (octets .entry)) ⌝ }
-{
-    if octets.len() != 20 {
-        return refused(csn1::ground(1));
-    }
-    let r = read_parts(octets);
-    if r.refusal.number != 0 {
-        return r;
-    }
-    let m = r.record;
-    let cs = m.calls;
-    if calls::count_ciphered(cs, m.callcount) + m.release6.reducedcount < m.release6.randomcount {
-        return refused(csn1::ground(6));
-    }
-    if calls::count_described(cs, m.callcount) < m.release7.markcount {
-        return refused(csn1::ground(7));
-    }
-    r
 }

@@ -151,7 +151,7 @@ fn plain(r: Receiver, now: u32, rule: Rule) -> Answer
 }
 
 // NCH halves go where a message has another NLN than the last one seen; the first one seen is no change.
-fn nln_rule(last: u8, numbered: bool, nln: u8) -> Rule
+pub fn nln_rule(last: u8, numbered: bool, nln: u8) -> Rule
     ensures { λ r. ⌜ r ≡ pick (both numbered (both (not (eqb last 4)) (not (eqb last nln)))) (Side 0) Keep ⌝ }
 {
     if !numbered {
@@ -166,7 +166,8 @@ fn nln_rule(last: u8, numbered: bool, nln: u8) -> Rule
     Rule::Side(0)
 }
 
-fn nln_after(last: u8, numbered: bool, nln: u8) -> u8
+// The last NLN seen, behind a message.
+pub fn nln_after(last: u8, numbered: bool, nln: u8) -> u8
     ensures { λ r. ⌜ r ≡ pick numbered nln last ⌝ }
 {
     if numbered {

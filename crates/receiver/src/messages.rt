@@ -142,7 +142,7 @@ fn emergency_of_call(m: nch::Notification, c: Call, k: usize) -> bool
 }
 
 // The entry of a call, with the random entry and the mark at these places where it owns one.
-fn call_entry(m: nch::Notification, c: Call, random: usize, mark: usize) -> Record
+pub fn call_entry(m: nch::Notification, c: Call, random: usize, mark: usize) -> Record
     ensures { λ r. ⌜ r ≡ callWith m random mark c ⌝ }
 {
     let owned = random_of_call(m, c, random);
@@ -159,7 +159,7 @@ fn call_entry(m: nch::Notification, c: Call, random: usize, mark: usize) -> Reco
 }
 
 // The entry of a reduced reference, with the random entry at this place. It has no mark.
-fn reduced_entry(m: nch::Notification, r: Reduced, random: usize) -> Record
+pub fn reduced_entry(m: nch::Notification, r: Reduced, random: usize) -> Record
     ensures { λ e. ⌜ e ≡ reducedWith m random r ⌝ }
 {
     let owned = random_at(m, random);

@@ -69,7 +69,8 @@ fn is_timer(t: u32) -> bool
     t <= Setup::LONGEST
 }
 
-fn is_right(s: Setup, keys: &[u32]) -> bool
+// Whether a setup is accepted: at most 50 keys, both timers, each key in range and none twice.
+pub fn is_right(s: Setup, keys: &[u32]) -> bool
     ensures { λ r. ⌜ r ≡ setupRight s (now (keys .entry)) ⌝ }
 {
     if Setup::KEYS < keys.len() {

@@ -43,7 +43,8 @@ pub fn index_of(keys: [u32; 50], key: u64) -> usize
     i
 }
 
-fn spared(rule: Rule, i: usize) -> bool
+// Whether a rule leaves the half at a place.
+pub fn spared(rule: Rule, i: usize) -> bool
     ensures { λ r. ⌜ r ≡ spares rule i ⌝ }
 {
     match rule {
@@ -53,7 +54,8 @@ fn spared(rule: Rule, i: usize) -> bool
     }
 }
 
-fn timer_at(t3206: u32, t3208: u32, i: usize) -> u32
+// T3206 runs for the NCH, T3208 for the FACCH.
+pub fn timer_at(t3206: u32, t3208: u32, i: usize) -> u32
     ensures { λ r. ⌜ r ≡ timerAt t3206 t3208 i ⌝ }
 {
     if i % 2 == 0 {

@@ -1,36 +1,63 @@
 -- `bits::fetch` meets its contract. Assumes nothing.
 use denote.Ref.{now}
 use mathlib.Core.Path.{_≡_, sym, ap, _∙_}
-use Rattle.bits.specs.Field.{field}
-use Rattle.bits.proofs.Laws.{field-zero}
-use Rattle.bits.proofs.Answers.{has, fetched-short, fetched-bits}
+use Rattle.bits.specs.Field.{fetched}
+use Rattle.bits.proofs.Answers.{fetched-here}
 use native.Mathlib.Omega.{arith}
+use borrow.Author.Needs.{needs}
 use Rattle.bits.proofs.fetch.Statement.{statement}
 use Rattle.bits.proofs.fetch.Tie as tie
 
-within-requires : tie.Need-within-requires
-within-requires c κs = omega arith
+fetch-bit-requires : tie.Need-fetch-bit-requires
+fetch-bit-requires c κs = search needs
 
 returns : tie.Need-returns
 returns c =
     let a = c .before .before .before .args in
-    fetched-short (now (a .s)) (a .at) (a .width) (c .before .within .result) (c .before .within .ensures) (c .if1 .taken)
+    let z : a .width ≡ 1 = omega arith in
+    c .fetch-bit .ensures ∙ ap (fetched (now (a .s)) (a .at)) (sym z)
+
+fetch-any-requires : tie.Need-fetch-any-requires
+fetch-any-requires c κs = search needs
 
 returns-2 : tie.Need-returns-2
-returns-2 c =
-    let a = c .before .before .before .before .args in
-    let z : a .width ≡ 0 = omega arith in
-    fetched-bits (now (a .s)) (a .at) (a .width) (c .before .before .within .result) (c .before .before .within .ensures) 0 (c .before .if1 .left) (sym (ap (field (now (a .s)) (a .at)) z ∙ field-zero (now (a .s)) (a .at)))
+returns-2 c = search needs
 
-window-requires : tie.Need-window-requires
-window-requires c κs =
-    let a = c .before .before .before .before .args in
-    (omega arith, has (now (a .s)) (a .at) (a .width) (c .before .before .within .result) (c .before .before .within .ensures) (c .before .if1 .left))
+fetch-any-requires-2 : tie.Need-fetch-any-requires-2
+fetch-any-requires-2 c κs = search needs
 
 returns-3 : tie.Need-returns-3
-returns-3 c =
-    let a = c .before .before .before .before .before .args in
-    fetched-bits (now (a .s)) (a .at) (a .width) (c .before .before .before .within .result) (c .before .before .before .within .ensures) (c .window .result) (c .before .before .if1 .left) (c .window .ensures)
+returns-3 c = search needs
+
+add-if4 : tie.Need-add-if4
+add-if4 c = search needs
+
+ahead-requires : tie.Need-ahead-requires
+ahead-requires c κs = search needs
+
+returns-4 : tie.Need-returns-4
+returns-4 c =
+    let a = c .before .before .before .before .before .before .args in
+    fetched-here (now (a .s)) (a .at) (a .width) (c .ahead .result) (omega arith) (omega arith) (c .ahead .ensures)
+
+fetch-any-requires-3 : tie.Need-fetch-any-requires-3
+fetch-any-requires-3 c κs = search needs
+
+returns-5 : tie.Need-returns-5
+returns-5 c = search needs
 
 pub fetch-spec : {M : Type 1} → statement M
-fetch-spec = tie.close (tie.spec within-requires returns returns-2 window-requires returns-3)
+fetch-spec =
+    tie.close
+    (tie.spec
+    fetch-bit-requires
+    returns
+    fetch-any-requires
+    returns-2
+    fetch-any-requires-2
+    returns-3
+    add-if4
+    ahead-requires
+    returns-4
+    fetch-any-requires-3
+    returns-5)

@@ -1,0 +1,2 @@
+// The C library: what include/asternhaken.h declares, each function a thin one over the crate that does the work.
+mod state;

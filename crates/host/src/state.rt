@@ -1,0 +1,90 @@
+// The receiver on a lent state: setup, the seven events, and reading the answer.
+ghost use mathlib.Core.Path.{_≡_};
+ghost use Rattle.bits.specs.Field.{pick};
+ghost use Rattle.receiver.specs.Step.{nch, facch, joined, reselected, handedOver, reconfigured, tick};
+ghost use Rattle.lent.specs.Layout.{lastOf};
+ghost use Rattle.lent.specs.Events.{Fed, SetUp, isState, partOf};
+use receiver::Setup;
+
+#[no_mangle]
+pub extern "C" fn asternhaken_setup(
+    state: &mut [u8],
+    keys: &[u32],
+    first: u32,
+    t3206: u32,
+    t3208: u32,
+) -> u32
+    ensures { λ r. ⌜ SetUp (now (state .entry)) (record { tick = first; t3206 = t3206; t3208 = t3208 }) (now (keys .entry)) (now (state .exit)) r ⌝ }
+{
+    lent::setup::setup(
+        state,
+        Setup {
+            tick: first,
+            t3206,
+            t3208,
+        },
+        keys,
+    ) as u32
+}
+
+#[no_mangle]
+pub extern "C" fn asternhaken_nch(state: &mut [u8], time: u32, octets: &[u8]) -> u32
+    ensures { λ r. ⌜ Fed (now (state .entry)) (nch time (now (octets .entry))) (now (state .exit)) r ⌝ }
+{
+    lent::events::nch(state, time, octets) as u32
+}
+
+#[no_mangle]
+pub extern "C" fn asternhaken_facch(state: &mut [u8], time: u32, octets: &[u8]) -> u32
+    ensures { λ r. ⌜ Fed (now (state .entry)) (facch time (now (octets .entry))) (now (state .exit)) r ⌝ }
+{
+    lent::events::facch(state, time, octets) as u32
+}
+
+#[no_mangle]
+pub extern "C" fn asternhaken_joined(state: &mut [u8], time: u32, key: u32) -> u32
+    ensures { λ r. ⌜ Fed (now (state .entry)) (joined time key) (now (state .exit)) r ⌝ }
+{
+    lent::events::joined(state, time, key) as u32
+}
+
+#[no_mangle]
+pub extern "C" fn asternhaken_reselected(state: &mut [u8], time: u32) -> u32
+    ensures { λ r. ⌜ Fed (now (state .entry)) (reselected time) (now (state .exit)) r ⌝ }
+{
+    lent::events::reselected(state, time) as u32
+}
+
+#[no_mangle]
+pub extern "C" fn asternhaken_handed_over(state: &mut [u8], time: u32) -> u32
+    ensures { λ r. ⌜ Fed (now (state .entry)) (handedOver time) (now (state .exit)) r ⌝ }
+{
+    lent::events::handed_over(state, time) as u32
+}
+
+#[no_mangle]
+pub extern "C" fn asternhaken_reconfigured(state: &mut [u8], time: u32) -> u32
+    ensures { λ r. ⌜ Fed (now (state .entry)) (reconfigured time) (now (state .exit)) r ⌝ }
+{
+    lent::events::reconfigured(state, time) as u32
+}
+
+#[no_mangle]
+pub extern "C" fn asternhaken_tick(state: &mut [u8], time: u32) -> u32
+    ensures { λ r. ⌜ Fed (now (state .entry)) (tick time) (now (state .exit)) r ⌝ }
+{
+    lent::events::tick(state, time) as u32
+}
+
+// One number of the answer to the last accepted event; what is not there is 0.
+#[no_mangle]
+pub extern "C" fn asternhaken_read(state: &[u8], entry: u32, part: u32, value: &mut u64) -> u32
+    ensures { λ r. ⌜ (r ≡ pick (isState (now (state .entry))) 0 13)
+        × (now (value .exit) ≡ pick (isState (now (state .entry))) (partOf (lastOf (now (state .entry))) entry part) 0) ⌝ }
+{
+    *value = lent::parts::part_of(state, entry as usize, part as usize);
+    if state.len() != lent::LENGTH {
+        return 13;
+    }
+    0
+}

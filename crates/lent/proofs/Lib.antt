@@ -1,0 +1,13 @@
+pub mod Numbers
+pub mod Wide
+pub mod Decoding
+pub mod Sweeps
+pub mod Runs
+pub mod Tellings
+pub mod Fresh
+pub mod Outcomes
+pub mod Messages
+pub mod Reading
+pub mod Setting
+pub mod Feeding
+pub mod Promises

@@ -1,0 +1,249 @@
+-- The sweep as its code goes: one place, a run of places, a group of eight. Assumes nothing.
+use mathlib.Core.Path.{_≡_, refl, ap, ap₂, sym, _∙_}
+use mathlib.Core.Bool.{Bool, true, false, not}
+use mathlib.Core.List.{List}
+use Prim.Native.Nat.{ℕ, zero, suc, _+_, _-_, _*_, _≤_, _<_}
+use native.Mathlib.Nat.{add-zero, zero-add, add-assoc}
+use native.Mathlib.Numerals.{add-one}
+use native.Mathlib.Omega.{arith}
+use lib.Dec.{leb, ltb}
+use lib.ListN.{length, getD}
+use borrow.Author.Tests.{ne-eqb, ltb-true, ltb-false}
+use Rattle.bits.specs.Field.{both}
+use Rattle.csn1.specs.Told.{asBit}
+use Rattle.receiver.specs.declared.Rule.{Rule}
+use Rattle.receiver.specs.Model.{emptySlot, wrapSub, spares, ranOutOf, takenOf, countAt, expiredOf, droppedOf}
+use Rattle.receiver.proofs.Dropping.{by-test}
+use Rattle.lent.specs.Octets.{leAt, table}
+use Rattle.lent.specs.Layout.{slotNo, decodeOf, putSlot}
+use Rattle.lent.specs.Events.{timerNo, sweptAt, sweptRun, sweptOctets}
+use Rattle.lent.proofs.Numbers.{zero-le}
+use Rattle.lent.proofs.Decoding.{slot-held}
+use Rattle.lent.proofs.Sweeps.{ran-empty, taken-empty, at-idle, length-run, run-then, run-timer, run-slot, run-idle, countRun, count-zero, count-next, count-then, count-most, count-ext, count-expired, count-dropped, idle-expired, idle-dropped}
+
+-- ## One place
+
+-- whether its half ran out, and whether the rule takes it
+abbrev pub ranAt : ℕ → List ℕ → ℕ → Bool
+ranAt now l i = ranOutOf now (timerNo l i) (slotNo l i)
+
+abbrev pub takenAt : ℕ → Rule → List ℕ → ℕ → Bool
+takenAt now rule l i = takenOf now (timerNo l i) rule i (slotNo l i)
+
+-- the test of the code, by its numbers
+pub age-said : (now : ℕ) (l : List ℕ) (i timer since age : ℕ) → timer ≡ timerNo l i → since ≡ leAt 4 l (320 + 4 * i) → age ≡ wrapSub now since
+    → leb (timerNo l i) (wrapSub now (leAt 4 l (320 + 4 * i))) ≡ leb timer age
+age-said now l i timer since age p q r = ap₂ leb (sym p) (sym (r ∙ ap (λ (x : ℕ). wrapSub now x) q))
+
+module _ (now : ℕ) (rule : Rule) (l : List ℕ) (i x d : ℕ) where
+  -- what is counted with a place, beside x and d, and what it leaves
+  abbrev pub Placed : ℕ → ℕ → List ℕ → Type 0
+  Placed x₁ d₁ k = (x₁ ≡ x + asBit (ranAt now l i)) × ((d₁ ≡ d + asBit (takenAt now rule l i)) × (k ≡ sweptAt now rule l i))
+
+  pub place-empty : getD l (216 + i) 0 ≡ 0 → Placed x d l
+  place-empty e =
+      (rw (ran-empty now l i e) (sym (add-zero x)), (rw (taken-empty now rule l i e) (sym (add-zero d)), sym (at-idle now rule l i e)))
+
+  module _ (held : getD l (216 + i) 0 ≡ 0 → ⊥) where
+    ran-held : ranAt now l i ≡ leb (timerNo l i) (wrapSub now (leAt 4 l (320 + 4 * i)))
+    unfolding ranOutOf
+    ran-held = rw (slot-held l i held, ne-eqb _ _ held)
+
+    taken-held : takenAt now rule l i ≡ both (not (ranAt now l i)) (not (spares rule i))
+    unfolding takenOf
+    taken-held = rw (slot-held l i held, ne-eqb _ _ held)
+
+    pub place-out : leb (timerNo l i) (wrapSub now (leAt 4 l (320 + 4 * i))) ≡ true → Placed (x + 1) d (putSlot l i emptySlot)
+    unfolding sweptAt
+    place-out p =
+        let r : ranAt now l i ≡ true = ran-held ∙ p in
+        (rw r, (rw (taken-held, r) (sym (add-zero d)), rw r))
+
+    module _ (young : leb (timerNo l i) (wrapSub now (leAt 4 l (320 + 4 * i))) ≡ false) where
+      pub place-taken : spares rule i ≡ false → Placed x (d + 1) (putSlot l i emptySlot)
+      unfolding sweptAt
+      place-taken p =
+          let r : ranAt now l i ≡ false = ran-held ∙ young in
+          (rw r (sym (add-zero x)), (rw (taken-held, r, p), rw (r, taken-held, r, p)))
+
+      pub place-stays : spares rule i ≡ true → Placed x d l
+      unfolding sweptAt
+      place-stays p =
+          let r : ranAt now l i ≡ false = ran-held ∙ young in
+          (rw r (sym (add-zero x)), (rw (taken-held, r, p) (sym (add-zero d)), rw (r, taken-held, r, p)))
+
+-- ## Places one after the other
+
+-- a place's fate does not depend on those before it
+module _ (now : ℕ) (rule : Rule) (from k : ℕ) (l : List ℕ) (m : length l ≡ 6984) (i : ℕ) (lt : i < 100) (h : from + k ≤ i) where
+  ran-there : ranAt now (sweptRun now rule from k l) i ≡ ranAt now l i
+  ran-there =
+      ap₂ (λ t s. ranOutOf now t s) (run-timer now rule from k l (omega arith) i) (run-slot now rule from k l i m (omega arith) lt (λ x. h))
+
+  taken-there : takenAt now rule (sweptRun now rule from k l) i ≡ takenAt now rule l i
+  taken-there =
+      ap₂ (λ t s. takenOf now t rule i s) (run-timer now rule from k l (omega arith) i) (run-slot now rule from k l i m (omega arith) lt (λ x. h))
+
+-- k places from a place on are swept: what is left, and what was counted beside x₀ and d₀
+pub record Sweeping (now : ℕ) (rule : Rule) (from : ℕ) (l : List ℕ) (x₀ d₀ k : ℕ) (b : List ℕ) (x d : ℕ) : Type 0 where
+  pub octets : b ≡ sweptRun now rule from k l
+  pub expired : x ≡ x₀ + countRun (ranAt now l) from k
+  pub dropped : d ≡ d₀ + countRun (takenAt now rule l) from k
+
+module _ (now : ℕ) (rule : Rule) (from : ℕ) (l : List ℕ) (x₀ d₀ : ℕ) where
+  pub sweeping-none : Sweeping now rule from l x₀ d₀ 0 l x₀ d₀
+  unfolding sweptRun
+  sweeping-none =
+      record {
+        octets = refl;
+        expired = sym (ap (λ n. x₀ + n) (count-zero (ranAt now l) from) ∙ add-zero x₀);
+        dropped = sym (ap (λ n. d₀ + n) (count-zero (takenAt now rule l) from) ∙ add-zero d₀);
+      }
+
+  module _ (k : ℕ) (b : List ℕ) (x d : ℕ) (s : Sweeping now rule from l x₀ d₀ k b x d) where
+    pub sweeping-few : (x ≤ x₀ + k) × (d ≤ d₀ + k)
+    sweeping-few = (
+      rw (s .expired) (omega (arith, count-most (ranAt now l) from k)),
+      rw (s .dropped) (omega (arith, count-most (takenAt now rule l) from k)),
+    )
+
+    pub sweeping-length : length b ≡ length l
+    sweeping-length = ap length (s .octets) ∙ length-run now rule from k l
+
+    pub sweeping-timer : (i : ℕ) → from + k ≤ 100 → timerNo b i ≡ timerNo l i
+    sweeping-timer i h = rw (s .octets) (run-timer now rule from k l h i)
+
+    module _ (m : length l ≡ 6984) where
+      -- one place more
+      pub sweeping-next : (x₁ d₁ : ℕ) (b₁ : List ℕ) → from + k < 100 → Placed now rule b (from + k) x d x₁ d₁ b₁
+          → Sweeping now rule from l x₀ d₀ (k + 1) b₁ x₁ d₁
+      unfolding sweptRun
+      sweeping-next x₁ d₁ b₁ h p =
+          let r : ranAt now b (from + k) ≡ ranAt now l (from + k) = rw (s .octets) (ran-there now rule from k l m (from + k) h (omega arith)) in
+          let t : takenAt now rule b (from + k) ≡ takenAt now rule l (from + k) =
+          rw (s .octets) (taken-there now rule from k l m (from + k) h (omega arith))
+          in
+          rw (add-one k)
+          (record {
+            octets = p .1 .1 ∙ ap (λ y. sweptAt now rule y (from + k)) (s .octets);
+            expired = p .0 ∙ ap₂ (λ a c. a + asBit c) (s .expired) r ∙ add-assoc x₀ _ _ ∙ ap (λ n. x₀ + n) (sym (count-next (ranAt now l) from k));
+            dropped =
+                p .1 .0 ∙ ap₂ (λ a c. a + asBit c) (s .dropped) t ∙ add-assoc d₀ _ _ ∙ ap (λ n. d₀ + n) (sym (count-next (takenAt now rule l) from k));
+          })
+
+      -- a run more
+      pub sweeping-run : (n x₁ d₁ : ℕ) (b₁ : List ℕ) → from + k + n ≤ 100 → Sweeping now rule (from + k) b x d n b₁ x₁ d₁
+          → Sweeping now rule from l x₀ d₀ (k + n) b₁ x₁ d₁
+      sweeping-run n x₁ d₁ b₁ h p =
+          let r : countRun (ranAt now b) (from + k) n ≡ countRun (ranAt now l) (from + k) n =
+          count-ext (ranAt now b) (ranAt now l) (from + k) n
+          (λ j q. rw (s .octets) (ran-there now rule from k l m (from + k + j) (omega arith) (omega arith)))
+          in
+          let t : countRun (takenAt now rule b) (from + k) n ≡ countRun (takenAt now rule l) (from + k) n =
+          count-ext (takenAt now rule b) (takenAt now rule l) (from + k) n
+          (λ j q. rw (s .octets) (taken-there now rule from k l m (from + k + j) (omega arith) (omega arith)))
+          in
+          record {
+            octets = p .octets ∙ ap (sweptRun now rule (from + k) n) (s .octets) ∙ sym (run-then now rule from k n l);
+            expired = p .expired ∙ ap₂ _+_ (s .expired) r ∙ add-assoc x₀ _ _ ∙ ap (λ a. x₀ + a) (sym (count-then (ranAt now l) from k n));
+            dropped = p .dropped ∙ ap₂ _+_ (s .dropped) t ∙ add-assoc d₀ _ _ ∙ ap (λ a. d₀ + a) (sym (count-then (takenAt now rule l) from k n));
+          }
+
+-- ## What is counted of a table of places
+
+count-first : (t : ℕ → Bool) (from n : ℕ) → countRun t from (1 + n) ≡ asBit (t from) + countRun t (suc from) n
+count-first t from n =
+    count-then t from 1 n
+    ∙ ap₂ (λ (a : ℕ) (k : ℕ). a + countRun t k n)
+    (count-next t from 0 ∙ ap₂ (λ (a : ℕ) (k : ℕ). a + asBit (t k)) (count-zero t from) (add-zero from) ∙ zero-add (asBit (t from)))
+    (add-one from)
+
+counted : {A : Type 0} (f : ℕ → A → Bool) (g : ℕ → A) (k n : ℕ) → countAt f k (table g k n) ≡ countRun (λ i. f i (g i)) k n
+unfolding table
+counted f g k zero = sym (count-zero (λ i. f i (g i)) k)
+counted f g k (suc n) =
+    ap (λ (x : ℕ). asBit (f k (g k)) + x) (counted f g (suc k) n)
+    ∙ sym (count-first (λ i. f i (g i)) k n)
+    ∙ ap (countRun (λ i. f i (g i)) k) (omega arith)
+
+module _ (now : ℕ) (rule : Rule) (from n : ℕ) (l : List ℕ) (x₀ d₀ : ℕ) where
+  -- what the code of a run says
+  abbrev pub Counted : ℕ → ℕ → List ℕ → Type 0
+  Counted x d k =
+      (x ≡ x₀ + countAt (λ i s. ranOutOf now (timerNo l i) s) from (table (slotNo l) from n))
+      × ((d ≡ d₀ + countAt (λ i s. takenOf now (timerNo l i) rule i s) from (table (slotNo l) from n)) × (k ≡ sweptRun now rule from n l))
+
+  ran-counted : countAt (λ i s. ranOutOf now (timerNo l i) s) from (table (slotNo l) from n) ≡ countRun (ranAt now l) from n
+  ran-counted = counted (λ i s. ranOutOf now (timerNo l i) s) (slotNo l) from n
+
+  taken-counted : countAt (λ i s. takenOf now (timerNo l i) rule i s) from (table (slotNo l) from n) ≡ countRun (takenAt now rule l) from n
+  taken-counted = counted (λ i s. takenOf now (timerNo l i) rule i s) (slotNo l) from n
+
+  pub run-said : (b : List ℕ) (x d : ℕ) → Sweeping now rule from l x₀ d₀ n b x d → Counted x d b
+  run-said b x d s =
+      (s .expired ∙ ap (λ a. x₀ + a) (sym ran-counted), (s .dropped ∙ ap (λ a. d₀ + a) (sym taken-counted), s .octets))
+
+  pub said-run : (b : List ℕ) (x d : ℕ) → Counted x d b → Sweeping now rule from l x₀ d₀ n b x d
+  said-run b x d p =
+      record { octets = p .1 .1; expired = p .0 ∙ ap (λ a. x₀ + a) ran-counted; dropped = p .1 .0 ∙ ap (λ a. d₀ + a) taken-counted }
+
+  -- places whose kinds are 0
+  places-empty : ((k : ℕ) → k < n → getD l (216 + (from + k)) 0 ≡ 0) → Sweeping now rule from l x₀ d₀ n l x₀ d₀
+  places-empty z =
+      record {
+        octets = sym (run-idle now rule from n l z);
+        expired = sym (ap (λ a. x₀ + a) (idle-expired l now from n z) ∙ add-zero x₀);
+        dropped = sym (ap (λ a. d₀ + a) (idle-dropped l now rule from n z) ∙ add-zero d₀);
+      }
+
+  -- eight kinds that are the number 0
+  pub group-empty : n ≤ 8 → leAt 8 l (216 + from) ≡ 0 → Counted x₀ d₀ l
+  group-empty h e =
+      run-said l x₀ d₀
+      (places-empty (λ k q. ap (λ j. getD l j 0) (sym (add-assoc 216 from k)) ∙ zero-le 8 l (216 + from) e k (omega arith)))
+
+-- ## All of them
+
+module _ (now : ℕ) (rule : Rule) (l : List ℕ) where
+  -- what the code of the sweep says
+  abbrev pub Swept : ℕ → ℕ → List ℕ → Type 0
+  Swept x d b =
+      (x ≡ expiredOf (decodeOf l) now (decodeOf l .slots)) × ((d ≡ droppedOf (decodeOf l) now rule) × (b ≡ sweptOctets now rule l))
+
+  pub swept-said : (b : List ℕ) (x d : ℕ) → Sweeping now rule 0 l 0 0 100 b x d → Swept x d b
+  swept-said b x d s = (
+    s .expired ∙ zero-add _ ∙ sym (count-expired l now),
+    (s .dropped ∙ zero-add _ ∙ sym (count-dropped l now rule), s .octets),
+  )
+
+  -- a group more
+  pub sweeping-group : length l ≡ 6984 → (i : ℕ) (b : List ℕ) (x d : ℕ) → Sweeping now rule 0 l 0 0 i b x d → (n x₁ d₁ : ℕ) (b₁ : List ℕ)
+      → i + n ≤ 100 → Counted now rule i n b x d x₁ d₁ b₁ → Sweeping now rule 0 l 0 0 (i + n) b₁ x₁ d₁
+  sweeping-group m i b x d s n x₁ d₁ b₁ h p =
+      sweeping-run now rule 0 l 0 0 i b x d s m n x₁ d₁ b₁ (omega arith) (rw (zero-add i) (said-run now rule i n b x d b₁ x₁ d₁ p))
+
+  pub swept-idle : ((k : ℕ) → k < 100 → getD l (216 + k) 0 ≡ 0) → Swept 0 0 l
+  swept-idle z = swept-said l 0 0 (places-empty now rule 0 100 l 0 0 (λ k q. rw (zero-add k) (z k q)))
+
+-- ## Octets that are all zero
+
+abbrev pub Zeros : List ℕ → ℕ → ℕ → Type 0
+Zeros l at n = (k : ℕ) → k < n → getD l (at + k) 0 ≡ 0
+
+zeros-join : (l : List ℕ) (at m n : ℕ) → Zeros l at m → Zeros l (at + m) n → Zeros l at (m + n)
+zeros-join l at m n p q k h =
+    by-test (ltb k m) (λ t. p k (ltb-true k m t))
+    (λ t.
+    let g : m ≤ k = ltb-false k m t in
+    let e : at + m + (k - m) ≡ at + k = omega arith in
+    rw e at (q (k - m) (omega arith)))
+
+-- 32 of them, by four numbers
+pub quiet-32 : (l : List ℕ) (at : ℕ) → leAt 8 l at ≡ 0 → leAt 8 l (at + 8) ≡ 0 → leAt 8 l (at + 16) ≡ 0 → leAt 8 l (at + 24) ≡ 0 → Zeros l at 32
+quiet-32 l at p q r s =
+    zeros-join l at 24 8 (zeros-join l at 16 8 (zeros-join l at 8 8 (zero-le 8 l at p) (zero-le 8 l (at + 8) q)) (zero-le 8 l (at + 16) r))
+    (zero-le 8 l (at + 24) s)
+
+-- the kinds, by three times 32 and a number of four
+pub quiet-100 : (l : List ℕ) → Zeros l 216 32 → Zeros l 248 32 → Zeros l 280 32 → leAt 4 l 312 ≡ 0 → Zeros l 216 100
+quiet-100 l p q r s = zeros-join l 216 96 4 (zeros-join l 216 64 32 (zeros-join l 216 32 32 p q) r) (zero-le 4 l 312 s)

@@ -1,0 +1,61 @@
+-- `lent::sweep::quiet` meets its contract. Assumes nothing.
+use mathlib.Core.Path.{_≡_, sym, _∙_}
+use native.Mathlib.Omega.{arith}
+use borrow.Author.Tests.{eqb-true}
+use Rattle.lent.proofs.Runs.{quiet-32}
+use Rattle.lent.proofs.sweep.quiet.Statement.{statement}
+use Rattle.lent.proofs.sweep.quiet.Tie as tie
+
+u64-at-requires : tie.Need-u64-at-requires
+u64-at-requires c κs = omega arith
+
+returns : tie.Need-returns
+returns c = λ e k h. cc
+
+add-u64-at : tie.Need-add-u64-at
+add-u64-at c = omega arith
+
+u64-at-requires-2 : tie.Need-u64-at-requires-2
+u64-at-requires-2 c κs = omega arith
+
+returns-2 : tie.Need-returns-2
+returns-2 c = λ e k h. cc
+
+add-u64-at-2 : tie.Need-add-u64-at-2
+add-u64-at-2 c = omega arith
+
+u64-at-requires-3 : tie.Need-u64-at-requires-3
+u64-at-requires-3 c κs = omega arith
+
+returns-3 : tie.Need-returns-3
+returns-3 c = λ e k h. cc
+
+add-u64-at-3 : tie.Need-add-u64-at-3
+add-u64-at-3 c = omega arith
+
+u64-at-requires-4 : tie.Need-u64-at-requires-4
+u64-at-requires-4 c κs = omega arith
+
+returns-4 : tie.Need-returns-4
+returns-4 c =
+    λ e.
+    let p : c .before .before .before .before .before .before .u64-at .result ≡ 0 = omega (arith, c .before .before .before .before .before .if1 .left) in
+    let q : c .before .before .before .before .u64-at2 .result ≡ 0 = omega (arith, c .before .before .before .if2 .left) in
+    let r : c .before .before .u64-at3 .result ≡ 0 = omega (arith, c .before .if3 .left) in
+    quiet-32 (c .before .before .before .before .before .before .before .before .args .b .now) (c .before .before .before .before .before .before .before .before .args .at) (sym (c .before .before .before .before .before .before .u64-at .ensures) ∙ p) (sym (c .before .before .before .before .u64-at2 .ensures) ∙ q) (sym (c .before .before .u64-at3 .ensures) ∙ r) (sym (c .u64-at4 .ensures) ∙ eqb-true _ _ e)
+
+pub quiet-spec : {M : Type 1} → statement M
+quiet-spec =
+    tie.close
+    (tie.spec
+    u64-at-requires
+    returns
+    add-u64-at
+    u64-at-requires-2
+    returns-2
+    add-u64-at-2
+    u64-at-requires-3
+    returns-3
+    add-u64-at-3
+    u64-at-requires-4
+    returns-4)

@@ -1,0 +1,74 @@
+-- What is promised of the lent octets: events chain, and no call disturbs another (demand 3). Assumes nothing.
+use mathlib.Core.Path.{_≡_}
+use mathlib.Core.List.{List, [], _∷_, _++_}
+use Prim.Native.Nat.{ℕ, _<_}
+use lib.ListN.{length, take}
+use lib.Dec.{eqb}
+use Rattle.bits.specs.Field.{pick}
+use Rattle.receiver.specs.declared.Setup.{Setup}
+use Rattle.receiver.specs.Model.{indexOf}
+use Rattle.receiver.specs.Step.{Event, nch, facch, joined, reselected, handedOver, reconfigured, tick, tickOf}
+use Rattle.receiver.specs.One.{Channel, onNch, onFacch, Said, runOne, seen, fresh}
+use Rattle.receiver.specs.Promises.{under, timerOf, Ticks}
+use Rattle.lent.specs.Layout.{Last, lastOf}
+use Rattle.lent.specs.Events.{Fed, SetUp, octetsAfter, codeOf}
+
+-- ## Events in a row
+
+-- the octets and the number that a call of an exported event left
+pub record Left : Type 0 where
+  pub octets : List ℕ
+  pub code : ℕ
+
+-- each call was made on the octets that the one before it left, and met its statement
+abbrev pub Run : List ℕ → List Event → List Left → Type 0
+Run l [] [] = Unit {0}
+Run l [] (a ∷ rest) = ⊥
+Run l (e ∷ es) [] = ⊥
+Run l (e ∷ es) (a ∷ rest) = Fed l e (a .octets) (a .code) × Run (a .octets) es rest
+
+-- ## 1. Isolation over octets
+
+-- the answers under a key that stand in the octets of an accepted event, on the channel of its message
+unfoldable pub heard : ℕ → Channel → Event → Last → List Said
+heard key onNch (nch t s) a = under key (take (a .count) (a .entries))
+heard key onFacch (facch t s) a = under key (take (a .count) (a .entries))
+heard key onFacch (nch t s) a = []
+heard key onNch (facch t s) a = []
+heard key c (joined t k) a = []
+heard key c (reselected t) a = []
+heard key c (handedOver t) a = []
+heard key c (reconfigured t) a = []
+heard key c (tick t) a = []
+
+-- what a host reads under a key after each call: nothing where the event was refused
+unfoldable pub readUnder : ℕ → Channel → List Event → List Left → List Said
+readUnder key c [] rest = []
+readUnder key c (e ∷ es) [] = []
+readUnder key c (e ∷ es) (a ∷ rest) = pick (eqb (a .code) 0) (heard key c e (lastOf (a .octets))) [] ++ readUnder key c es rest
+
+-- For every lent octets that an accepted setup filled, and every run of events on them: what is read under a subscribed key on a channel is exactly what
+-- the one-call receiver answers to what that call sees.
+abbrev pub No-call-disturbs-another-in-octets : Type 0
+No-call-disturbs-another-in-octets =
+    (l : List ℕ) (s : Setup) (keys left : List ℕ)
+    → SetUp l s keys left 0
+    → s .tick < 4294967296
+    → (key : ℕ)
+    → indexOf keys key < length keys
+    → (c : Channel) (es : List Event) (run : List Left)
+    → Ticks es
+    → Run left es run
+    → readUnder key c es run ≡ runOne key c (timerOf c s) fresh (seen key c (s .tick) es)
+
+-- ## 2. A refused event
+
+-- every octet stays as it was
+abbrev pub A-refused-event-leaves-the-octets : Type 0
+A-refused-event-leaves-the-octets = (l : List ℕ) (e : Event) → (codeOf l e ≡ 0 → ⊥) → octetsAfter l e ≡ l
+
+-- ## 3. The length
+
+-- no event changes it, so a state stays a state
+abbrev pub The-length-stays : Type 0
+The-length-stays = (l : List ℕ) (e : Event) → length (octetsAfter l e) ≡ length l

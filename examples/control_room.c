@@ -1,0 +1,341 @@
+/* A small control room: events come as lines on standard input, and the calls they tell of go to standard output.
+ *
+ *     setup TICK T3206 T3208 CALL..     the calls to follow; NAME=CALL gives one a name
+ *     nch TICK HEX                      NT/N Rest Octets came
+ *     facch TICK HEX                    NOTIFICATION/FACCH came
+ *     joined TICK CALL                  the call was joined
+ *     reselected TICK, handed_over TICK, reconfigured TICK, tick TICK
+ *
+ * TICK and the timers are in ms. CALL is a reference and its service, 4711/VBS or 4711/VGCS, or the key itself: reference times 2, and 1 more for VGCS.
+ * A word that begins with # begins a comment. A line that cannot be understood is named on standard error and skipped, and the status is then 1.
+ *
+ *     cc control_room.c $(pkg-config --cflags --libs asternhaken) -o control_room && ./control_room < sample.txt */
+#include <asternhaken.h>
+
+#include <stdio.h>
+#include <string.h>
+
+enum {
+    LINE = 4096,                             /* characters of a line at most */
+    WORDS = LINE / 2,                        /* so many words fit on it at most */
+    NAME = 12,                               /* characters of a name at most */
+    PARTS = ASTERNHAKEN_HR_AMR_CONFIG + 1    /* of an answer */
+};
+
+/* A call that is followed, with all parts of its last complete record, when it came and in which cell; its told number is 0 until one came. */
+struct call {
+    uint32_t key, tick, cell;
+    char name[NAME + 1];
+    uint64_t parts[PARTS];
+};
+
+static uint8_t state[ASTERNHAKEN_STATE_LENGTH];
+static struct call calls[ASTERNHAKEN_KEYS];
+static size_t n_calls;
+static uint32_t cells; /* that were left: a channel is of use only in its cell */
+static int is_set_up;
+
+/* ---- Showing ---- */
+
+static uint64_t part(uint32_t entry, uint32_t which)
+{
+    uint64_t value;
+    asternhaken_read(state, sizeof state, entry, which, &value);
+    return value;
+}
+
+static const char *name_of(uint64_t key)
+{
+    for (size_t i = 0; i < n_calls; i++)
+        if (calls[i].key == key) return calls[i].name;
+    return "";
+}
+
+static void show_call(uint64_t key)
+{
+    printf("%-*s  %-4s %8llu", (int)NAME, name_of(key), key % 2 ? "VGCS" : "VBS", (unsigned long long)(key / 2));
+}
+
+static void show_event(uint32_t tick, const char *word)
+{
+    printf("%10lu  %-12s  ", (unsigned long)tick, word);
+}
+
+/* Ends a line, and begins the next where an event's further lines stand. */
+static void next_line(void)
+{
+    printf("\n%26s", "");
+}
+
+static void show_lost(uint64_t n, const char *how)
+{
+    printf("%llu %s %s", (unsigned long long)n, n == 1 ? "half" : "halves", how);
+}
+
+static void show_frequencies(const uint64_t *p)
+{
+    unsigned long long frequencies = p[ASTERNHAKEN_FREQUENCIES];
+    if (p[ASTERNHAKEN_SHORT_LIST]) printf(", hops by the list %016llx", frequencies);
+    else printf(", hops by the allocation %0*llx", 2 * (int)p[ASTERNHAKEN_ALLOCATION_OCTETS], frequencies);
+}
+
+/* The list of calls, each as it was last complete. */
+static void show_list(void)
+{
+    printf("\nCall list\n");
+    for (size_t i = 0; i < n_calls; i++) {
+        const uint64_t *p = calls[i].parts;
+        printf("  ");
+        show_call(calls[i].key);
+        if (p[ASTERNHAKEN_TOLD] == ASTERNHAKEN_NOT_OURS) {
+            printf("  not complete yet\n");
+            continue;
+        }
+        printf("  channel %06llx since %lu, priority %d", (unsigned long long)p[ASTERNHAKEN_CHANNEL], (unsigned long)calls[i].tick, (int)p[ASTERNHAKEN_PRIORITY]);
+        if (calls[i].cell != cells) printf(", in a cell left since");
+        if (p[ASTERNHAKEN_EMERGENCY]) printf(", EMERGENCY");
+        if (p[ASTERNHAKEN_HOPS]) show_frequencies(p);
+        if (p[ASTERNHAKEN_CIPHER_KEY_NUMBER]) printf(", ciphered with key %d", (int)p[ASTERNHAKEN_CIPHER_KEY_NUMBER]);
+        if (p[ASTERNHAKEN_RAND_GIVEN]) printf(", VSTK_RAND %09llx", (unsigned long long)p[ASTERNHAKEN_VSTK_RAND]);
+        if (p[ASTERNHAKEN_COUNTED]) printf(", count %d", (int)p[ASTERNHAKEN_CELL_GLOBAL_COUNT]);
+        printf("\n");
+    }
+}
+
+/* ---- Events ---- */
+
+/* Keeps the record of a complete call. */
+static void keep(uint32_t entry, uint32_t tick)
+{
+    for (size_t i = 0; i < n_calls; i++) {
+        if (calls[i].key != part(entry, ASTERNHAKEN_KEY_OF)) continue;
+        calls[i].tick = tick;
+        calls[i].cell = cells;
+        for (uint32_t p = 0; p < PARTS; p++) calls[i].parts[p] = part(entry, p);
+    }
+}
+
+static void show_entry(uint32_t entry, uint32_t tick)
+{
+    uint64_t told = part(entry, ASTERNHAKEN_TOLD);
+    show_call(part(entry, ASTERNHAKEN_KEY_OF));
+    if (told < ASTERNHAKEN_CLEAR || told > ASTERNHAKEN_JOINED) {
+        printf("  %d %s", (int)told, asternhaken_told_word(told));
+        return;
+    }
+    printf("  %d %-19s  %06llx", (int)told, asternhaken_told_word(told), (unsigned long long)part(entry, ASTERNHAKEN_CHANNEL));
+    keep(entry, tick);
+}
+
+static void show_refusal(uint32_t refusal)
+{
+    printf("refused %d: %s\n", (int)refusal, asternhaken_refusal_word(refusal));
+}
+
+/* What the library said to an event. */
+static void show_answer(uint32_t result, uint32_t tick, const char *word)
+{
+    show_event(tick, word);
+    if (ASTERNHAKEN_REFUSAL(result) != ASTERNHAKEN_ACCEPTED) {
+        show_refusal(ASTERNHAKEN_REFUSAL(result));
+        return;
+    }
+    uint64_t expired = part(0, ASTERNHAKEN_EXPIRED), dropped = part(0, ASTERNHAKEN_DROPPED);
+    uint32_t count = (uint32_t)part(0, ASTERNHAKEN_COUNT);
+    if (expired) show_lost(expired, "ran out");
+    if (expired && dropped) printf(", ");
+    if (dropped) show_lost(dropped, "dropped");
+    if (!expired && !dropped && !count) printf("-");
+    for (uint32_t entry = 0; entry < count; entry++) {
+        if (entry || expired || dropped) next_line();
+        show_entry(entry, tick);
+    }
+    printf("\n");
+}
+
+/* ---- Words ---- */
+
+/* A decimal number, at most so large. */
+static int number(const char *word, uint32_t most, uint32_t *value)
+{
+    uint64_t n = 0;
+    if (!*word) return 0;
+    for (; *word; word++) {
+        if (*word < '0' || *word > '9') return 0;
+        n = n * 10 + (uint64_t)(*word - '0');
+        if (n > most) return 0;
+    }
+    *value = (uint32_t)n;
+    return 1;
+}
+
+/* A call: a key, or a reference with / and its service. Whether there can be such a call, the library says. */
+static int call_key(char *word, uint32_t *key)
+{
+    char *service = strchr(word, '/');
+    int vgcs = service && !strcmp(service, "/VGCS");
+    if (!service) return number(word, UINT32_MAX, key);
+    if (!vgcs && strcmp(service, "/VBS")) return 0;
+    *service = 0;
+    if (!number(word, UINT32_MAX / 2, key)) return 0;
+    *key = ASTERNHAKEN_KEY(*key, vgcs);
+    return 1;
+}
+
+static int digit(char c)
+{
+    static const char digits[] = "0123456789abcdef0123456789ABCDEF";
+    const char *at = c ? strchr(digits, c) : NULL;
+    return at ? (int)((at - digits) % 16) : -1;
+}
+
+/* The octets whose two digits each stand in a word. There is room for those of the longest line. */
+static int hex(const char *word, uint8_t *octets, size_t *n)
+{
+    for (*n = 0; word[2 * *n]; ++*n) {
+        int high = digit(word[2 * *n]), low = digit(word[2 * *n + 1]);
+        if (high < 0 || low < 0) return 0;
+        octets[*n] = (uint8_t)(16 * high + low);
+    }
+    return 1;
+}
+
+/* ---- Lines: each answers what is wrong with it, or nothing ---- */
+
+static const char *set_up(char **words, size_t n)
+{
+    static uint32_t keys[WORDS];
+    static const char *names[WORDS];
+    uint32_t tick, t3206, t3208;
+    if (n < 4) return "a setup is TICK T3206 T3208 CALL..";
+    if (!number(words[1], UINT32_MAX, &tick)) return "TICK is no number of 32 bits";
+    if (!number(words[2], UINT32_MAX, &t3206)) return "T3206 is no number of 32 bits";
+    if (!number(words[3], UINT32_MAX, &t3208)) return "T3208 is no number of 32 bits";
+    for (size_t i = 4; i < n; i++) {
+        char *is = strchr(words[i], '=');
+        if (is) *is = 0;
+        if (is && (size_t)(is - words[i]) > NAME) return "a name is too long";
+        names[i - 4] = is ? words[i] : "";
+        if (!call_key(is ? is + 1 : words[i], &keys[i - 4])) return "CALL is no key, REFERENCE/VBS or REFERENCE/VGCS";
+    }
+
+    uint32_t result = asternhaken_setup(state, sizeof state, keys, n - 4, tick, t3206, t3208);
+    if (ASTERNHAKEN_REFUSAL(result) != ASTERNHAKEN_ACCEPTED) {
+        show_event(tick, "setup");
+        show_refusal(ASTERNHAKEN_REFUSAL(result));
+        return NULL; /* the state is as it was, and so are the calls */
+    }
+    if (is_set_up) {
+        show_list();
+        printf("\n");
+    }
+    is_set_up = 1;
+    memset(calls, 0, sizeof calls);
+    n_calls = n - 4; /* at most ASTERNHAKEN_KEYS, or it had been refused */
+    show_event(tick, "setup");
+    printf("T3206 %lu ms, T3208 %lu ms", (unsigned long)t3206, (unsigned long)t3208);
+    for (size_t i = 0; i < n_calls; i++) {
+        calls[i].key = keys[i];
+        strcpy(calls[i].name, names[i]);
+        next_line();
+        show_call(keys[i]);
+    }
+    printf("\n");
+    return NULL;
+}
+
+static const char *message(char **words, size_t n, uint32_t tick, int is_nch)
+{
+    static uint8_t octets[WORDS];
+    size_t length;
+    if (n != 3) return "the words are TICK HEX";
+    if (!hex(words[2], octets, &length)) return "HEX is not two hexadecimal digits for each octet";
+    uint32_t result = is_nch ? asternhaken_nch(state, sizeof state, tick, octets, length) : asternhaken_facch(state, sizeof state, tick, octets, length);
+    show_answer(result, tick, words[0]);
+    return NULL;
+}
+
+static const char *joined(char **words, size_t n, uint32_t tick)
+{
+    uint32_t key;
+    if (n != 3) return "the words are TICK CALL";
+    if (!call_key(words[2], &key)) return "CALL is no key, REFERENCE/VBS or REFERENCE/VGCS";
+    show_answer(asternhaken_joined(state, sizeof state, tick, key), tick, words[0]);
+    return NULL;
+}
+
+/* The events with nothing but a tick, and whether a cell is left. */
+static const struct {
+    const char *word;
+    uint32_t (*event)(uint8_t *state, size_t state_length, uint32_t tick);
+    uint32_t leaves;
+} plain[4] = {
+    { "reselected", asternhaken_reselected, 1 },
+    { "handed_over", asternhaken_handed_over, 1 },
+    { "reconfigured", asternhaken_reconfigured, 0 },
+    { "tick", asternhaken_tick, 0 }
+};
+
+static const char *event(char **words, size_t n)
+{
+    uint32_t tick;
+    int is_nch = !strcmp(words[0], "nch"), is_joined = !strcmp(words[0], "joined");
+    size_t k = 0;
+    if (!strcmp(words[0], "setup")) return set_up(words, n);
+    while (k < 4 && strcmp(words[0], plain[k].word)) k++;
+    if (k == 4 && !is_nch && !is_joined && strcmp(words[0], "facch")) return "no such event";
+    if (!is_set_up) return "no setup was accepted yet";
+    if (n < 2 || !number(words[1], UINT32_MAX, &tick)) return "TICK is no number of 32 bits";
+    if (is_joined) return joined(words, n, tick);
+    if (k == 4) return message(words, n, tick, is_nch);
+    if (n != 2) return "nothing stands behind the TICK";
+    uint32_t result = plain[k].event(state, sizeof state, tick);
+    if (ASTERNHAKEN_REFUSAL(result) == ASTERNHAKEN_ACCEPTED) cells += plain[k].leaves;
+    show_answer(result, tick, words[0]);
+    return NULL;
+}
+
+/* Cuts a line into its words, up to a comment. */
+static size_t cut(char *line, char **words)
+{
+    static const char blanks[] = " \t\r";
+    size_t n = 0;
+    for (char *at = line + strspn(line, blanks); *at && *at != '#'; at += strspn(at, blanks)) {
+        words[n++] = at;
+        at += strcspn(at, blanks);
+        if (*at) *at++ = 0;
+    }
+    return n;
+}
+
+/* Reads a line without its end. What is wrong with it is answered beside. */
+static int read_line(char *line, const char **wrong)
+{
+    size_t n = 0;
+    int c;
+    *wrong = NULL;
+    while ((c = getchar()) != EOF && c != '\n') {
+        if (n == LINE - 1) *wrong = "the line is too long";
+        else if (c == 0) *wrong = "the line is no text";
+        else line[n++] = (char)c;
+    }
+    line[n] = 0;
+    return c != EOF || n > 0 || *wrong;
+}
+
+int main(void)
+{
+    static char line[LINE], *words[WORDS];
+    const char *wrong;
+    int status = 0;
+    printf("%10s  %-12s  %-*s  %-13s  %-21s  %s\n", "tick", "event", (int)NAME, "name", "call", "told", "channel");
+    for (unsigned long place = 1; read_line(line, &wrong); place++) {
+        size_t n = cut(line, words);
+        if (!wrong && n) wrong = event(words, n);
+        if (!wrong) continue;
+        fprintf(stderr, "line %lu: %s\n", place, wrong);
+        status = 1;
+    }
+    if (is_set_up) show_list();
+    return status;
+}

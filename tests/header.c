@@ -1,0 +1,860 @@
+/* Holds include/asternhaken.h and docs/STATE.md to the archive, since nothing else does: every function with a known answer, every size and limit, each
+ * refusal and told number by its constant, each part of an answer, the state octet by octet. What is lent comes from the heap and has its exact
+ * length, so that valgrind sees a step past it. The last line is 'N passed, M failed'.
+ *
+ * The messages were made from document 01 by hand and by the vectors' authors; the fields of each stand beside it. */
+#include <asternhaken.h>
+
+#include <stdio.h>
+#include <stdlib.h>
+#include <string.h>
+
+#define LENGTH ((size_t)ASTERNHAKEN_STATE_LENGTH)
+
+static unsigned passed, failed;
+
+static void check(int holds, const char *what, int line)
+{
+    if (holds) {
+        passed++;
+        return;
+    }
+    failed++;
+    printf("tests/header.c:%d: %s\n", line, what);
+}
+
+#define CHECK(holds) check((holds) != 0, #holds, __LINE__)
+
+/* ---- Lending ---- */
+
+static void *lent(size_t size)
+{
+    void *memory = malloc(size ? size : 1);
+    if (!memory) exit(2);
+    return memory;
+}
+
+static uint8_t *octets_of(const char *hex, size_t *n)
+{
+    uint8_t *octets = lent(strlen(hex) / 2);
+    unsigned octet;
+    for (*n = 0; sscanf(hex + 2 * *n, "%2x", &octet) == 1; ++*n) octets[*n] = (uint8_t)octet;
+    return octets;
+}
+
+static int same(const uint8_t *octets, const char *hex)
+{
+    size_t n;
+    uint8_t *other = octets_of(hex, &n);
+    int is_same = !memcmp(octets, other, n);
+    free(other);
+    return is_same;
+}
+
+static int all_zero(const uint64_t *numbers, size_t n)
+{
+    for (size_t i = 0; i < n; i++)
+        if (numbers[i]) return 0;
+    return 1;
+}
+
+/* ---- One receiver, in octets that held anything before ---- */
+
+static uint8_t *state, *before;
+
+static const uint32_t two_keys[2] = { ASTERNHAKEN_KEY(4711, 0), ASTERNHAKEN_KEY(4711, 1) };
+
+enum { YARD = 9422, DISPATCHER = 9423 };
+
+static uint32_t set_up(const uint32_t *keys, size_t n, uint32_t tick, uint32_t t3206, uint32_t t3208)
+{
+    uint32_t *copy = lent(n * sizeof *keys);
+    memcpy(copy, keys, n * sizeof *keys);
+    uint32_t result = asternhaken_setup(state, LENGTH, copy, n, tick, t3206, t3208);
+    CHECK(!memcmp(copy, keys, n * sizeof *keys));
+    free(copy);
+    return result;
+}
+
+static void fresh(uint32_t tick)
+{
+    CHECK(set_up(two_keys, 2, tick, ASTERNHAKEN_T3206, ASTERNHAKEN_T3208) == ASTERNHAKEN_ACCEPTED);
+}
+
+static uint32_t nch(uint32_t tick, const char *hex)
+{
+    size_t n;
+    uint8_t *octets = octets_of(hex, &n);
+    uint32_t result = asternhaken_nch(state, LENGTH, tick, octets, n);
+    CHECK(same(octets, hex));
+    free(octets);
+    return result;
+}
+
+static uint32_t facch(uint32_t tick, const char *hex)
+{
+    size_t n;
+    uint8_t *octets = octets_of(hex, &n);
+    uint32_t result = asternhaken_facch(state, LENGTH, tick, octets, n);
+    CHECK(same(octets, hex));
+    free(octets);
+    return result;
+}
+
+static uint64_t part(uint32_t entry, uint32_t which)
+{
+    uint64_t *value = lent(sizeof *value), number;
+    *value = 0xdeadbeef;
+    if (asternhaken_read(state, LENGTH, entry, which, value) != ASTERNHAKEN_ACCEPTED) check(0, "asternhaken_read refuses", __LINE__);
+    number = *value;
+    free(value);
+    return number;
+}
+
+/* An answer's first three parts. */
+static int answers(uint64_t expired, uint64_t dropped, uint64_t count)
+{
+    return part(0, ASTERNHAKEN_EXPIRED) == expired && part(0, ASTERNHAKEN_DROPPED) == dropped && part(0, ASTERNHAKEN_COUNT) == count;
+}
+
+static int tells(uint32_t entry, uint64_t key, uint64_t told)
+{
+    return part(entry, ASTERNHAKEN_KEY_OF) == key && part(entry, ASTERNHAKEN_TOLD) == told;
+}
+
+#define ACCEPTED(call) CHECK((call) == ASTERNHAKEN_ACCEPTED)
+
+/* A refused call of a receiver answers its number, with nothing in the upper bits, and leaves every octet of the state. */
+#define REFUSED(call, number)              \
+    do {                                   \
+        memcpy(before, state, LENGTH);     \
+        CHECK((call) == (uint32_t)(number)); \
+        CHECK(!memcmp(before, state, LENGTH)); \
+    } while (0)
+
+/* ---- Messages ---- */
+
+/* 4711 VBS, acknowledged, priority 2, key number 3, and 4711 VGCS, priority 5, key number 4; NLN 1 on the NCH */
+#define YARD_FIRST "b00024cea38520919a8b2b2b2b2b2b2b2b2b2b2b"       /* channel 0a4123, Segment Id 0, count 1 */
+#define YARD_SECOND "b00024cea30712345678932b2b2b2b2b2b2b2b2b"      /* Segment Id 1, VSTK_RAND 123456789 */
+#define YARD_OTHER_SECOND "b00024ce230712345678932b2b2b2b2b2b2b2b2b" /* the same, not acknowledged */
+#define DISPATCHER_FIRST "b00024cf54adc22b122b2b2b2b2b2b2b2b2b2b2b" /* channel 5b8456, Segment Id 0 */
+#define BOTH_FIRST "4000933a8e1482468001267aa56e1158922b2b2b"       /* both first halves, without NLN */
+#define FACCH_FIRST "040001267aa56e11592b"                          /* the VGCS call, channel 5b8456 */
+#define FACCH_SECOND "040001267aa0aaaaaaaaab2b"                     /* the VGCS call, VSTK_RAND 555555555 */
+#define NOTHING "2b2b2b2b2b2b2b2b2b2b2b2b2b2b2b2b2b2b2b2b"
+
+/* 99999999 VGCS, acknowledged, priority 7, key number 15, in one piece, with every part its channel has. NCH: NLN 2, channel 71f3c5, allocation of
+ * one octet 5a, count 3, VSTK_RAND fedcba987, emergency, uplink 1, AMR 5 and 11, both SMS bits. FACCH: channel 8b1fff, a short list, count 2
+ * with B22, VSTK_RAND 123456789, uplink 1, emergency, and once more with a Paging Cause. */
+#define NCH_WHOLE "dbebc1ffffb8f9e2c02b475fedcba98777aefb2b"
+#define FACCH_WHOLE "045f5e0ffffe2c7fff8000000000000001ec48d159e253"
+#define FACCH_CAUSED "045f5e0ffffe2c7fff8000000000000001ec48d159e257"
+
+static const uint64_t nch_parts[35] = {
+    0, 0, 1, 199999999, ASTERNHAKEN_ONE_PIECE, 99999999, 0x71f3c5, 0x5a, 0xfedcba987,
+    1, 1, 1, 1, 1, 0, 1, 0, 1, 1, 1, 0, 1, 1, 1, 1, 1, 1, 1, 1, 7, 15, 1, 3, 5, 11
+};
+static const uint64_t facch_parts[35] = {
+    0, 0, 1, 199999999, ASTERNHAKEN_ONE_PIECE, 99999999, 0x8b1fff, 0x8000000000000001, 0x123456789,
+    1, 1, 1, 1, 1, 1, 0, 0, 1, 1, 1, 1, 1, 1, 0, 0, 0, 0, 0, 0, 7, 15, 0, 2, 0, 0
+};
+
+/* ---- Setup: limits and refusals ---- */
+
+static void setups(void)
+{
+    uint32_t keys[ASTERNHAKEN_KEYS + 1];
+    for (uint32_t i = 0; i <= ASTERNHAKEN_KEYS; i++) keys[i] = ASTERNHAKEN_LAST_KEY - i;
+    CHECK(ASTERNHAKEN_KEY(99999999, 1) == ASTERNHAKEN_LAST_KEY);
+    CHECK(ASTERNHAKEN_KEY(4711, 0) == YARD && ASTERNHAKEN_KEY(4711, 1) == DISPATCHER);
+    CHECK(ASTERNHAKEN_T3206 == 5000 && ASTERNHAKEN_T3208 == 5000);
+
+    fresh(77);
+    REFUSED(set_up(keys, 51, 5, 5000, 5000), ASTERNHAKEN_SETUP);
+    REFUSED(set_up(two_keys, 2, 5, 0, 5000), ASTERNHAKEN_SETUP);
+    REFUSED(set_up(two_keys, 2, 5, ASTERNHAKEN_LONGEST + 1, 5000), ASTERNHAKEN_SETUP);
+    REFUSED(set_up(two_keys, 2, 5, 5000, 0), ASTERNHAKEN_SETUP);
+    REFUSED(set_up(two_keys, 2, 5, 5000, ASTERNHAKEN_LONGEST + 1), ASTERNHAKEN_SETUP);
+    keys[49] = keys[0];
+    REFUSED(set_up(keys, 50, 5, 5000, 5000), ASTERNHAKEN_SETUP);
+    keys[49] = ASTERNHAKEN_LAST_KEY + 1;
+    REFUSED(set_up(keys, 50, 5, 5000, 5000), ASTERNHAKEN_SETUP);
+    keys[49] = 0;
+    ACCEPTED(set_up(keys, ASTERNHAKEN_KEYS, 5, 1, ASTERNHAKEN_LONGEST));
+    ACCEPTED(set_up(keys, ASTERNHAKEN_KEYS, 5, ASTERNHAKEN_LONGEST, 1));
+    ACCEPTED(set_up(keys, 0, 5, 5000, 5000));
+    CHECK(ASTERNHAKEN_KEYS == 50 && ASTERNHAKEN_LONGEST == 60000);
+}
+
+/* A state of a wrong length is refused before anything else is looked at, and not touched. */
+static void wrong_length(size_t length)
+{
+    uint8_t *octets = lent(length), *copy = lent(length);
+    uint32_t *keys = lent(sizeof *keys);
+    uint8_t *message = lent(1);
+    uint64_t *value = lent(sizeof *value);
+    memcpy(octets, state, length < LENGTH ? length : LENGTH);
+    if (length > LENGTH) memset(octets + LENGTH, 0, length - LENGTH);
+    memcpy(copy, octets, length);
+    *keys = UINT32_MAX;
+    *message = 0;
+    CHECK(asternhaken_setup(octets, length, keys, 1, 0, 0, 0) == ASTERNHAKEN_LENGTH);
+    CHECK(asternhaken_nch(octets, length, 0, message, 1) == ASTERNHAKEN_LENGTH);
+    CHECK(asternhaken_facch(octets, length, 0, message, 1) == ASTERNHAKEN_LENGTH);
+    CHECK(asternhaken_joined(octets, length, 0, UINT32_MAX) == ASTERNHAKEN_LENGTH);
+    CHECK(asternhaken_reselected(octets, length, 0) == ASTERNHAKEN_LENGTH);
+    CHECK(asternhaken_handed_over(octets, length, 0) == ASTERNHAKEN_LENGTH);
+    CHECK(asternhaken_reconfigured(octets, length, 0) == ASTERNHAKEN_LENGTH);
+    CHECK(asternhaken_tick(octets, length, 0) == ASTERNHAKEN_LENGTH);
+    *value = 7;
+    CHECK(asternhaken_read(octets, length, 0, ASTERNHAKEN_COUNT, value) == ASTERNHAKEN_LENGTH);
+    CHECK(*value == 0);
+    CHECK(!memcmp(copy, octets, length));
+    free(octets), free(copy), free(keys), free(message), free(value);
+}
+
+static void lengths(void)
+{
+    fresh(1000);
+    ACCEPTED(nch(1000, YARD_FIRST));
+    CHECK(ASTERNHAKEN_STATE_LENGTH == 6984);
+    wrong_length(6983);
+    wrong_length(6985);
+    wrong_length(0);
+    CHECK(answers(0, 0, 1));
+}
+
+/* ---- Events: what each entry is told, what each event drops ---- */
+
+static void told(void)
+{
+    fresh(1000);
+    ACCEPTED(nch(1001, "b000065e008520918b2b2b2b2b2b2b2b2b2b2b2b")); /* 815 VBS */
+    CHECK(answers(0, 0, 1) && tells(0, 1630, ASTERNHAKEN_NOT_OURS));
+    ACCEPTED(nch(1002, "b00024cea08520918b2b2b2b2b2b2b2b2b2b2b2b")); /* key number 0, channel 0a4123 */
+    CHECK(tells(0, YARD, ASTERNHAKEN_CLEAR) && part(0, ASTERNHAKEN_CHANNEL) == 0x0a4123);
+    ACCEPTED(nch(1003, "b00024cea385209192800000000b2b2b2b2b2b2b")); /* Segment Id 0 with VSTK_RAND 1 */
+    CHECK(tells(0, YARD, ASTERNHAKEN_ONE_PIECE) && part(0, ASTERNHAKEN_VSTK_RAND) == 1);
+    ACCEPTED(nch(1004, YARD_FIRST));
+    CHECK(tells(0, YARD, ASTERNHAKEN_HALF_STORED) && part(0, ASTERNHAKEN_CHANNEL) == 0);
+    ACCEPTED(nch(1005, YARD_FIRST));
+    CHECK(tells(0, YARD, ASTERNHAKEN_HALF_HELD));
+    ACCEPTED(nch(1006, DISPATCHER_FIRST));
+    CHECK(tells(0, DISPATCHER, ASTERNHAKEN_HALF_STORED));
+    ACCEPTED(nch(1007, YARD_OTHER_SECOND));
+    CHECK(tells(0, YARD, ASTERNHAKEN_UNUSABLE));
+    ACCEPTED(nch(1008, YARD_SECOND));
+    CHECK(tells(0, YARD, ASTERNHAKEN_JOINED) && part(0, ASTERNHAKEN_CHANNEL) == 0x0a4123 && part(0, ASTERNHAKEN_VSTK_RAND) == 0x123456789);
+    CHECK(part(0, ASTERNHAKEN_COUNTED) == 1 && part(0, ASTERNHAKEN_CELL_GLOBAL_COUNT) == 1);
+    ACCEPTED(nch(1009, "b00024cea02b2b2b2b2b2b2b2b2b2b2b2b2b2b2b")); /* no channel, key number 0 */
+    CHECK(tells(0, YARD, ASTERNHAKEN_NO_CHANNEL));
+    ACCEPTED(facch(1010, FACCH_SECOND));
+    CHECK(tells(0, DISPATCHER, ASTERNHAKEN_SECOND_BEFORE_FIRST));
+    ACCEPTED(nch(1011, "b00024cea38520918b2b2b2b2b2b2b2b2b2b2b2b")); /* ciphered, with a channel, no random entry */
+    CHECK(tells(0, YARD, ASTERNHAKEN_UNUSABLE));
+    ACCEPTED(facch(1012, FACCH_FIRST));
+    CHECK(tells(0, DISPATCHER, ASTERNHAKEN_HALF_STORED));
+    ACCEPTED(facch(1013, FACCH_SECOND));
+    CHECK(tells(0, DISPATCHER, ASTERNHAKEN_JOINED) && part(0, ASTERNHAKEN_CHANNEL) == 0x5b8456 && part(0, ASTERNHAKEN_VSTK_RAND) == 0x555555555);
+    ACCEPTED(nch(1014, BOTH_FIRST));
+    CHECK(answers(0, 0, 2) && tells(0, YARD, ASTERNHAKEN_HALF_STORED) && tells(1, DISPATCHER, ASTERNHAKEN_HALF_HELD));
+    CHECK(tells(2, 0, 0) && tells(UINT32_MAX, 0, 0));
+    ACCEPTED(nch(1015, NOTHING));
+    CHECK(answers(0, 0, 0) && tells(0, 0, 0));
+}
+
+/* First halves on every place: both keys on the NCH, the second key on the FACCH too. The kind octets say which are held. */
+static void three_halves(uint32_t tick)
+{
+    fresh(tick);
+    ACCEPTED(nch(tick, BOTH_FIRST));
+    ACCEPTED(facch(tick, FACCH_FIRST));
+    CHECK(state[216] == 1 && state[217] == 0 && state[218] == 1 && state[219] == 1);
+}
+
+static void drops(void)
+{
+    three_halves(1000);
+    ACCEPTED(asternhaken_reselected(state, LENGTH, 1001));
+    CHECK(answers(0, 2, 0) && !state[216] && !state[218] && state[219] == 1);
+    three_halves(1000);
+    ACCEPTED(asternhaken_handed_over(state, LENGTH, 1001));
+    CHECK(answers(0, 1, 0) && state[216] == 1 && state[218] == 1 && !state[219]);
+    three_halves(1000);
+    ACCEPTED(asternhaken_reconfigured(state, LENGTH, 1001));
+    CHECK(answers(0, 1, 0) && state[216] == 1 && state[218] == 1 && !state[219]);
+    three_halves(1000);
+    ACCEPTED(asternhaken_joined(state, LENGTH, 1001, DISPATCHER));
+    CHECK(answers(0, 1, 0) && !state[216] && state[218] == 1 && state[219] == 1);
+    three_halves(1000);
+    ACCEPTED(asternhaken_joined(state, LENGTH, 1001, ASTERNHAKEN_LAST_KEY));
+    CHECK(answers(0, 3, 0));
+    three_halves(1000);
+    ACCEPTED(nch(1001, "cb2b2b2b2b2b2b2b2b2b2b2b2b2b2b2b2b2b2b2b")); /* NLN 2, the first one seen */
+    CHECK(answers(0, 0, 0));
+    ACCEPTED(nch(1002, YARD_FIRST)); /* NLN 1 */
+    CHECK(answers(0, 2, 1) && state[216] == 1 && !state[218] && state[219] == 1);
+}
+
+/* T3206 is the NCH's timer and comes first, T3208 the FACCH's. */
+static void timers(void)
+{
+    ACCEPTED(set_up(two_keys, 2, UINT32_MAX - 999, 2000, 1500)); /* 1,000 ms before the tick wraps */
+    ACCEPTED(nch(UINT32_MAX - 999, BOTH_FIRST));
+    ACCEPTED(facch(UINT32_MAX - 999, FACCH_FIRST));
+    ACCEPTED(asternhaken_tick(state, LENGTH, 499));
+    CHECK(answers(0, 0, 0));
+    ACCEPTED(asternhaken_tick(state, LENGTH, 500));
+    CHECK(answers(1, 0, 0) && !state[219]);
+    ACCEPTED(asternhaken_tick(state, LENGTH, 999));
+    CHECK(answers(0, 0, 0));
+    ACCEPTED(asternhaken_tick(state, LENGTH, 1000));
+    CHECK(answers(2, 0, 0) && !state[216] && !state[218]);
+}
+
+static void refusals(void)
+{
+    three_halves(1000);
+    REFUSED(nch(1001, "2b2b2b2b2b2b2b2b2b2b2b2b2b2b2b2b2b2b2b"), ASTERNHAKEN_MESSAGE_LENGTH);
+    REFUSED(nch(1001, NOTHING "2b"), ASTERNHAKEN_MESSAGE_LENGTH);
+    REFUSED(nch(1001, ""), ASTERNHAKEN_MESSAGE_LENGTH);
+    REFUSED(facch(1001, "04"), ASTERNHAKEN_MESSAGE_LENGTH);
+    REFUSED(facch(1001, FACCH_WHOLE "2b"), ASTERNHAKEN_MESSAGE_LENGTH);
+    CHECK(ASTERNHAKEN_NCH_LENGTH == strlen(NOTHING) / 2 && ASTERNHAKEN_FACCH_LONGEST == strlen(FACCH_WHOLE) / 2 && ASTERNHAKEN_FACCH_SHORTEST == 2);
+    REFUSED(nch(1001, "0492492492492492492492492492492492492492"), ASTERNHAKEN_RAN_OUT); /* random entries to the last bit */
+    REFUSED(facch(1001, "042b"), ASTERNHAKEN_RAN_OUT);
+    REFUSED(nch(1001, "4000933a8ee3e00104808080808080808080ab2b"), ASTERNHAKEN_ALLOCATION_LENGTH); /* nine octets */
+    REFUSED(nch(1001, "ffffffffffffffffffffffffffffffffffffffff"), ASTERNHAKEN_REFERENCE);
+    REFUSED(asternhaken_joined(state, LENGTH, 1001, ASTERNHAKEN_LAST_KEY + 1), ASTERNHAKEN_REFERENCE);
+    REFUSED(nch(1001, "4000933a8e14a2462b2b2b2b2b2b2b2b2b2b2b2b"), ASTERNHAKEN_HOPPING); /* channel 0a5123, not hopping */
+    REFUSED(nch(1001, "4000933a80912b2b2b2b2b2b2b2b2b2b2b2b2b2b"), ASTERNHAKEN_RANDOM_ENTRIES); /* one, and the call is clear */
+    REFUSED(nch(1001, "4000933a80702b2b2b2b2b2b2b2b2b2b2b2b2b2b"), ASTERNHAKEN_EMERGENCY_MARKS); /* one, and no channel */
+    REFUSED(facch(1001, "0480"), ASTERNHAKEN_PAGING);
+    REFUSED(nch(999, ""), ASTERNHAKEN_CLOCK);
+    REFUSED(facch(999, ""), ASTERNHAKEN_CLOCK);
+    REFUSED(asternhaken_joined(state, LENGTH, 999, UINT32_MAX), ASTERNHAKEN_CLOCK);
+    REFUSED(asternhaken_reselected(state, LENGTH, 999), ASTERNHAKEN_CLOCK);
+    REFUSED(asternhaken_handed_over(state, LENGTH, 999), ASTERNHAKEN_CLOCK);
+    REFUSED(asternhaken_reconfigured(state, LENGTH, 999), ASTERNHAKEN_CLOCK);
+    REFUSED(asternhaken_tick(state, LENGTH, 999), ASTERNHAKEN_CLOCK);
+    REFUSED(asternhaken_tick(state, LENGTH, 1000 + 0x80000000u), ASTERNHAKEN_CLOCK); /* a step of 2^31 */
+    ACCEPTED(asternhaken_tick(state, LENGTH, 1000 + 0x7fffffffu));
+    CHECK(answers(3, 0, 0));
+}
+
+/* ---- Parts of an answer ---- */
+
+static int no_parts(uint32_t entry, uint32_t from)
+{
+    int there = 0;
+    for (uint32_t p = from; p < 40; p++) there += part(entry, p) != 0;
+    return !there;
+}
+
+static void parts(void)
+{
+    const uint32_t key = ASTERNHAKEN_LAST_KEY;
+    ACCEPTED(set_up(&key, 1, 5, 5000, 5000));
+    CHECK(no_parts(0, 0));
+    ACCEPTED(nch(6, NCH_WHOLE));
+    for (uint32_t p = 0; p < 35; p++) CHECK(part(0, p) == nch_parts[p]);
+    CHECK(no_parts(1, 3) && part(0, 35) == 0 && part(0, UINT32_MAX) == 0);
+    CHECK(part(9, ASTERNHAKEN_COUNT) == 1);
+    ACCEPTED(facch(7, FACCH_WHOLE));
+    for (uint32_t p = 0; p < 35; p++) CHECK(part(0, p) == facch_parts[p]);
+}
+
+/* ---- The state octet by octet ---- */
+
+static uint8_t *layout; /* what docs/STATE.md says the state is */
+
+/* Least significant octet first. */
+static void put(size_t at, size_t width, uint64_t value)
+{
+    for (size_t i = 0; i < width; i++) layout[at + i] = (uint8_t)(value >> 8 * i);
+}
+
+static void clear(size_t at, size_t n)
+{
+    memset(layout + at, 0, n);
+}
+
+/* A record of 4711 VBS with channel 0a4123 and Segment Id 0: flags 24 full, 26 acknowledged, 27 described, 30 Segment Id there. */
+static void put_first(size_t at)
+{
+    clear(at, 56);
+    put(at, 4, 4711);
+    put(at + 4, 4, 0x0a4123);
+    layout[at + 24] = layout[at + 26] = layout[at + 27] = layout[at + 30] = 1;
+    layout[at + 44] = 2;
+    layout[at + 45] = 3;
+}
+
+static void put_answer(uint32_t tick, uint32_t expired, uint32_t dropped, uint32_t count)
+{
+    put(0, 4, tick);
+    put(6320, 4, expired);
+    put(6324, 4, dropped);
+    put(6328, 4, count);
+}
+
+static void put_told(size_t entry, uint64_t key, uint8_t number)
+{
+    put(6336 + 72 * entry, 8, key);
+    layout[6336 + 72 * entry + 8] = number;
+}
+
+#define LAID_OUT() CHECK(!memcmp(state, layout, LENGTH))
+
+static void octets(void)
+{
+    uint32_t keys[3] = { 5, YARD, DISPATCHER };
+    memset(state, 0xee, LENGTH);
+    ACCEPTED(set_up(keys, 3, 0x01020304, 5000, 4000));
+    clear(0, LENGTH);
+    put(0, 4, 0x01020304);
+    put(4, 4, 5000);
+    put(8, 4, 4000);
+    layout[12] = 4;
+    for (size_t i = 0; i < 50; i++) put(16 + 4 * i, 4, i < 3 ? keys[i] : UINT32_MAX);
+    LAID_OUT();
+
+    /* what no event looks at stays as it is: the unused octets, the answer's entries from the second on */
+    memset(state + 13, 0xa1, 3), memset(layout + 13, 0xa1, 3);
+    memset(state + 316, 0xa2, 4), memset(layout + 316, 0xa2, 4);
+    memset(state + 6332, 0xa3, 4), memset(layout + 6332, 0xa3, 4);
+    memset(state + 6345, 0xa4, 7), memset(layout + 6345, 0xa4, 7);
+    memset(state + 6408, 0xa5, 576), memset(layout + 6408, 0xa5, 576);
+
+    /* the place of subscription 1 on the NCH is 2; flag 34 is the count's, octet 47 the count */
+    ACCEPTED(nch(0x01020305, YARD_FIRST));
+    put_answer(0x01020305, 0, 0, 1);
+    layout[12] = 1;
+    layout[216 + 2] = 1;
+    put(320 + 4 * 2, 4, 0x01020305);
+    put_first(720 + 56 * 2);
+    layout[720 + 56 * 2 + 34] = layout[720 + 56 * 2 + 47] = 1;
+    put_told(0, YARD, 4);
+    LAID_OUT();
+
+    /* the place of subscription 2 on the FACCH is 5 */
+    ACCEPTED(facch(0x01020306, FACCH_FIRST));
+    put_answer(0x01020306, 0, 0, 1);
+    layout[216 + 5] = 1;
+    put(320 + 4 * 5, 4, 0x01020306);
+    put(720 + 56 * 5, 4, 4711);
+    put(720 + 56 * 5 + 4, 4, 0x5b8456);
+    layout[720 + 56 * 5 + 24] = layout[720 + 56 * 5 + 25] = layout[720 + 56 * 5 + 27] = 1;
+    layout[720 + 56 * 5 + 44] = 5;
+    layout[720 + 56 * 5 + 45] = 4;
+    put_told(0, DISPATCHER, 4);
+    LAID_OUT();
+
+    /* joined: the place is all zero, and the record in the answer has flag 32 and the VSTK_RAND */
+    ACCEPTED(nch(0x01020307, YARD_SECOND));
+    put_answer(0x01020307, 0, 0, 1);
+    put_told(0, YARD, 3);
+    put_first(6336 + 16);
+    layout[6336 + 16 + 34] = layout[6336 + 16 + 47] = layout[6336 + 16 + 32] = 1;
+    put(6336 + 16 + 16, 8, 0x123456789);
+    layout[216 + 2] = 0;
+    clear(320 + 4 * 2, 4);
+    clear(720 + 56 * 2, 56);
+    LAID_OUT();
+
+    /* not ours: the record of the last answer stays, and is not read */
+    ACCEPTED(nch(0x01020308, "b000065e008520918b2b2b2b2b2b2b2b2b2b2b2b"));
+    put_answer(0x01020308, 0, 0, 1);
+    put_told(0, 1630, 0);
+    LAID_OUT();
+    CHECK(no_parts(0, 4));
+
+    /* run out: all zero again */
+    ACCEPTED(asternhaken_tick(state, LENGTH, 0x01020306 + 4000));
+    put_answer(0x01020306 + 4000, 1, 0, 0);
+    layout[216 + 5] = 0;
+    clear(320 + 4 * 5, 4);
+    clear(720 + 56 * 5, 56);
+    LAID_OUT();
+    CHECK(no_parts(0, 3));
+}
+
+/* Octets that no setup left are answered by the same tables. */
+static void made_by_hand(void)
+{
+    uint64_t parts_of[35] = { 7, 0x01020304, 1, 0x0102030405060708, 3, 0xfffffffe, 0x11223344, 0x1122334455667788, 0x99aabbccddeeff00 };
+    memset(layout, 0xee, LENGTH);
+    put_answer(0, 7, 0x01020304, 1);
+    put_told(0, 0x0102030405060708, 3);
+    put(6352, 4, 0xfffffffe);
+    put(6356, 4, 0x11223344);
+    put(6360, 8, 0x1122334455667788);
+    put(6368, 8, 0x99aabbccddeeff00);
+    for (size_t i = 0; i < 20; i++) layout[6376 + i] = (uint8_t)(200 + i), parts_of[9 + i] = 1;
+    for (size_t i = 0; i < 6; i++) layout[6396 + i] = (uint8_t)(100 + i), parts_of[29 + i] = 100 + i;
+    memcpy(state, layout, LENGTH);
+    for (uint32_t p = 0; p < 35; p++) CHECK(part(0, p) == parts_of[p]);
+    for (uint32_t i = 0; i < 20; i++) { /* each flag alone is 0 */
+        state[6376 + i] = 0;
+        CHECK(part(0, 9 + i) == 0 && part(0, 9 + (i + 1) % 20) == 1 && part(0, 9 + (i + 19) % 20) == 1);
+        state[6376 + i] = 1;
+    }
+    state[6344] = 4; /* told 4 has no record */
+    CHECK(no_parts(0, 5) && tells(0, 0x0102030405060708, 4) && tells(1, 0, 0));
+    state[6328] = 200; /* any number is read as it stands, but there are nine entries */
+    CHECK(part(0, ASTERNHAKEN_COUNT) == 200);
+    CHECK(tells(ASTERNHAKEN_ENTRIES - 1, 0xeeeeeeeeeeeeeeee, 0xee) && no_parts(ASTERNHAKEN_ENTRIES, 3));
+
+    /* the key stands at the places 0 and 1, of which the first counts; a kind of 9 is a second half, which 0a4123's first half joins */
+    memset(state, 0, LENGTH);
+    state[4] = state[8] = 100;
+    state[12] = 4;
+    for (size_t i = 0; i < 2; i++) state[16 + 4 * i] = YARD % 256, state[17 + 4 * i] = YARD / 256;
+    state[216] = state[218] = 9;
+    state[720 + 16] = 0x55;
+    ACCEPTED(nch(99, YARD_FIRST));
+    CHECK(answers(0, 0, 1) && tells(0, YARD, ASTERNHAKEN_JOINED) && part(0, ASTERNHAKEN_VSTK_RAND) == 0x55 && state[216] == 0 && state[218] == 9);
+}
+
+/* ---- The codecs ---- */
+
+/* Reads a message into so many numbers. */
+static uint32_t read_nch(const char *hex, uint64_t *numbers, size_t n_numbers)
+{
+    size_t n;
+    uint8_t *message = octets_of(hex, &n);
+    memset(numbers, 0xff, n_numbers * sizeof *numbers);
+    uint32_t result = asternhaken_nch_read(message, n, numbers, n_numbers);
+    CHECK(same(message, hex));
+    free(message);
+    return result;
+}
+
+static uint32_t read_facch(const char *hex, uint64_t *numbers, size_t n_numbers)
+{
+    size_t n;
+    uint8_t *message = octets_of(hex, &n);
+    memset(numbers, 0xff, n_numbers * sizeof *numbers);
+    uint32_t result = asternhaken_facch_read(message, n, numbers, n_numbers);
+    CHECK(same(message, hex));
+    free(message);
+    return result;
+}
+
+static void nch_reader(void)
+{
+    static const uint64_t call[11] = { 99999999, 1, 1, 7, 15, 1, 0x71f3c5, 1, 0, 1, 0x5a };
+    uint64_t *numbers = lent(110 * 8);
+    ACCEPTED(read_nch(NCH_WHOLE, numbers, 110));
+    CHECK(numbers[0] == 1 && numbers[1] == 2 && numbers[2] == 1 && !memcmp(numbers + 3, call, sizeof call) && all_zero(numbers + 14, 33));
+    CHECK(numbers[47] == 1 && numbers[48] == 1 && numbers[49] == 3 && all_zero(numbers + 50, 11));
+    CHECK(numbers[61] == 1 && numbers[62] == 0 && numbers[63] == 1 && numbers[64] == 0xfedcba987 && all_zero(numbers + 65, 24));
+    CHECK(numbers[89] == 1 && numbers[90] == 1 && numbers[91] == 1 && all_zero(numbers + 92, 3) && numbers[95] == 1 && numbers[96] == 1);
+    CHECK(numbers[97] == 1 && numbers[98] == 1 && numbers[99] == 5 && numbers[100] == 1 && numbers[101] == 11);
+    CHECK(numbers[102] == 1 && numbers[103] == 1 && numbers[104] == 1);
+    CHECK(numbers[ASTERNHAKEN_NCH_USED] == 149 && all_zero(numbers + 106, 4));
+    ACCEPTED(read_nch(BOTH_FIRST, numbers, 110)); /* the second call from 14 on, two random entries */
+    CHECK(numbers[0] == 0 && numbers[2] == 2 && numbers[3] == 4711 && numbers[4] == 0 && numbers[14] == 4711 && numbers[15] == 1 && numbers[17] == 5);
+    CHECK(numbers[18] == 4 && numbers[20] == 0x5b8456 && numbers[61] == 2 && numbers[ASTERNHAKEN_NCH_USED] == 139);
+    /* five reduced references, 1 to 5 */
+    ACCEPTED(read_nch("08000001c0000012000000f0000008800000592b", numbers, 110));
+    CHECK(numbers[50] == 5 && numbers[51] == 1 && numbers[52] == 1 && numbers[59] == 5 && numbers[60] == 1 && numbers[105] == 152);
+    /* a short list of 64 bits; an emergency mark of 0; a random entry of Segment Id 1 */
+    ACCEPTED(read_nch("fbebc1feff80080070000000000000002b2b2b2b", numbers, 110));
+    CHECK(numbers[10] == 1 && numbers[11] == 1 && numbers[12] == 0 && numbers[13] == 0x8000000000000001);
+    ACCEPTED(read_nch("d000000b008500002000001a044e00000000240b", numbers, 110));
+    CHECK(numbers[2] == 2 && numbers[62] == 1 && numbers[64] == 1 && numbers[90] == 1 && numbers[91] == 0);
+    ACCEPTED(read_nch(NOTHING, numbers, 110));
+    CHECK(all_zero(numbers, 105) && numbers[105] == 4 && all_zero(numbers + 106, 4));
+    CHECK(read_nch("ffffffffffffffffffffffffffffffffffffffff", numbers, 110) == ASTERNHAKEN_REFERENCE && all_zero(numbers, 110));
+    CHECK(read_nch("2b", numbers, 110) == ASTERNHAKEN_MESSAGE_LENGTH && all_zero(numbers, 110));
+    free(numbers);
+    numbers = lent(5 * 8); /* five places take the first five numbers */
+    ACCEPTED(read_nch(NCH_WHOLE, numbers, 5));
+    CHECK(numbers[0] == 1 && numbers[1] == 2 && numbers[2] == 1 && numbers[3] == 99999999 && numbers[4] == 1);
+    ACCEPTED(read_nch(NCH_WHOLE, numbers, 0));
+    free(numbers);
+}
+
+/* Writes numbers, one of them another one, into a buffer of so many octets; it must answer so and, where it refuses, touch nothing. */
+static void writes_nch(const uint64_t *numbers, size_t at, uint64_t value, size_t n, uint32_t refusal, const char *hex)
+{
+    uint64_t *copy = lent(105 * 8);
+    uint8_t *written = lent(n), untouched[21];
+    memcpy(copy, numbers, 105 * 8);
+    copy[at] = value;
+    memset(written, 0x5a, n), memset(untouched, 0x5a, sizeof untouched);
+    CHECK(asternhaken_nch_write(copy, ASTERNHAKEN_NCH_NUMBERS, written, n) == refusal);
+    if (refusal == ASTERNHAKEN_ACCEPTED) CHECK(same(written, hex));
+    else CHECK(!memcmp(written, untouched, n));
+    CHECK(copy[at] == value);
+    free(copy), free(written);
+}
+
+static void nch_writer(void)
+{
+    uint64_t *numbers = lent(106 * 8);
+    uint8_t octets20[20] = { 0 };
+    ACCEPTED(read_nch(NCH_WHOLE, numbers, 105));
+    CHECK(ASTERNHAKEN_NCH_NUMBERS == 105);
+    writes_nch(numbers, 0, 1, 20, ASTERNHAKEN_ACCEPTED, NCH_WHOLE);
+    writes_nch(numbers, 1, 1, 20, ASTERNHAKEN_ACCEPTED, "bbebc1ffffb8f9e2c02b475fedcba98777aefb2b");
+    writes_nch(numbers, 1, 4, 20, ASTERNHAKEN_RANGE, "");            /* NLN 4 */
+    writes_nch(numbers, 14, 1, 20, ASTERNHAKEN_RANGE, "");           /* a call that is not there */
+    writes_nch(numbers, 3, 134217728, 20, ASTERNHAKEN_RANGE, "");
+    writes_nch(numbers, 3, 100000000, 20, ASTERNHAKEN_REFERENCE, "");
+    writes_nch(numbers, 12, 9, 20, ASTERNHAKEN_ALLOCATION_LENGTH, "");
+    writes_nch(numbers, 9, 0x71e3c5, 20, ASTERNHAKEN_HOPPING, "");
+    writes_nch(numbers, 7, 0, 20, ASTERNHAKEN_RANDOM_ENTRIES, "");   /* key number 0 beside a random entry */
+    writes_nch(numbers, 90, 2, 20, ASTERNHAKEN_EMERGENCY_MARKS, "");
+    writes_nch(numbers, 0, 1, 19, ASTERNHAKEN_FORM_SIZE, "");
+    writes_nch(numbers, 0, 1, 21, ASTERNHAKEN_FORM_SIZE, "");
+    CHECK(asternhaken_nch_write(numbers, 104, octets20, 20) == ASTERNHAKEN_LENGTH);
+    CHECK(asternhaken_nch_write(numbers, 106, octets20, 20) == ASTERNHAKEN_LENGTH);
+    memset(numbers, 0, 105 * 8);
+    writes_nch(numbers, 0, 0, 20, ASTERNHAKEN_ACCEPTED, NOTHING);
+    free(numbers);
+}
+
+static void facch_reader(void)
+{
+    static const uint64_t whole[22] = { 99999999, 1, 1, 7, 15, 1, 0x8b1fff, 1, 1, 0, 0x8000000000000001, 1, 1, 2, 1, 1, 0x123456789, 1, 1, 1, 0, 182 };
+    uint64_t *numbers = lent(24 * 8);
+    ACCEPTED(read_facch(FACCH_WHOLE, numbers, 24));
+    CHECK(!memcmp(numbers, whole, sizeof whole) && all_zero(numbers + 22, 2));
+    CHECK(ASTERNHAKEN_FACCH_NUMBERS == 21 && ASTERNHAKEN_FACCH_USED == 21);
+    ACCEPTED(read_facch(FACCH_CAUSED, numbers, 24));
+    CHECK(numbers[20] == 1 && numbers[ASTERNHAKEN_FACCH_USED] == 183);
+    ACCEPTED(read_facch("040000001004004002080102030405060708", numbers, 24)); /* an allocation of eight octets */
+    CHECK(numbers[0] == 1 && numbers[9] == 8 && numbers[10] == 0x0102030405060708 && numbers[21] == 144);
+    CHECK(read_facch("0480", numbers, 24) == ASTERNHAKEN_PAGING && all_zero(numbers, 24));
+    CHECK(read_facch("04", numbers, 24) == ASTERNHAKEN_MESSAGE_LENGTH && all_zero(numbers, 24));
+    free(numbers);
+    numbers = lent(2 * 8);
+    ACCEPTED(read_facch(FACCH_WHOLE, numbers, 2));
+    CHECK(numbers[0] == 99999999 && numbers[1] == 1);
+    free(numbers);
+}
+
+/* ---- Elements of 44.068 ---- */
+
+typedef uint32_t half_reader(uint8_t half, uint64_t *numbers, size_t n_numbers);
+typedef uint32_t half_writer(const uint64_t *numbers, size_t n_numbers, uint8_t *half);
+typedef uint32_t octets_reader(const uint8_t *octets, size_t n, uint64_t *numbers, size_t n_numbers);
+typedef uint32_t octets_writer(const uint64_t *numbers, size_t n_numbers, uint8_t *octets, size_t n);
+
+/* An element of one octet reads as these numbers, with a zero behind them and without its last ones where there is no place for them. */
+static void half_reads(half_reader *reader, uint8_t half, const uint64_t *meant, size_t n, uint32_t refusal)
+{
+    uint64_t *numbers = lent((n + 1) * 8);
+    memset(numbers, 0xff, (n + 1) * 8);
+    CHECK(reader(half, numbers, n + 1) == refusal);
+    if (refusal == ASTERNHAKEN_ACCEPTED) CHECK(!memcmp(numbers, meant, n * 8) && numbers[n] == 0);
+    else CHECK(all_zero(numbers, n + 1));
+    free(numbers);
+    numbers = lent((n - 1) * 8);
+    CHECK(reader(half, numbers, n - 1) == refusal);
+    if (refusal == ASTERNHAKEN_ACCEPTED) CHECK(!memcmp(numbers, meant, (n - 1) * 8));
+    else CHECK(all_zero(numbers, n - 1));
+    free(numbers);
+}
+
+/* These numbers are written as an octet, and an array of another length is refused. */
+static void half_writes(half_writer *writer, const uint64_t *meant, size_t n, uint8_t half, uint32_t refusal)
+{
+    uint64_t *numbers = lent((n + 1) * 8);
+    uint8_t *written = lent(1);
+    memcpy(numbers, meant, n * 8);
+    numbers[n] = 0;
+    *written = 0xc3;
+    CHECK(writer(numbers, n + 1, written) == ASTERNHAKEN_LENGTH && *written == 0xc3);
+    CHECK(writer(numbers, n - 1, written) == ASTERNHAKEN_LENGTH && *written == 0xc3);
+    CHECK(writer(numbers, n, written) == refusal);
+    CHECK(*written == (refusal == ASTERNHAKEN_ACCEPTED ? half : 0xc3));
+    free(numbers), free(written);
+}
+
+static void octets_read(octets_reader *reader, const char *hex, const uint64_t *meant, size_t n, uint32_t refusal)
+{
+    size_t length;
+    uint8_t *element = octets_of(hex, &length);
+    uint64_t *numbers = lent((n + 1) * 8);
+    memset(numbers, 0xff, (n + 1) * 8);
+    CHECK(reader(element, length, numbers, n + 1) == refusal);
+    if (refusal == ASTERNHAKEN_ACCEPTED) CHECK(!memcmp(numbers, meant, n * 8) && numbers[n] == 0);
+    else CHECK(all_zero(numbers, n + 1));
+    free(numbers);
+    numbers = lent((n - 1) * 8);
+    CHECK(reader(element, length, numbers, n - 1) == refusal);
+    if (refusal == ASTERNHAKEN_ACCEPTED) CHECK(!memcmp(numbers, meant, (n - 1) * 8));
+    else CHECK(all_zero(numbers, n - 1));
+    free(numbers), free(element);
+}
+
+/* These numbers are written as these octets; with a refusal, the hex says how long the buffer is. */
+static void octets_written(octets_writer *writer, const uint64_t *meant, size_t n, const char *hex, uint32_t refusal)
+{
+    size_t length;
+    uint8_t *element = octets_of(hex, &length), *written = lent(length), *untouched = lent(length);
+    uint64_t *numbers = lent((n + 1) * 8);
+    memcpy(numbers, meant, n * 8);
+    numbers[n] = 0;
+    memset(written, 0xc3, length), memset(untouched, 0xc3, length);
+    CHECK(writer(numbers, n + 1, written, length) == ASTERNHAKEN_LENGTH && !memcmp(written, untouched, length));
+    CHECK(writer(numbers, n - 1, written, length) == ASTERNHAKEN_LENGTH && !memcmp(written, untouched, length));
+    CHECK(writer(numbers, n, written, length) == refusal);
+    CHECK(!memcmp(written, refusal == ASTERNHAKEN_ACCEPTED ? element : untouched, length));
+    free(element), free(written), free(untouched), free(numbers);
+}
+
+static void half_octets(void)
+{
+    static const uint64_t type[2] = { 1, 0x36 }, no_type[2] = { 0, 0x37 }, state11[1] = { 11 }, reserved[1] = { 12 };
+    static const uint64_t one[1] = { 1 }, two[1] = { 2 }, three[1] = { 3 }, nought[1] = { 0 };
+    static const uint64_t attributes[4] = { 1, 0, 1, 0 }, no_attributes[4] = { 1, 0, 2, 0 }, sms[2] = { 1, 0 }, no_sms[2] = { 0, 2 };
+    CHECK(ASTERNHAKEN_MESSAGE_TYPE_NUMBERS == 2 && ASTERNHAKEN_CALL_STATE_NUMBERS == 1 && ASTERNHAKEN_ORIGINATOR_NUMBERS == 1);
+    CHECK(ASTERNHAKEN_STATE_ATTRIBUTES_NUMBERS == 4 && ASTERNHAKEN_SMS_NUMBERS == 2 && ASTERNHAKEN_TALKER_NUMBERS == 1);
+
+    half_reads(asternhaken_message_type_read, 0x76, type, 2, ASTERNHAKEN_ACCEPTED);
+    half_reads(asternhaken_message_type_read, 0x37, type, 2, ASTERNHAKEN_RANGE);
+    half_reads(asternhaken_message_type_read, 0xb6, type, 2, ASTERNHAKEN_RANGE); /* bit 8 */
+    half_writes(asternhaken_message_type_write, type, 2, 0x76, ASTERNHAKEN_ACCEPTED);
+    half_writes(asternhaken_message_type_write, no_type, 2, 0, ASTERNHAKEN_RANGE);
+
+    half_reads(asternhaken_call_state_read, 11, state11, 1, ASTERNHAKEN_ACCEPTED);
+    half_reads(asternhaken_call_state_read, 14, reserved, 1, ASTERNHAKEN_ACCEPTED);
+    half_reads(asternhaken_call_state_read, 16, reserved, 1, ASTERNHAKEN_RANGE);
+    half_writes(asternhaken_call_state_write, state11, 1, 11, ASTERNHAKEN_ACCEPTED);
+    half_writes(asternhaken_call_state_write, reserved, 1, 0, ASTERNHAKEN_RANGE);
+
+    half_reads(asternhaken_originator_read, 0x0f, one, 1, ASTERNHAKEN_ACCEPTED); /* three spare bits */
+    half_reads(asternhaken_originator_read, 0x11, one, 1, ASTERNHAKEN_RANGE);
+    half_writes(asternhaken_originator_write, one, 1, 1, ASTERNHAKEN_ACCEPTED);
+    half_writes(asternhaken_originator_write, two, 1, 0, ASTERNHAKEN_RANGE);
+
+    half_reads(asternhaken_state_attributes_read, 0x0a, attributes, 4, ASTERNHAKEN_ACCEPTED);
+    half_reads(asternhaken_state_attributes_read, 0x1a, attributes, 4, ASTERNHAKEN_RANGE);
+    half_writes(asternhaken_state_attributes_write, attributes, 4, 0x0a, ASTERNHAKEN_ACCEPTED);
+    half_writes(asternhaken_state_attributes_write, no_attributes, 4, 0, ASTERNHAKEN_RANGE);
+
+    half_reads(asternhaken_sms_read, 0x0e, sms, 2, ASTERNHAKEN_ACCEPTED); /* two spare bits */
+    half_reads(asternhaken_sms_read, 0x12, sms, 2, ASTERNHAKEN_RANGE);
+    half_writes(asternhaken_sms_write, sms, 2, 2, ASTERNHAKEN_ACCEPTED);
+    half_writes(asternhaken_sms_write, no_sms, 2, 0, ASTERNHAKEN_RANGE);
+
+    half_reads(asternhaken_talker_read, 0x0a, two, 1, ASTERNHAKEN_ACCEPTED); /* a spare bit */
+    half_reads(asternhaken_talker_read, 0x05, nought, 1, ASTERNHAKEN_ACCEPTED); /* 3 to 7 are normal */
+    half_reads(asternhaken_talker_read, 0x10, two, 1, ASTERNHAKEN_RANGE);
+    half_writes(asternhaken_talker_write, two, 1, 2, ASTERNHAKEN_ACCEPTED);
+    half_writes(asternhaken_talker_write, three, 1, 0, ASTERNHAKEN_RANGE);
+}
+
+static void call_references(void)
+{
+    static const uint64_t bare[3] = { 99999999, 0, 0 }, ranked[3] = { 4711, 1, 5 }, reserved[3] = { 4711, 1, 0 };
+    static const uint64_t high[3] = { 100000000, 0, 0 }, wide[3] = { 134217728, 0, 0 }, absent[3] = { 4711, 0, 5 };
+    CHECK(ASTERNHAKEN_CALL_REFERENCE_NUMBERS == 3);
+    octets_read(asternhaken_call_reference_read, "bebc1fef", bare, 3, ASTERNHAKEN_ACCEPTED); /* four spare bits */
+    octets_read(asternhaken_call_reference_read, "00024cfb", ranked, 3, ASTERNHAKEN_ACCEPTED); /* one */
+    octets_read(asternhaken_call_reference_read, "00024cf0", reserved, 3, ASTERNHAKEN_ACCEPTED);
+    octets_read(asternhaken_call_reference_read, "bebc2000", bare, 3, ASTERNHAKEN_REFERENCE);
+    octets_read(asternhaken_call_reference_read, "bebc20", bare, 3, ASTERNHAKEN_LENGTH);
+    octets_read(asternhaken_call_reference_read, "", bare, 3, ASTERNHAKEN_LENGTH);
+    octets_written(asternhaken_call_reference_write, bare, 3, "bebc1fe0", ASTERNHAKEN_ACCEPTED);
+    octets_written(asternhaken_call_reference_write, ranked, 3, "00024cfa", ASTERNHAKEN_ACCEPTED);
+    octets_written(asternhaken_call_reference_write, reserved, 3, "00000000", ASTERNHAKEN_RANGE);
+    octets_written(asternhaken_call_reference_write, absent, 3, "00000000", ASTERNHAKEN_RANGE);
+    octets_written(asternhaken_call_reference_write, wide, 3, "00000000", ASTERNHAKEN_RANGE);
+    octets_written(asternhaken_call_reference_write, high, 3, "00000000", ASTERNHAKEN_REFERENCE);
+    octets_written(asternhaken_call_reference_write, ranked, 3, "0000000000", ASTERNHAKEN_FORM_SIZE);
+}
+
+static void dispatcher_digits(void)
+{
+    static const uint64_t annex_a[12] = { '0', '0', '0', '0', '0', '0', '0', '0', '9', '1', '2', '3' };
+    static const uint64_t nines[12] = { '9', '9', '9', '9', '9', '9', '9', '9', '9', '9', '9', '9' };
+    static const uint64_t letter[12] = { '0', '0', '0', '0', '0', '0', '0', '0', '9', '1', '2', 'A' };
+    CHECK(ASTERNHAKEN_DIGITS_NUMBERS == 12);
+    octets_read(asternhaken_digits_read, "00000023a3", annex_a, 12, ASTERNHAKEN_ACCEPTED);
+    octets_read(asternhaken_digits_read, "e8d4a50fff", nines, 12, ASTERNHAKEN_ACCEPTED);
+    octets_read(asternhaken_digits_read, "e8d4a51000", nines, 12, ASTERNHAKEN_RANGE);
+    octets_read(asternhaken_digits_read, "e8d4a50f", nines, 12, ASTERNHAKEN_LENGTH);
+    octets_written(asternhaken_digits_write, annex_a, 12, "00000023a3", ASTERNHAKEN_ACCEPTED);
+    octets_written(asternhaken_digits_write, nines, 12, "e8d4a50fff", ASTERNHAKEN_ACCEPTED);
+    octets_written(asternhaken_digits_write, letter, 12, "0000000000", ASTERNHAKEN_RANGE);
+    octets_written(asternhaken_digits_write, nines, 12, "000000000000", ASTERNHAKEN_FORM_SIZE);
+}
+
+/* A cause of these septets and diagnostics; the meaning stands behind them. */
+static void causes(void)
+{
+    static uint64_t normal[514], twice[514], invalid[512], never[512];
+    CHECK(ASTERNHAKEN_CAUSE_NUMBERS == 512);
+    normal[0] = 1, normal[1] = 16; /* normal call clearing, without diagnostics */
+    normal[ASTERNHAKEN_CAUSE_MEANING] = 1, normal[ASTERNHAKEN_CAUSE_VALUE] = 16;
+    twice[0] = 2, twice[1] = 16, twice[2] = 17, twice[256] = 3, twice[257] = 0xff, twice[258] = 0, twice[259] = 0x10;
+    twice[ASTERNHAKEN_CAUSE_MEANING] = 2;
+    octets_read(asternhaken_cause_read, "90", normal, 514, ASTERNHAKEN_ACCEPTED);
+    octets_read(asternhaken_cause_read, "1091ff0010", twice, 514, ASTERNHAKEN_ACCEPTED);
+    octets_read(asternhaken_cause_read, "10", normal, 514, ASTERNHAKEN_LENGTH);
+    octets_read(asternhaken_cause_read, "", normal, 514, ASTERNHAKEN_LENGTH);
+    octets_written(asternhaken_cause_write, normal, 512, "90", ASTERNHAKEN_ACCEPTED);
+    octets_written(asternhaken_cause_write, twice, 512, "1091ff0010", ASTERNHAKEN_ACCEPTED);
+    octets_written(asternhaken_cause_write, twice, 512, "1091ff00", ASTERNHAKEN_FORM_SIZE);
+    octets_written(asternhaken_cause_write, twice, 512, "1091ff001000", ASTERNHAKEN_FORM_SIZE);
+    octets_written(asternhaken_cause_write, never, 512, "", ASTERNHAKEN_LENGTH); /* no septet */
+    invalid[0] = 1, invalid[1] = 128;
+    octets_written(asternhaken_cause_write, invalid, 512, "00", ASTERNHAKEN_RANGE);
+    invalid[1] = 1, invalid[511] = 1; /* an unused place */
+    octets_written(asternhaken_cause_write, invalid, 512, "00", ASTERNHAKEN_RANGE);
+
+    uint8_t longest[256];
+    uint64_t *numbers = lent(514 * 8);
+    memset(longest, 0xff, sizeof longest);
+    ACCEPTED(asternhaken_cause_read(longest, 255, numbers, 514));
+    CHECK(numbers[0] == 1 && numbers[1] == 127 && numbers[256] == 254 && numbers[510] == 255 && numbers[511] == 0 && numbers[512] == 2 && numbers[513] == 0);
+    CHECK(asternhaken_cause_read(longest, 256, numbers, 514) == ASTERNHAKEN_LENGTH && all_zero(numbers, 514));
+    free(numbers);
+}
+
+/* ---- Words ---- */
+
+static void words(void)
+{
+    int alike = 0; /* each number has a word of its own */
+    for (uint32_t i = 0; i < 14; i++)
+        for (uint32_t j = 0; j < i; j++) alike += !strcmp(asternhaken_refusal_word(i), asternhaken_refusal_word(j));
+    for (uint32_t i = 0; i < 9; i++)
+        for (uint32_t j = 0; j < i; j++) alike += !strcmp(asternhaken_told_word(i), asternhaken_told_word(j));
+    CHECK(!alike);
+    CHECK(!strcmp(asternhaken_refusal_word(ASTERNHAKEN_ACCEPTED), "accepted") && !strcmp(asternhaken_refusal_word(ASTERNHAKEN_CLOCK), "clock"));
+    CHECK(!strcmp(asternhaken_refusal_word(ASTERNHAKEN_LENGTH), "length") && !strcmp(asternhaken_refusal_word(14), "unknown"));
+    CHECK(!strcmp(asternhaken_told_word(ASTERNHAKEN_JOINED), "complete, joined") && !strcmp(asternhaken_told_word(9), "unknown"));
+    CHECK(ASTERNHAKEN_REFUSAL(0xffffff00u + ASTERNHAKEN_PAGING) == ASTERNHAKEN_PAGING);
+}
+
+int main(void)
+{
+    state = lent(LENGTH), before = lent(LENGTH), layout = lent(LENGTH);
+    setups();
+    lengths();
+    told();
+    drops();
+    timers();
+    refusals();
+    parts();
+    octets();
+    made_by_hand();
+    nch_reader();
+    nch_writer();
+    facch_reader();
+    half_octets();
+    call_references();
+    dispatcher_digits();
+    causes();
+    words();
+    free(state), free(before), free(layout);
+    printf("%u passed, %u failed\n", passed, failed);
+    return failed != 0;
+}

@@ -1,0 +1,209 @@
+/* How deep the library's functions go: each is run on a stack of its own that was painted before, and what is not paint any more was used. What the call
+ * itself and the switch of stacks take counts too, so a function uses no more than is said. The last line is 'N passed, M failed': each is under 4,096 octets.
+ *
+ * The program is linked so that no function of the C library is looked for at its first call, which would be counted. */
+#define _XOPEN_SOURCE 700
+#include <asternhaken.h>
+
+#include <stdio.h>
+#include <stdlib.h>
+#include <string.h>
+#include <ucontext.h>
+
+enum { STACK = 65536, LIMIT = 4096 };
+
+static unsigned char *stack;
+static ucontext_t here, there;
+static uint8_t state[ASTERNHAKEN_STATE_LENGTH], octets[256];
+static uint32_t keys[ASTERNHAKEN_KEYS];
+static uint64_t numbers[600], value;
+static size_t n;
+static uint32_t tick;
+
+/* ---- The calls, with what they are lent in the variables above ---- */
+
+static uint32_t setup(void) { return asternhaken_setup(state, sizeof state, keys, ASTERNHAKEN_KEYS, tick, 5000, 5000); }
+static uint32_t nch(void) { return asternhaken_nch(state, sizeof state, tick, octets, n); }
+static uint32_t facch(void) { return asternhaken_facch(state, sizeof state, tick, octets, n); }
+static uint32_t joined(void) { return asternhaken_joined(state, sizeof state, tick, keys[49]); }
+static uint32_t reselected(void) { return asternhaken_reselected(state, sizeof state, tick); }
+static uint32_t handed_over(void) { return asternhaken_handed_over(state, sizeof state, tick); }
+static uint32_t reconfigured(void) { return asternhaken_reconfigured(state, sizeof state, tick); }
+static uint32_t ticked(void) { return asternhaken_tick(state, sizeof state, tick); }
+static uint32_t read_part(void) { return asternhaken_read(state, sizeof state, 0, ASTERNHAKEN_CHANNEL, &value); }
+static uint32_t nch_read(void) { return asternhaken_nch_read(octets, n, numbers, 106); }
+static uint32_t nch_write(void) { return asternhaken_nch_write(numbers, ASTERNHAKEN_NCH_NUMBERS, octets, 20); }
+static uint32_t facch_read(void) { return asternhaken_facch_read(octets, n, numbers, 22); }
+static uint32_t message_type_read(void) { return asternhaken_message_type_read(0x31, numbers, 2); }
+static uint32_t message_type_write(void) { return asternhaken_message_type_write(numbers, 2, octets); }
+static uint32_t call_reference_read(void) { return asternhaken_call_reference_read(octets, 4, numbers, 3); }
+static uint32_t call_reference_write(void) { return asternhaken_call_reference_write(numbers, 3, octets, 4); }
+static uint32_t call_state_read(void) { return asternhaken_call_state_read(11, numbers, 1); }
+static uint32_t call_state_write(void) { return asternhaken_call_state_write(numbers, 1, octets); }
+static uint32_t cause_read(void) { return asternhaken_cause_read(octets, n, numbers, 514); }
+static uint32_t cause_write(void) { return asternhaken_cause_write(numbers, ASTERNHAKEN_CAUSE_NUMBERS, octets, n); }
+static uint32_t originator_read(void) { return asternhaken_originator_read(1, numbers, 1); }
+static uint32_t originator_write(void) { return asternhaken_originator_write(numbers, 1, octets); }
+static uint32_t state_attributes_read(void) { return asternhaken_state_attributes_read(15, numbers, 4); }
+static uint32_t state_attributes_write(void) { return asternhaken_state_attributes_write(numbers, 4, octets); }
+static uint32_t sms_read(void) { return asternhaken_sms_read(3, numbers, 2); }
+static uint32_t sms_write(void) { return asternhaken_sms_write(numbers, 2, octets); }
+static uint32_t talker_read(void) { return asternhaken_talker_read(2, numbers, 1); }
+static uint32_t talker_write(void) { return asternhaken_talker_write(numbers, 1, octets); }
+static uint32_t digits_read(void) { return asternhaken_digits_read(octets, 5, numbers, 12); }
+static uint32_t digits_write(void) { return asternhaken_digits_write(numbers, 12, octets, 5); }
+
+/* ---- Measuring ---- */
+
+static uint32_t (*job)(void);
+static uint32_t result;
+
+static void on_the_other_stack(void)
+{
+    result = job();
+}
+
+/* The octets of a painted stack that a call used. */
+static size_t used(unsigned char paint)
+{
+    size_t at = 0;
+    memset(stack, paint, STACK);
+    if (getcontext(&there)) exit(2);
+    there.uc_stack.ss_sp = stack;
+    there.uc_stack.ss_size = STACK;
+    there.uc_link = &here;
+    makecontext(&there, on_the_other_stack, 0);
+    if (swapcontext(&here, &there)) exit(2);
+    while (at < STACK && stack[at] == paint) at++;
+    return STACK - at;
+}
+
+static unsigned passed, failed;
+static size_t deepest;
+static const char *deepest_name;
+
+static uint8_t kept_state[ASTERNHAKEN_STATE_LENGTH], kept_octets[256];
+static uint64_t kept_numbers[600];
+
+/* Runs a call twice from the same memory, with two paints, so that an octet that happens to be written like paint is seen. */
+static size_t depth(uint32_t (*call)(void), uint32_t expected, const char *name)
+{
+    size_t most = 0;
+    memcpy(kept_state, state, sizeof state), memcpy(kept_octets, octets, sizeof octets), memcpy(kept_numbers, numbers, sizeof numbers);
+    job = call;
+    for (int i = 0; i < 2; i++) {
+        memcpy(state, kept_state, sizeof state), memcpy(octets, kept_octets, sizeof octets), memcpy(numbers, kept_numbers, sizeof numbers);
+        size_t one = used(i ? 0x5a : 0xa5);
+        if (one > most) most = one;
+        if (result == expected) continue;
+        printf("%s answered %lu\n", name, (unsigned long)result);
+        failed++;
+    }
+    return most;
+}
+
+static void measure(uint32_t (*call)(void), uint32_t expected, const char *name)
+{
+    size_t most = depth(call, expected, name);
+    printf("%6lu  %s\n", (unsigned long)most, name);
+    if (most < LIMIT) passed++;
+    else failed++;
+    if (most <= deepest) return;
+    deepest = most;
+    deepest_name = name;
+}
+
+static void lend(const char *hex)
+{
+    unsigned octet;
+    for (n = 0; sscanf(hex + 2 * n, "%2x", &octet) == 1; n++) octets[n] = (uint8_t)octet;
+}
+
+static void message(uint32_t (*call)(void), const char *name, const char *hex, uint32_t expected)
+{
+    lend(hex);
+    tick++;
+    measure(call, expected, name);
+}
+
+/* ---- What is run: what fills the state and what is refused late, since both go deep ---- */
+
+static void receiver(void)
+{
+    for (uint32_t i = 0; i < ASTERNHAKEN_KEYS; i++) keys[i] = i < 2 ? 9422 + i : i;
+    keys[49] = ASTERNHAKEN_LAST_KEY;
+    measure(setup, 0, "setup, 50 keys");
+    message(nch, "nch, two first halves stored", "4000933a8e1482468001267aa56e1158922b2b2b", 0);
+    message(nch, "nch, both held already", "4000933a8e1482468001267aa56e1158922b2b2b", 0);
+    message(nch, "nch, a second half joined", "b00024cea30712345678932b2b2b2b2b2b2b2b2b", 0);
+    message(nch, "nch, one by reduced reference", "a68001267b855e6f780b2b2b2b2b2b2b2b2b2b2b", 0);
+    message(nch, "nch, every part, in one piece", "dbebc1ffffb8f9e2c02b475fedcba98777aefb2b", 0);
+    message(nch, "nch, five reduced references", "08000001c0000012000000f0000008800000592b", 0);
+    message(nch, "nch, four calls", "900000030040000010010000007804000002040b", 0);
+    message(nch, "nch, refused at the last bit", "0492492492492492492492492492492492492492", 2);
+    message(nch, "nch, refused behind it", "4000933a80702b2b2b2b2b2b2b2b2b2b2b2b2b2b", 7);
+    message(facch, "facch, a first half stored", "040001267aa56e11592b", 0);
+    message(facch, "facch, held already", "040001267aa56e11592b", 0);
+    message(facch, "facch, its second joined", "040001267aa0aaaaaaaaab2b", 0);
+    message(facch, "facch, every part", "045f5e0ffffe2c7fff8000000000000001ec48d159e257", 0);
+    message(facch, "facch, refused", "0480", 8);
+    message(nch, "nch, two first halves stored", "4000933a8e1482468001267aa56e1158922b2b2b", 0);
+    measure(joined, 0, "joined, two halves dropped");
+    measure(reselected, 0, "reselected");
+    measure(handed_over, 0, "handed_over");
+    measure(reconfigured, 0, "reconfigured");
+    tick += 5000;
+    measure(ticked, 0, "tick, halves run out");
+    measure(read_part, 0, "read");
+}
+
+static void messages(void)
+{
+    lend("dbebc1ffffb8f9e2c02b475fedcba98777aefb2b");
+    measure(nch_read, 0, "nch_read");
+    if (nch_read()) exit(2);
+    measure(nch_write, 0, "nch_write");
+    lend("045f5e0ffffe2c7fff8000000000000001ec48d159e257");
+    measure(facch_read, 0, "facch_read");
+}
+
+/* A reader, and a writer of what was read. */
+static void both_ways(uint32_t (*reader)(void), const char *read, uint32_t (*writer)(void), const char *write)
+{
+    measure(reader, 0, read);
+    if (reader()) exit(2);
+    measure(writer, 0, write);
+}
+
+static void elements(void)
+{
+    both_ways(message_type_read, "message_type_read", message_type_write, "message_type_write");
+    lend("00024cfa");
+    both_ways(call_reference_read, "call_reference_read", call_reference_write, "call_reference_write");
+    both_ways(call_state_read, "call_state_read", call_state_write, "call_state_write");
+    memset(octets, 0x10, sizeof octets);
+    octets[254] = 0x90;
+    n = 255;
+    both_ways(cause_read, "cause_read, 255 septets", cause_write, "cause_write, 255 septets");
+    octets[0] = 0x90;
+    both_ways(cause_read, "cause_read, 254 diagnostics", cause_write, "cause_write, 254 diagnostics");
+    both_ways(originator_read, "originator_read", originator_write, "originator_write");
+    both_ways(state_attributes_read, "state_attributes_read", state_attributes_write, "state_attributes_write");
+    both_ways(sms_read, "sms_read", sms_write, "sms_write");
+    both_ways(talker_read, "talker_read", talker_write, "talker_write");
+    lend("e8d4a50fff");
+    both_ways(digits_read, "digits_read", digits_write, "digits_write");
+}
+
+int main(void)
+{
+    stack = malloc(STACK);
+    if (!stack) return 2;
+    receiver();
+    messages();
+    elements();
+    free(stack);
+    printf("deepest: %lu octets of stack, in %s\n", (unsigned long)deepest, deepest_name);
+    printf("%u passed, %u failed\n", passed, failed);
+    return failed != 0;
+}
