@@ -6,7 +6,7 @@ use mathlib.Core.Option.{Option, none, some}
 use mathlib.Core.Logic.{inl, inr}
 use Prim.Native.Nat.{ℕ, zero, suc, _*_, _^_, _≤_, _<_}
 use native.Mathlib.Omega.{arith}
-use lib.ListN.{length, getD}
+use lib.ListN.{length}
 use lib.Dec.{leb, ltb, eqb}
 use borrow.Author.Tests.{ltb-true, leb-true, eqb-true, lt-ltb, not-true}
 use Rattle.bits.specs.Field.{both, pick}
@@ -16,7 +16,7 @@ use Rattle.csn1.specs.Told.{isThere, there, isOne, asBit}
 use Rattle.csn1.proofs.Writing.{fits-length, both-true, bit-back, flag-back, flag-lt, there-back}
 use Rattle.call.specs.declared.Call.{Call}
 use Rattle.call.specs.declared.Description.{Description}
-use Rattle.call.specs.Call.{CallValue, DescriptionValue, groupCall, description, frequencies, callOf, callValue, descriptionOf, descriptionValue, withFrequencies, noCall, noDescription, ciphered, oneToEight, hoppingBit}
+use Rattle.call.specs.Call.{CallValue, DescriptionValue, groupCall, description, frequencies, callOf, callValue, descriptionOf, descriptionValue, withFrequencies, noCall, noDescription, oneToEight, hoppingBit}
 use Rattle.call.specs.Write.{callInRange, callIsZero, callIsLow, callLengthRight, callHopsRight, frequenciesInRange, descriptionInRange, descriptionIsZero, headInRange}
 use Rattle.call.proofs.Laws.{widths, value-size}
 
@@ -186,9 +186,6 @@ module _ (v : CallValue) (h : groupCall .fits v) where
   call-long n p = omega (arith, value-size n p v (fits-length widths (v .0) (h .0 .0)))
 
 -- ## What others ask of a value
-
-pub call-ciphered : (v : CallValue) → ciphered (callOf v) ≡ leb 1 (getD (v .0) 4 0)
-call-ciphered v = refl
 
 pub call-described : (v : CallValue) → callOf v .described ≡ isThere (v .1)
 call-described v = refl

@@ -15,7 +15,7 @@ use Rattle.bits.specs.declared.Got.the-variants.{Bits, Short}
 use Rattle.bits.proofs.Laws.{field-lt, field-split}
 use Rattle.bits.proofs.Answers.{fetched-here}
 use Rattle.csn1.specs.declared.Refusal.{Refusal}
-use Rattle.csn1.specs.Format.{Res, ok, bad, _then_, ranOut, noRefusal, Format, num, row, total, fieldsAt, readItems, opt, release, padBit, coded, either, _▹_}
+use Rattle.csn1.specs.Format.{Res, ok, bad, _then_, ranOut, noRefusal, Format, num, row, total, fieldsAt, readItems, opt, release, padBit, coded, either}
 use Rattle.csn1.specs.Promises.{Grounded}
 use Rattle.csn1.specs.Told.{isOne, readAt, flaggedAt, lead, leadAt, leadOf, codedOf}
 
@@ -172,15 +172,6 @@ release-led F s p = go (eqb p (length s * 8)) (num 1 .read s p)
     go true x = refl
     go false (bad r) = refl
     go false (ok b m) = rest (eqb b (padBit p)) m
-
--- ## One after the other
-
-module _ {A B : Type 0} (F : Format A) (G : A → Format B) (s : List ℕ) (p : ℕ) where
-  pub seq-bad : (r : Refusal) → F .read s p ≡ bad r → (F ▹ G) .read s p ≡ bad r
-  seq-bad r e = rw e
-
-  pub seq-then : (a : A) (q : ℕ) → F .read s p ≡ ok a q → (F ▹ G) .read s p ≡ G a .read s q then (λ b t. ok (a, b) t)
-  seq-then a q e = rw e
 
 -- ## A list
 

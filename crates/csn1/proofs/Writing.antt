@@ -12,7 +12,7 @@ use borrow.Author.Tests.{le-leb, lt-ltb}
 use mir.Val.{boolByte}
 use Rattle.bits.specs.Field.{both, setField, canPut, afterPut}
 use Rattle.bits.proofs.Laws.{length-setField}
-use Rattle.csn1.specs.Format.{Format, numBits, total, rowBits, rowFits, itemsBits, putBits}
+use Rattle.csn1.specs.Format.{numBits, total, rowBits, rowFits, putBits}
 use Rattle.csn1.specs.Told.{isThere, there, isOne, asBit}
 use Rattle.csn1.proofs.Holding.{put-join, put-num, length-numBits}
 
@@ -54,10 +54,6 @@ there-back false a = refl
 pub put-bit : (s : List ℕ) (p b : ℕ) → b < 2 → putBits s p (b ∷ []) ≡ setField s p 1 b
 unfolding numBits
 put-bit s p b h = ap (λ (x : ℕ). putBits s p (x ∷ [])) (sym (mod-eq-of-lt h)) ∙ put-num s p 1 b
-
--- a bit and more
-pub put-led : (s : List ℕ) (p b : ℕ) (bs : List ℕ) → b < 2 → putBits s p (b ∷ bs) ≡ putBits (setField s p 1 b) (p + 1) bs
-put-led s p b bs h = put-join s p (b ∷ []) bs ∙ ap (λ (t : List ℕ). putBits t (p + 1) bs) (put-bit s p b h)
 
 -- a number and more
 pub put-first : (s : List ℕ) (p w v : ℕ) (bs : List ℕ) → putBits s p (numBits w v ++ bs) ≡ putBits (setField s p w v) (p + w) bs
@@ -143,19 +139,3 @@ pub row-led : (ws l : List ℕ) (b : ℕ) (bs : List ℕ) → rowFits ws l → b
 unfolding numBits
 row-led ws l b bs f h =
     rw (row-glued ws l f, num-join (total ws) 1 (glued ws l) b h, append-assoc, mod-eq-of-lt h)
-
--- ## A list's first part and the rest
-
-module _ {A : Type 0} (F : Format A) (n p : ℕ) (a : A) (l : List A) where
-  pub put-item : (s : List ℕ)
-      → putBits s p (itemsBits F n p (a ∷ l))
-      ≡ putBits (putBits (setField s p 1 1) (p + 1) (F .bits n (p + 1) a)) (p + 1 + length (F .bits n (p + 1) a)) (itemsBits F n (p + 1 + length (F .bits n (p + 1) a)) l)
-  put-item s =
-      let xs : List ℕ = F .bits n (p + 1) a in
-      let ys : List ℕ = itemsBits F n (p + 1 + length xs) l in
-      put-led s p 1 (xs ++ ys) (omega arith) ∙ put-join (setField s p 1 1) (p + 1) xs ys
-
-  pub length-item : p + length (itemsBits F n p (a ∷ l)) ≡ p + 1 + length (F .bits n (p + 1) a) + length (itemsBits F n (p + 1 + length (F .bits n (p + 1) a)) l)
-  length-item =
-      let xs : List ℕ = F .bits n (p + 1) a in
-      omega (arith, length-append xs (itemsBits F n (p + 1 + length xs) l))

@@ -1,16 +1,9 @@
 -- The promises of specs/Promises.antt, each proved by the law that it cites. Assumes nothing.
-use mathlib.Core.Path.{refl, sym, _∙_}
-use Rattle.gcc.specs.Numeral.{spell, worth}
-use Rattle.gcc.specs.Cause as cause
-use Rattle.gcc.specs.Digits as digits
 use Rattle.gcc.specs.Promises as promises
 use Rattle.gcc.proofs.Tables as tables
 use Rattle.gcc.proofs.CallReferences as call-references
 use Rattle.gcc.proofs.CauseTrips as causes
 use Rattle.gcc.proofs.Otdi as otdi
-
-pub one-result : promises.OneResult
-one-result A a b said p q = p ∙ sym q
 
 -- ## Reading what was written gives the meaning back
 
@@ -70,14 +63,10 @@ talker-writes-back = tables.talker-writes-back
 pub digits-write-back : promises.DigitsWriteBack
 digits-write-back = otdi.digits-write-back
 
--- ## The number and its digits, and the listed inputs
+-- ## The number and its digits
 
 pub digits-of-number : promises.DigitsOfNumber
 digits-of-number = otdi.digits-of-number
 
 pub number-of-digits : promises.NumberOfDigits
 number-of-digits = otdi.number-of-digits
-
-pub listed-inputs : promises.ListedInputs
-unfolding cause.readOf cause.parse cause.meaningOf cause.listed digits.readOf spell worth
-listed-inputs = ((refl, refl, refl), ((refl, refl, refl), ((refl, refl, refl), (refl, (refl, tt)))))

@@ -10,5 +10,4 @@ pub mod StateAttributes
 pub mod Digits
 pub mod Talker
 pub mod Sms
-pub mod Listed
 pub mod Promises

@@ -17,7 +17,6 @@ use Rattle.gcc.specs.StateAttributes as state-attributes
 use Rattle.gcc.specs.Sms as sms
 use Rattle.gcc.specs.Talker as talker
 use Rattle.gcc.specs.Digits as digits
-use Rattle.gcc.specs.Listed.{rows, All}
 use Rattle.gcc.specs.declared.«message_type».Kind.{Kind}
 use Rattle.gcc.specs.declared.«call_state».State.{State}
 use Rattle.gcc.specs.declared.«call_reference».Priority.{Priority}
@@ -29,10 +28,6 @@ use Rattle.gcc.specs.declared.cause.Cause.{Cause}
 -- a list of octets
 abbrev pub Octets : List ℕ → Type 0
 Octets s = Spells 256 0 s
-
--- two results that meet one equation are equal
-abbrev pub OneResult : Type 1
-OneResult = (A : Type 0) (a b said : A) → a ≡ said → b ≡ said → a ≡ b
 
 -- ## Reading what was written gives the meaning back
 
@@ -132,8 +127,3 @@ DigitsOfNumber = (n : ℕ) → n ≤ 999999999999 → worth 10 48 0 (spell 10 48
 
 abbrev pub NumberOfDigits : Type 0
 NumberOfDigits = (ds : List ℕ) → length ds ≡ 12 → within 48 57 ds ≡ true → spell 10 48 12 (worth 10 48 0 ds) ≡ ds
-
--- ## The listed inputs
-
-abbrev pub ListedInputs : Type 0
-ListedInputs = All rows

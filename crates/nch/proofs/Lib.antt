@@ -1,4 +1,3 @@
-pub mod Listed
 pub mod Reading6
 pub mod Told7
 pub mod Counting

@@ -1,18 +1,18 @@
 -- What is promised of NT/N Rest Octets (demand 2). Assumes nothing.
 use mathlib.Core.Path.{_≡_}
-use mathlib.Core.List.{List, [], _∷_}
+use mathlib.Core.List.{List}
 use mathlib.Core.Bool.{Bool, true}
-use mathlib.Core.Option.{Option, none, some}
+use mathlib.Core.Option.{some}
 use mathlib.Core.Logic.{_⊎_}
 use Prim.Native.Nat.{ℕ, _+_, _*_, _≤_, _<_}
-use lib.ListN.{length, getD, replicate}
+use lib.ListN.{length, getD}
 use Rattle.bits.specs.Field.{bit}
-use Rattle.csn1.specs.Format.{Res, ok, bad, ground, noRefusal, padBit}
+use Rattle.csn1.specs.Format.{noRefusal, padBit}
 use Rattle.call.specs.declared.Call.{Call}
 use Rattle.call.specs.Call.{ciphered, noCall}
 use Rattle.nch.specs.declared.Random.{Random}
 use Rattle.nch.specs.declared.Notification.{Notification}
-use Rattle.nch.specs.Octets.{Value, readOctets, count}
+use Rattle.nch.specs.Octets.{count}
 use Rattle.nch.specs.Told.{readOf, Shaped}
 use Rattle.nch.specs.Write.{callsOf, isDescribed, randomsOwned, marksOwned, writeNumber, written, form}
 use Rattle.nch.specs.Owners.{nth, randomsOf, marksOf, before, randomOfCall, randomOfReduced, emergencyOfCall}
@@ -90,28 +90,3 @@ Every-mark-has-an-owner = (m : Notification) → marksOwned m ≡ true → (k : 
 -- 7. No two calls own the same, and what reduced references own comes behind what calls own.
 abbrev pub No-two-own-the-same : Type 0
 No-two-own-the-same = (t : Call → Bool) (m : Notification) (k : ℕ) (a b : Owner t m k) → (a .call ≡ b .call) × (k < count t (callsOf m))
-
--- 8. The listed inputs.
-abbrev pub Row : Type 0
-Row = List ℕ × Res Value
-
-abbrev pub Right : List Row → Type 0
-Right [] = Unit {0}
-Right (r ∷ l) = (readOctets (r .0) ≡ r .1) × Right l
-
-abbrev pub listed : List Row
-listed =
-    -- twenty 2B: no parts, 4 bits used
-    (replicate 20 0x2b, ok (none, ([], (none, none))) 4)
-    -- twenty 00: both releases present and empty, 11 used
-    ∷ (replicate 20 0, ok (none, ([], (some (none, ([], [])), some ([], (none, (none, none)))))) 11)
-    -- CB and nineteen 2B: NLN 2, 6 used
-    ∷ (0xcb ∷ replicate 19 0x2b, ok (some 2, ([], (none, none))) 6)
-    -- twenty FF: refusal 4
-    ∷ (replicate 20 0xff, bad (ground 4))
-    -- 19 octets: refusal 1
-    ∷ (replicate 19 0x2b, bad (ground 1))
-    ∷ []
-
-abbrev pub Listed-inputs-are-right : Type 0
-Listed-inputs-are-right = Right listed

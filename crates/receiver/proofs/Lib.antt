@@ -13,6 +13,5 @@ pub mod Beginning
 pub mod Joining
 pub mod Promises
 pub mod Entering
-pub mod Listed
 pub mod Grounds
 pub mod History

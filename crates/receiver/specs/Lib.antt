@@ -3,6 +3,5 @@ pub mod Store
 pub mod Entries
 pub mod Step
 pub mod One
-pub mod Listed
 pub mod History
 pub mod Promises

@@ -1,0 +1,207 @@
+-- The listed inputs of document 01, those marked *, as one table: each row an input and its outcome, and one test of a row. Assumes nothing.
+use mathlib.Core.Path.{_≡_}
+use mathlib.Core.List.{List, [], _∷_, _++_, map}
+use mathlib.Core.Bool.{Bool, true, false}
+use Prim.Native.Nat.{ℕ, _+_}
+use Prim.Native.String.{String}
+use lib.ListN.{take, replicate}
+use lib.Dec.{eqb}
+use lib.Text.{eqt}
+use Rattle.bits.specs.Field.{both}
+use Rattle.csn1.specs.declared.Refusal.{Refusal}
+use Rattle.csn1.specs.Format.{noRefusal, ground}
+use Rattle.call.specs.Call.{noCall}
+use Rattle.nch.specs.declared.Notification.{Notification}
+use Rattle.nch.specs.declared.Reading.{Reading}
+use Rattle.nch.specs.Told.{noReduced, noRandom, noRelease6, noRelease7, noRecord, readOf}
+use Rattle.receiver.specs.declared.Told.{Told}
+use Rattle.receiver.specs.declared.Answer.{Answer}
+use Rattle.receiver.specs.declared.Started.{Started}
+use Rattle.receiver.specs.Model.{wrapSub, startedOf}
+use Rattle.receiver.specs.Step.{nch, tick, refusedWith, stepOf}
+use Rattle.gcc.specs.declared.cause.Meaning.{Meaning}
+use Rattle.gcc.specs.declared.cause.Meaning.the-variants.{Specific, Unspecific}
+use Rattle.gcc.specs.declared.cause.Reading.{Reading as CauseReading}
+use Rattle.gcc.specs.declared.digits.Reading.{Reading as DigitsReading}
+use Rattle.gcc.specs.Cause as cause
+use Rattle.gcc.specs.Digits as digits
+use Rattle.listed.specs.Fields.{each, same, ofReading, ofAnswer, ofCause, ofDigits}
+
+-- ## A row
+
+pub data Row : Type 0 where
+  -- NT/N Rest Octets, and what is read
+  nch-octets : List ℕ → Reading → Row
+  -- last tick, new tick, and the step between them
+  ticks : ℕ → ℕ → ℕ → Row
+  -- a step, and the refusal
+  step : ℕ → ℕ → Row
+  -- T3206, when the first half comes and when the second, how many halves then run out, and what the second is told
+  halves : ℕ → ℕ → ℕ → ℕ → ℕ → Row
+  -- the octets of a cause, what is read, and the words of its meaning in 44.068
+  cause-octets : List ℕ → CauseReading → String → Row
+  -- the five octets of twelve digits, and what is read
+  digit-octets : List ℕ → DigitsReading → Row
+
+-- ## Outcomes
+
+-- a record read, and the bits used
+abbrev pub reads : Notification → ℕ → Reading
+reads m n = record { refusal = noRefusal; used = n; «record» = m }
+
+-- a refusal: its number alone, and all else zero
+abbrev pub refusal : ℕ → Reading
+refusal n = record { refusal = ground n; used = 0; «record» = noRecord }
+
+-- no parts: every field of the record is zero
+abbrev pub noParts : Notification
+noParts = noRecord
+
+-- both releases present and empty: their two flags, and zero in every other field
+abbrev pub bothEmpty : Notification
+bothEmpty =
+    record {
+      numbered = false;
+      nln = 0;
+      callcount = 0;
+      calls = replicate 4 noCall;
+      release6 =
+          record {
+            there = true;
+            counted = false;
+            cellcount = 0;
+            reducedcount = 0;
+            reduced = replicate 5 noReduced;
+            randomcount = 0;
+            randoms = replicate 9 noRandom;
+          };
+      release7 =
+          record {
+            there = true;
+            markcount = 0;
+            marks = replicate 4 false;
+            uplinked = false;
+            uplink = false;
+            amr = false;
+            fullrated = false;
+            fullrate = 0;
+            halfrated = false;
+            halfrate = 0;
+            sms = false;
+            confidential = false;
+            private = false;
+          };
+    }
+
+-- an NLN and nothing else
+abbrev pub onlyNln : ℕ → Notification
+onlyNln n = record { numbered = true; nln = n; callcount = 0; calls = replicate 4 noCall; release6 = noRelease6; release7 = noRelease7 }
+
+-- a cause of these septets without diagnostics
+abbrev pub means : Meaning → List ℕ → CauseReading
+means m l = record { refusal = 0; meaning = m; cause = cause.causeOf l [] }
+
+-- the digits, as the characters that are read
+abbrev pub spells : List ℕ → DigitsReading
+spells l = record { refusal = 0; digits = map (0x30 +_) l }
+
+-- ## The rows, in the document's order
+
+abbrev pub rows : List Row
+rows =
+    -- twenty 2B: no parts, 4 bits used
+    nch-octets (replicate 20 0x2b) (reads noParts 4)
+    -- twenty 00: both releases present and empty, 11 used
+    ∷ nch-octets (replicate 20 0x00) (reads bothEmpty 11)
+    -- CB, nineteen 2B: NLN 2, 6 used
+    ∷ nch-octets (0xcb ∷ replicate 19 0x2b) (reads (onlyNln 2) 6)
+    -- twenty FF: refusal 4
+    ∷ nch-octets (replicate 20 0xff) (refusal 4)
+    -- 19 octets, here 2B: refusal 1
+    ∷ nch-octets (replicate 19 0x2b) (refusal 1)
+    -- last tick 4,294,967,290, new 10: step 16
+    ∷ ticks 4294967290 10 16
+    -- step 2,147,483,648: refusal 9
+    ∷ step 2147483648 9
+    -- T3206 5,000, first half at 1,000, second at 5,999: 3
+    ∷ halves 5000 1000 5999 0 3
+    -- the same at 6,000: one expiry, then 4
+    ∷ halves 5000 1000 6000 1 4
+    -- cause 90: 16, normal clearing
+    ∷ cause-octets (0x90 ∷ []) (means (Specific 16) (16 ∷ [])) "Normal call clearing"
+    -- cause 10 91: unspecific
+    ∷ cause-octets (0x10 ∷ 0x91 ∷ []) (means Unspecific (16 ∷ 17 ∷ [])) "unspecific cause"
+    -- cause 10: refusal 13
+    ∷ cause-octets (0x10 ∷ []) (cause.refused 13) ""
+    -- 00 00 00 23 A3: 000000009123
+    ∷ digit-octets (0x00 ∷ 0x00 ∷ 0x00 ∷ 0x23 ∷ 0xa3 ∷ []) (spells (0 ∷ 0 ∷ 0 ∷ 0 ∷ 0 ∷ 0 ∷ 0 ∷ 0 ∷ 9 ∷ 1 ∷ 2 ∷ 3 ∷ []))
+    -- E8 D4 A5 10 00: refusal 12
+    ∷ digit-octets (0xe8 ∷ 0xd4 ∷ 0xa5 ∷ 0x10 ∷ 0x00 ∷ []) (digits.refused 12)
+    ∷ []
+
+-- ## Runs of the receiver
+
+-- set up at a tick with T3206 for one call: reference 1,234,567, VGCS
+abbrev pub setUp : ℕ → ℕ → Started
+setUp now t3206 = startedOf (record { tick = now; t3206 = t3206; t3208 = 5000 }) (2469135 ∷ [])
+
+abbrev pub isUp : Started → Bool
+isUp s = eqb (s .refusal .number) 0
+
+-- that call with priority 3, cipher key number 5 and channel 120345, then a random entry of Segment Id 0 without VSTK_RAND
+abbrev pub firstHalf : List ℕ
+firstHalf = 0x40 ∷ 0x96 ∷ 0xb4 ∷ 0x3c ∷ 0xd6 ∷ 0x24 ∷ 0x06 ∷ 0x8a ∷ 0x48 ∷ replicate 11 0x2b
+
+-- its reduced reference, then a random entry of Segment Id 1 with VSTK_RAND ABCDEF012
+abbrev pub secondHalf : List ℕ
+secondHalf = 0x08 ∷ 0x12 ∷ 0xd6 ∷ 0x87 ∷ 0xbd ∷ 0x5e ∷ 0x6f ∷ 0x78 ∷ 0x09 ∷ replicate 11 0x2b
+
+-- the answers to the first half at a tick, and to the second at a later one
+abbrev pub firstAt : ℕ → ℕ → Answer
+firstAt t3206 a = stepOf (setUp 0 t3206 .receiver) (nch a firstHalf)
+
+abbrev pub secondAt : ℕ → ℕ → ℕ → Answer
+secondAt t3206 a b = stepOf (firstAt t3206 a .receiver) (nch b secondHalf)
+
+-- the answer to a tick, from the tick of the setup
+abbrev pub ticked : ℕ → ℕ → Answer
+ticked last now = stepOf (setUp last 5000 .receiver) (tick now)
+
+-- an answer of nothing but a refusal, or none, with the receiver as it is set up at a tick
+abbrev pub silent : Refusal → ℕ → Answer
+silent w now = refusedWith (setUp now 5000 .receiver) w
+
+-- refusal, expiries, drops, and what each entry is told
+abbrev pub outline : Answer → List ℕ
+outline a = a .refusal .number ∷ a .expired ∷ a .dropped ∷ map (λ (t : Told). t .number) (take (a .count) (a .entries))
+
+-- ## The test of a row
+
+-- the outlines of two answers: the first half is told 4, then x halves run out and the second is told n
+abbrev pub bothTold : ℕ → ℕ → List ℕ
+bothTold x n = 0 ∷ 0 ∷ 0 ∷ 4 ∷ 0 ∷ x ∷ 0 ∷ n ∷ []
+
+abbrev pub test : Row → Bool
+test (nch-octets s r) = same (ofReading (readOf s)) (ofReading r)
+test (ticks last now d) =
+    both (isUp (setUp last 5000)) (both (eqb (wrapSub now last) d) (same (ofAnswer (ticked last now)) (ofAnswer (silent noRefusal now))))
+test (step d n) = both (isUp (setUp 0 5000)) (same (ofAnswer (ticked 0 d)) (ofAnswer (silent (ground n) 0)))
+test (halves t3206 a b x n) =
+    both (isUp (setUp 0 t3206)) (each eqb (outline (firstAt t3206 a) ++ outline (secondAt t3206 a b)) (bothTold x n))
+test (cause-octets s r w) = both (same (ofCause (cause.readOf s)) (ofCause r)) (eqt (cause.wordsOf (cause.readOf s .meaning)) w)
+test (digit-octets s r) = same (ofDigits (digits.readOf s)) (ofDigits r)
+
+abbrev pub all : List Row → Bool
+all [] = true
+all (r ∷ l) = both (test r) (all l)
+
+-- ## What a passed test says: the setup was accepted, and the whole answer is the outcome
+
+abbrev pub Holds : Row → Type 0
+Holds (nch-octets s r) = readOf s ≡ r
+Holds (ticks last now d) = (setUp last 5000 .refusal .number ≡ 0) × (wrapSub now last ≡ d) × (ticked last now ≡ silent noRefusal now)
+Holds (step d n) = (setUp 0 5000 .refusal .number ≡ 0) × (ticked 0 d ≡ silent (ground n) 0)
+Holds (halves t3206 a b x n) =
+    (setUp 0 t3206 .refusal .number ≡ 0) × (outline (firstAt t3206 a) ++ outline (secondAt t3206 a b) ≡ bothTold x n)
+Holds (cause-octets s r w) = (cause.readOf s ≡ r) × (cause.wordsOf (cause.readOf s .meaning) ≡ w)
+Holds (digit-octets s r) = digits.readOf s ≡ r
