@@ -1,0 +1,38 @@
+-- `gcc_numbers::call_state::read` meets its contract. Assumes nothing.
+use mathlib.Core.Path.{refl}
+use borrow.Author.Needs.{needs}
+use Rattle.gcc_numbers.proofs.call_state.read.Statement.{statement}
+use Rattle.gcc_numbers.proofs.call_state.read.Tie as tie
+
+read-requires : tie.Need-read-requires
+read-requires c κs = search needs
+
+number-of-requires : tie.Need-number-of-requires
+number-of-requires c κs = search needs
+
+cast-t7 : tie.Need-cast-t7
+cast-t7 c = search needs
+
+slice-aggregate-store : tie.Need-slice-aggregate-store
+slice-aggregate-store c = search needs
+
+store-requires : tie.Need-store-requires
+store-requires c κs = search needs
+
+same-length : tie.Need-same-length
+same-length c = search needs
+
+returns : tie.Need-returns
+returns c = rw (← c .before .before .before .before .before .before .read .ensures) (refl, rw (c .before .before .before .before .before .number-of .ensures) at (c .before .before .store .ensures))
+
+pub read-spec : {M : Type 1} → statement M
+read-spec =
+    tie.close
+    (tie.spec
+    read-requires
+    number-of-requires
+    cast-t7
+    slice-aggregate-store
+    store-requires
+    same-length
+    returns)

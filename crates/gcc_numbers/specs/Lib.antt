@@ -1,0 +1,2 @@
+pub mod ElementNumbers
+pub mod ElementPromises

@@ -1,0 +1,77 @@
+-- `numbers::fill::run` meets its contract. Assumes nothing.
+use denote.Ref.{now}
+use mathlib.Core.Path.{_≡_, refl, sym, ap, _∙_}
+use Prim.Native.Nat.{ℕ, _+_, _-_, _≤_}
+use mathlib.Core.List.{List}
+use lib.ListN.{length, getD, take, set, length-set}
+use lib.Seq.{take-all}
+use Rattle.numbers.specs.Runs.{stored}
+use Rattle.numbers.proofs.Filling.{stored-none, stored-next}
+use native.Mathlib.Omega.{arith}
+use borrow.Author.Needs.{needs}
+use Rattle.numbers.proofs.fill.run.Statement.{statement}
+use Rattle.numbers.proofs.fill.run.Tie as tie
+
+abbrev Inv-loop : tie.InvT-loop
+Inv-loop values numbers₀ at i₀ numbers i = (i ≤ length values) × ((length numbers ≡ length numbers₀) × (numbers ≡ stored numbers₀ at (take i values)))
+
+abbrev μ-loop : tie.MeasureT-loop
+μ-loop values numbers₀ at i₀ numbers i = length values - i
+
+loop-holds : tie.Need-loop-holds Inv-loop μ-loop
+loop-holds c = (omega arith, (refl, sym (stored-none _ _)))
+
+mul-numbers : tie.Need-mul-numbers Inv-loop μ-loop
+mul-numbers c = search needs
+
+shared-slice-read-numbers : tie.Need-shared-slice-read-numbers Inv-loop μ-loop
+shared-slice-read-numbers c = search needs
+
+add-numbers : tie.Need-add-numbers Inv-loop μ-loop
+add-numbers c = search needs
+
+mul-numbers-2 : tie.Need-mul-numbers-2 Inv-loop μ-loop
+mul-numbers-2 c = search needs
+
+slice-write-numbers : tie.Need-slice-write-numbers Inv-loop μ-loop
+slice-write-numbers c = omega arith
+
+add-i : tie.Need-add-i Inv-loop μ-loop
+add-i c = search needs
+
+loop-less : tie.Need-loop-less Inv-loop μ-loop
+loop-less c = omega arith
+
+loop-again : tie.Need-loop-again Inv-loop μ-loop
+loop-again c =
+    let l = c .before .before .loop in
+    let a = c .before .before .before .args in
+    let v = now (a .values) in
+    (omega arith, (length-set (l .numbers) (a .at + l .i) (getD v (l .i) 0) ∙ l .inv .1 .0, ap (λ (x : List ℕ). set x (a .at + l .i) (getD v (l .i) 0)) (l .inv .1 .1) ∙ stored-next (now (a .numbers)) (a .at) v (l .i) (omega arith)))
+
+same-length : tie.Need-same-length Inv-loop μ-loop
+same-length c = c .before .loop .inv .1 .0
+
+returns : tie.Need-returns Inv-loop μ-loop
+returns c =
+    let l = c .before .loop in
+    let a = c .before .before .args in
+    l .inv .1 .1 ∙ ap (stored (now (a .numbers)) (a .at)) (take-all (l .i) (now (a .values)) (omega arith))
+
+pub run-spec : {M : Type 1} → statement M
+run-spec =
+    tie.close
+    (tie.spec
+    Inv-loop
+    μ-loop
+    loop-holds
+    mul-numbers
+    shared-slice-read-numbers
+    add-numbers
+    mul-numbers-2
+    slice-write-numbers
+    add-i
+    loop-less
+    loop-again
+    same-length
+    returns)

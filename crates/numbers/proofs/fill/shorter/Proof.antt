@@ -1,0 +1,15 @@
+-- `numbers::fill::shorter` meets its contract. Assumes nothing.
+use mathlib.Core.Path.{refl}
+use mathlib.Core.Logic.{inl, inr}
+use native.Mathlib.Omega.{arith}
+use Rattle.numbers.proofs.fill.shorter.Statement.{statement}
+use Rattle.numbers.proofs.fill.shorter.Tie as tie
+
+returns : tie.Need-returns
+returns c = (omega arith, (omega arith, inl refl))
+
+returns-2 : tie.Need-returns-2
+returns-2 c = (omega arith, (omega arith, inr refl))
+
+pub shorter-spec : {M : Type 1} → statement M
+shorter-spec = tie.close (tie.spec returns returns-2)

@@ -1,0 +1,65 @@
+-- `numbers::on_facch::all_numbers` meets its contract. Assumes nothing.
+use mathlib.Core.Path.{refl}
+use Rattle.numbers.proofs.FacchRuns.{all-runs}
+use borrow.Author.Needs.{needs}
+use Rattle.numbers.proofs.on_facch.all_numbers.Statement.{statement}
+use Rattle.numbers.proofs.on_facch.all_numbers.Tie as tie
+
+numbers-of-requires : tie.Need-numbers-of-requires
+numbers-of-requires c κs = search needs
+
+slice-aggregate-run : tie.Need-slice-aggregate-run
+slice-aggregate-run c = search needs
+
+slice-aggregate-run-2 : tie.Need-slice-aggregate-run-2
+slice-aggregate-run-2 c = search needs
+
+run-requires : tie.Need-run-requires
+run-requires c κs = search needs
+
+release6-numbers-requires : tie.Need-release6-numbers-requires
+release6-numbers-requires c κs = search needs
+
+slice-aggregate-run-3 : tie.Need-slice-aggregate-run-3
+slice-aggregate-run-3 c = search needs
+
+slice-aggregate-run-4 : tie.Need-slice-aggregate-run-4
+slice-aggregate-run-4 c = search needs
+
+run-requires-2 : tie.Need-run-requires-2
+run-requires-2 c κs = search needs
+
+last-numbers-requires : tie.Need-last-numbers-requires
+last-numbers-requires c κs = search needs
+
+slice-aggregate-run-5 : tie.Need-slice-aggregate-run-5
+slice-aggregate-run-5 c = search needs
+
+slice-aggregate-run-6 : tie.Need-slice-aggregate-run-6
+slice-aggregate-run-6 c = search needs
+
+run-requires-3 : tie.Need-run-requires-3
+run-requires-3 c κs = search needs
+
+returns : tie.Need-returns
+returns c =
+    let a = c .before .before .before .before .before .before .before .before .before .before .before .before .before .before .before .before .before .before .args in
+    all-runs (a .m) (a .used) _ _ _ _ _ _ _ refl (c .before .before .before .before .before .before .before .before .before .before .before .before .before .before .before .before .numbers-of .ensures) (c .before .before .before .before .before .before .before .before .before .before .release6-numbers .ensures) (c .before .before .before .before .last-numbers .ensures) (c .before .before .before .before .before .before .before .before .before .before .before .before .before .run .ensures) (c .before .before .before .before .before .before .before .run2 .ensures) (c .before .run3 .ensures)
+
+pub all-numbers-spec : {M : Type 1} → statement M
+all-numbers-spec =
+    tie.close
+    (tie.spec
+    numbers-of-requires
+    slice-aggregate-run
+    slice-aggregate-run-2
+    run-requires
+    release6-numbers-requires
+    slice-aggregate-run-3
+    slice-aggregate-run-4
+    run-requires-2
+    last-numbers-requires
+    slice-aggregate-run-5
+    slice-aggregate-run-6
+    run-requires-3
+    returns)

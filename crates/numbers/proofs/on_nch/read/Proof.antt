@@ -1,0 +1,64 @@
+-- `numbers::on_nch::read` meets its contract. Assumes nothing.
+use denote.Ref.{now}
+use mathlib.Core.Path.{refl}
+use lib.ListN.{length}
+use Rattle.numbers.proofs.NotificationRuns.{read-there, read-most}
+use borrow.Author.Needs.{needs}
+use Rattle.numbers.proofs.on_nch.read.Statement.{statement}
+use Rattle.numbers.proofs.on_nch.read.Tie as tie
+
+read-requires : tie.Need-read-requires
+read-requires c κs = search needs
+
+put-all-requires : tie.Need-put-all-requires
+put-all-requires c κs = search needs
+
+clear-requires : tie.Need-clear-requires
+clear-requires c κs = search needs
+
+same-length : tie.Need-same-length
+same-length c = search needs
+
+returns : tie.Need-returns
+returns c =
+    let a = c .before .before .before .before .before .before .before .before .before .before .before .before .before .args in
+    let r = c .before .before .before .before .before .before .before .before .before .before .read in
+    let p = c .before .before .before .before .before .before .put-all in
+    read-there (now (a .octets)) (r .result) (r .ensures) (now (a .numbers)) _ _ (c .before .before .before .before .before .before .before .before .if1 .taken) (p .ensures) (p .kept .0) (c .before .before .clear .ensures)
+
+slice-aggregate-put-all : tie.Need-slice-aggregate-put-all
+slice-aggregate-put-all c = search needs
+
+put-all-requires-2 : tie.Need-put-all-requires-2
+put-all-requires-2 c κs = search needs
+
+slice-aggregate-store : tie.Need-slice-aggregate-store
+slice-aggregate-store c = search needs
+
+store-requires : tie.Need-store-requires
+store-requires c κs = search needs
+
+same-length-2 : tie.Need-same-length-2
+same-length-2 c = search needs
+
+returns-2 : tie.Need-returns-2
+returns-2 c =
+    let a = c .before .before .before .before .before .before .before .before .before .before .before .before .before .args in
+    let r = c .before .before .before .before .before .before .before .before .before .before .read in
+    read-most (now (a .octets)) (r .result) (r .ensures) (length (now (a .numbers))) _ _ _ refl (c .before .before .before .before .before .before .put-all2 .ensures) (c .before .before .store .ensures)
+
+pub read-spec : {M : Type 1} → statement M
+read-spec =
+    tie.close
+    (tie.spec
+    read-requires
+    put-all-requires
+    clear-requires
+    same-length
+    returns
+    slice-aggregate-put-all
+    put-all-requires-2
+    slice-aggregate-store
+    store-requires
+    same-length-2
+    returns-2)

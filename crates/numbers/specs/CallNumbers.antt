@@ -1,0 +1,55 @@
+-- The eleven numbers of a call. Assumes nothing.
+use mathlib.Core.List.{List, [], _∷_}
+use Prim.Native.Nat.{ℕ, _+_, _≤_}
+use lib.ListN.{length, getD}
+use Rattle.csn1.specs.Told.{isOne, asBit}
+use Rattle.call.specs.declared.Call.{Call}
+use Rattle.call.specs.declared.Description.{Description}
+use Rattle.numbers.specs.Limits.{flag, octet, word, long}
+
+-- channel description, hopping, short list, octets of the mobile allocation, frequencies
+abbrev pub descriptionNumbers : Description → List ℕ
+descriptionNumbers d = d .channel ∷ asBit (d .hopping) ∷ asBit (d .shortlist) ∷ d .length ∷ d .frequencies ∷ []
+
+-- reference, service flag, acknowledgement flag, priority, cipher key number, described, then the description
+unfoldable pub callNumbers : Call → List ℕ
+callNumbers c =
+    c .reference ∷ asBit (c .vgcs) ∷ asBit (c .acknowledged) ∷ c .priority ∷ c .cipher ∷ asBit (c .described) ∷ descriptionNumbers (c .description)
+
+abbrev pub callMost : List ℕ
+callMost = word ∷ flag ∷ flag ∷ octet ∷ octet ∷ flag ∷ word ∷ flag ∷ flag ∷ octet ∷ long ∷ []
+
+-- the call whose numbers stand from a place on
+unfoldable pub descriptionFrom : List ℕ → ℕ → Description
+descriptionFrom ns at =
+    record {
+      channel = getD ns at 0;
+      hopping = isOne (getD ns (at + 1) 0);
+      shortlist = isOne (getD ns (at + 2) 0);
+      length = getD ns (at + 3) 0;
+      frequencies = getD ns (at + 4) 0;
+    }
+
+unfoldable pub callFrom : List ℕ → ℕ → Call
+callFrom ns at =
+    record {
+      reference = getD ns at 0;
+      vgcs = isOne (getD ns (at + 1) 0);
+      acknowledged = isOne (getD ns (at + 2) 0);
+      priority = getD ns (at + 3) 0;
+      cipher = getD ns (at + 4) 0;
+      described = isOne (getD ns (at + 5) 0);
+      description = descriptionFrom ns (at + 6);
+    }
+
+-- the numbers are there, and what is no flag fits its field
+pub record DescriptionFits (ns : List ℕ) (at : ℕ) : Type 0 where
+  pub there : at + 5 ≤ length ns
+  pub channel : getD ns at 0 ≤ word
+  pub octets : getD ns (at + 3) 0 ≤ octet
+
+pub record CallFits (ns : List ℕ) (at : ℕ) : Type 0 where
+  pub reference : getD ns at 0 ≤ word
+  pub priority : getD ns (at + 3) 0 ≤ octet
+  pub cipher : getD ns (at + 4) 0 ≤ octet
+  pub description : DescriptionFits ns (at + 6)

@@ -1,0 +1,6 @@
+pub mod Limits
+pub mod Runs
+pub mod CallNumbers
+pub mod FacchNumbers
+pub mod NotificationNumbers
+pub mod Promises

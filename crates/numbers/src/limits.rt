@@ -1,0 +1,130 @@
+// The largest number of each field of NT/N Rest Octets, in the order of the numbers.
+
+// Of a flag, of an octet, of 32 bits and of 64 bits.
+const FLAG: u64 = 1;
+
+const OCTET: u64 = 255;
+
+const WORD: u64 = 4294967295;
+
+const LONG: u64 = 18446744073709551615;
+
+pub const MOST: [u64; 105] = [
+    // 0 to 2: NLN there, NLN, how many calls
+    FLAG,
+    OCTET,
+    LONG,
+    // 3 to 13: a call
+    WORD,
+    FLAG,
+    FLAG,
+    OCTET,
+    OCTET,
+    FLAG,
+    WORD,
+    FLAG,
+    FLAG,
+    OCTET,
+    LONG,
+    // 14 to 24: a call
+    WORD,
+    FLAG,
+    FLAG,
+    OCTET,
+    OCTET,
+    FLAG,
+    WORD,
+    FLAG,
+    FLAG,
+    OCTET,
+    LONG,
+    // 25 to 35: a call
+    WORD,
+    FLAG,
+    FLAG,
+    OCTET,
+    OCTET,
+    FLAG,
+    WORD,
+    FLAG,
+    FLAG,
+    OCTET,
+    LONG,
+    // 36 to 46: a call
+    WORD,
+    FLAG,
+    FLAG,
+    OCTET,
+    OCTET,
+    FLAG,
+    WORD,
+    FLAG,
+    FLAG,
+    OCTET,
+    LONG,
+    // 47 to 50: Release 6 there, count there, CELL_GLOBAL_COUNT, how many reduced references
+    FLAG,
+    FLAG,
+    OCTET,
+    LONG,
+    // 51 to 60: reduced references
+    WORD,
+    FLAG,
+    WORD,
+    FLAG,
+    WORD,
+    FLAG,
+    WORD,
+    FLAG,
+    WORD,
+    FLAG,
+    // 61: how many random entries
+    LONG,
+    // 62 to 88: random entries
+    FLAG,
+    FLAG,
+    LONG,
+    FLAG,
+    FLAG,
+    LONG,
+    FLAG,
+    FLAG,
+    LONG,
+    FLAG,
+    FLAG,
+    LONG,
+    FLAG,
+    FLAG,
+    LONG,
+    FLAG,
+    FLAG,
+    LONG,
+    FLAG,
+    FLAG,
+    LONG,
+    FLAG,
+    FLAG,
+    LONG,
+    FLAG,
+    FLAG,
+    LONG,
+    // 89 and 90: Release 7 there, how many emergency marks
+    FLAG,
+    LONG,
+    // 91 to 94: the marks
+    FLAG,
+    FLAG,
+    FLAG,
+    FLAG,
+    // 95 to 104: uplink, AMR, SMS
+    FLAG,
+    FLAG,
+    FLAG,
+    FLAG,
+    OCTET,
+    FLAG,
+    OCTET,
+    FLAG,
+    FLAG,
+    FLAG,
+];

@@ -1,0 +1,288 @@
+// NT/N Rest Octets as numbers.
+ghost use mathlib.Core.Path.{_≡_};
+ghost use mathlib.Core.List.{_∷_, [], _++_};
+ghost use Prim.Native.Nat.{_+_, _≤_};
+ghost use lib.ListN.{length};
+ghost use Rattle.csn1.specs.Told.{padded};
+ghost use Rattle.nch.specs.Told.{readOf};
+ghost use Rattle.numbers.specs.Runs.{stored, each};
+ghost use Rattle.numbers.specs.CallNumbers.{callNumbers};
+ghost use Rattle.numbers.specs.NotificationNumbers.{reducedNumbers, randomNumbers, markNumbers, release6Numbers, partsNumbers, release7Numbers, numbersOf, readNumbers, reducedFrom, randomFrom, reducedsFrom, randomsFrom, release6From, release7From, recordFrom, writeCode, afterWrite, ReducedFits, Fits};
+use crate::calls;
+use crate::fill;
+use crate::limits;
+use call::Call;
+use nch::Notification;
+use nch::Random;
+use nch::Reduced;
+use nch::Release6;
+use nch::Release7;
+
+fn put_calls(numbers: &mut [u64], at: usize, items: [Call; 4])
+    requires { ⌜ at + 44 ≤ length (now numbers) ⌝ }
+    ensures { λ _. ⌜ now (numbers .exit) ≡ stored (now (numbers .entry)) at (each callNumbers items) ⌝ }
+{
+    let mut i: usize = 0;
+    while i < 4 {
+        let c = items[i];
+        let one = calls::numbers_of(c);
+        fill::run(&one, &mut *numbers, at + 11 * i);
+        i += 1;
+    }
+}
+
+fn reduced_numbers(r: Reduced) -> [u64; 2]
+    ensures { λ a. ⌜ a ≡ reducedNumbers r ⌝ }
+{
+    [r.reference as u64, r.vgcs as u64]
+}
+
+fn put_reduceds(numbers: &mut [u64], at: usize, items: [Reduced; 5])
+    requires { ⌜ at + 10 ≤ length (now numbers) ⌝ }
+    ensures { λ _. ⌜ now (numbers .exit) ≡ stored (now (numbers .entry)) at (each reducedNumbers items) ⌝ }
+{
+    let mut i: usize = 0;
+    while i < 5 {
+        let r = items[i];
+        let one = reduced_numbers(r);
+        fill::run(&one, &mut *numbers, at + 2 * i);
+        i += 1;
+    }
+}
+
+fn random_numbers(r: Random) -> [u64; 3]
+    ensures { λ a. ⌜ a ≡ randomNumbers r ⌝ }
+{
+    [r.segment as u64, r.given as u64, r.rand]
+}
+
+fn put_randoms(numbers: &mut [u64], at: usize, items: [Random; 9])
+    requires { ⌜ at + 27 ≤ length (now numbers) ⌝ }
+    ensures { λ _. ⌜ now (numbers .exit) ≡ stored (now (numbers .entry)) at (each randomNumbers items) ⌝ }
+{
+    let mut i: usize = 0;
+    while i < 9 {
+        let r = items[i];
+        let one = random_numbers(r);
+        fill::run(&one, &mut *numbers, at + 3 * i);
+        i += 1;
+    }
+}
+
+fn put_marks(numbers: &mut [u64], at: usize, items: [bool; 4])
+    requires { ⌜ at + 4 ≤ length (now numbers) ⌝ }
+    ensures { λ _. ⌜ now (numbers .exit) ≡ stored (now (numbers .entry)) at (each markNumbers items) ⌝ }
+{
+    let mut i: usize = 0;
+    while i < 4 {
+        numbers[at + i] = items[i] as u64;
+        i += 1;
+    }
+}
+
+fn put_release6(numbers: &mut [u64], r: Release6)
+    requires { ⌜ 89 ≤ length (now numbers) ⌝ }
+    ensures { λ _. ⌜ now (numbers .exit) ≡ stored (now (numbers .entry)) 47 (release6Numbers r) ⌝ }
+{
+    let head = [
+        r.there as u64,
+        r.counted as u64,
+        r.cellcount as u64,
+        r.reducedcount as u64,
+    ];
+    fill::run(&head, &mut *numbers, 47);
+    let reduced = r.reduced;
+    put_reduceds(&mut *numbers, 51, reduced);
+    numbers[61] = r.randomcount as u64;
+    let randoms = r.randoms;
+    put_randoms(&mut *numbers, 62, randoms);
+}
+
+fn parts_numbers(r: Release7) -> [u64; 10]
+    ensures { λ a. ⌜ a ≡ partsNumbers r ⌝ }
+{
+    [
+        r.uplinked as u64,
+        r.uplink as u64,
+        r.amr as u64,
+        r.fullrated as u64,
+        r.fullrate as u64,
+        r.halfrated as u64,
+        r.halfrate as u64,
+        r.sms as u64,
+        r.confidential as u64,
+        r.private as u64,
+    ]
+}
+
+fn put_release7(numbers: &mut [u64], r: Release7)
+    requires { ⌜ 105 ≤ length (now numbers) ⌝ }
+    ensures { λ _. ⌜ now (numbers .exit) ≡ stored (now (numbers .entry)) 89 (release7Numbers r) ⌝ }
+{
+    let head = [r.there as u64, r.markcount as u64];
+    fill::run(&head, &mut *numbers, 89);
+    let marks = r.marks;
+    put_marks(&mut *numbers, 91, marks);
+    let parts = parts_numbers(r);
+    fill::run(&parts, &mut *numbers, 95);
+}
+
+// The record's 105 numbers and behind them the bits used.
+fn put_all(numbers: &mut [u64], m: Notification, used: usize)
+    requires { ⌜ 106 ≤ length (now numbers) ⌝ }
+    ensures { λ _. ⌜ now (numbers .exit) ≡ stored (now (numbers .entry)) 0 (numbersOf m ++ (used ∷ [])) ⌝ }
+{
+    let head = [m.numbered as u64, m.nln as u64, m.callcount as u64];
+    fill::run(&head, &mut *numbers, 0);
+    let calls = m.calls;
+    put_calls(&mut *numbers, 3, calls);
+    let six = m.release6;
+    put_release6(&mut *numbers, six);
+    let seven = m.release7;
+    put_release7(&mut *numbers, seven);
+    numbers[105] = used as u64;
+}
+
+// Reads any octets, into as many places as there are.
+pub fn read(octets: &[u8], numbers: &mut [u64]) -> u8
+    ensures { λ r. ⌜ (r ≡ readOf (now (octets .entry)) .refusal .number)
+        × (now (numbers .exit) ≡ padded 0 (length (now (numbers .entry))) (readNumbers (now (octets .entry)))) ⌝ }
+{
+    let r = nch::read(octets);
+    let m = r.record;
+    if 106 <= numbers.len() {
+        put_all(&mut *numbers, m, r.used);
+        fill::clear(&mut *numbers, 106);
+        return r.refusal.number;
+    }
+    let mut all = [0u64; 106];
+    put_all(&mut all, m, r.used);
+    fill::store(&all, &mut *numbers);
+    r.refusal.number
+}
+
+fn reduced_at(numbers: &[u64], at: usize) -> Reduced
+    requires { ⌜ ReducedFits (now numbers) at ⌝ }
+    ensures { λ r. ⌜ r ≡ reducedFrom (now (numbers .entry)) at ⌝ }
+{
+    Reduced {
+        reference: numbers[at] as u32,
+        vgcs: numbers[at + 1] == 1,
+    }
+}
+
+fn random_at(numbers: &[u64], at: usize) -> Random
+    requires { ⌜ at + 3 ≤ length (now numbers) ⌝ }
+    ensures { λ r. ⌜ r ≡ randomFrom (now (numbers .entry)) at ⌝ }
+{
+    Random {
+        segment: numbers[at] == 1,
+        given: numbers[at + 1] == 1,
+        rand: numbers[at + 2],
+    }
+}
+
+fn reduceds_from(numbers: &[u64]) -> [Reduced; 5]
+    requires { ⌜ Fits (now numbers) ⌝ }
+    ensures { λ r. ⌜ r ≡ reducedsFrom (now (numbers .entry)) ⌝ }
+{
+    [
+        reduced_at(numbers, 51),
+        reduced_at(numbers, 53),
+        reduced_at(numbers, 55),
+        reduced_at(numbers, 57),
+        reduced_at(numbers, 59),
+    ]
+}
+
+fn randoms_from(numbers: &[u64]) -> [Random; 9]
+    requires { ⌜ Fits (now numbers) ⌝ }
+    ensures { λ r. ⌜ r ≡ randomsFrom (now (numbers .entry)) ⌝ }
+{
+    [
+        random_at(numbers, 62),
+        random_at(numbers, 65),
+        random_at(numbers, 68),
+        random_at(numbers, 71),
+        random_at(numbers, 74),
+        random_at(numbers, 77),
+        random_at(numbers, 80),
+        random_at(numbers, 83),
+        random_at(numbers, 86),
+    ]
+}
+
+fn release6_from(numbers: &[u64]) -> Release6
+    requires { ⌜ Fits (now numbers) ⌝ }
+    ensures { λ r. ⌜ r ≡ release6From (now (numbers .entry)) ⌝ }
+{
+    Release6 {
+        there: numbers[47] == 1,
+        counted: numbers[48] == 1,
+        cellcount: numbers[49] as u8,
+        reducedcount: numbers[50] as usize,
+        reduced: reduceds_from(numbers),
+        randomcount: numbers[61] as usize,
+        randoms: randoms_from(numbers),
+    }
+}
+
+fn release7_from(numbers: &[u64]) -> Release7
+    requires { ⌜ Fits (now numbers) ⌝ }
+    ensures { λ r. ⌜ r ≡ release7From (now (numbers .entry)) ⌝ }
+{
+    Release7 {
+        there: numbers[89] == 1,
+        markcount: numbers[90] as usize,
+        marks: [
+            numbers[91] == 1,
+            numbers[92] == 1,
+            numbers[93] == 1,
+            numbers[94] == 1,
+        ],
+        uplinked: numbers[95] == 1,
+        uplink: numbers[96] == 1,
+        amr: numbers[97] == 1,
+        fullrated: numbers[98] == 1,
+        fullrate: numbers[99] as u8,
+        halfrated: numbers[100] == 1,
+        halfrate: numbers[101] as u8,
+        sms: numbers[102] == 1,
+        confidential: numbers[103] == 1,
+        private: numbers[104] == 1,
+    }
+}
+
+fn record_from(numbers: &[u64]) -> Notification
+    requires { ⌜ Fits (now numbers) ⌝ }
+    ensures { λ r. ⌜ r ≡ recordFrom (now (numbers .entry)) ⌝ }
+{
+    Notification {
+        numbered: numbers[0] == 1,
+        nln: numbers[1] as u8,
+        callcount: numbers[2] as usize,
+        calls: [
+            calls::call_at(numbers, 3),
+            calls::call_at(numbers, 14),
+            calls::call_at(numbers, 25),
+            calls::call_at(numbers, 36),
+        ],
+        release6: release6_from(numbers),
+        release7: release7_from(numbers),
+    }
+}
+
+// Writes the record that the numbers are into twenty octets and says 0, or says the number of the refusal and leaves the octets as they are.
+pub fn write(numbers: &[u64], octets: &mut [u8]) -> u8
+    ensures { λ r. ⌜ (r ≡ writeCode (now (numbers .entry)) (length (now (octets .entry))))
+        × (now (octets .exit) ≡ afterWrite (now (numbers .entry)) (now (octets .entry))) ⌝ }
+{
+    if numbers.len() != 105 {
+        return 13;
+    }
+    if !fill::holds(numbers, &limits::MOST) {
+        return 12;
+    }
+    let m = record_from(numbers);
+    nch_write::write(m, &mut *octets)
+}
