@@ -10,6 +10,11 @@ prefix := $(abspath $(PREFIX))
 # The archive of rt staticlib is for x86-64. On another processor, programs of this machine link one that is made of the same module.
 ASTERNHAKEN_LIB ?= $(if $(filter x86_64,$(shell uname -m)),target/lib,target/native)
 archive := $(ASTERNHAKEN_LIB)/libasternhaken.a
+# The toolchain's own, which knows x86-64 on every processor.
+AR = $(wildcard $(dir $(shell readlink -f "$$(command -v rt)"))../on/$(shell uname -m)/toolchain/bin/llvm-ar)
+ifeq ($(AR),)
+AR = ar
+endif
 
 .PHONY: test demo lib install
 
@@ -20,12 +25,15 @@ lib: $(archive)
 
 target/lib/libasternhaken.a: crates.txt $(shell find crates -name '*.rt' -o -name '*.antt')
 	@rt staticlib host
+	@rt staticlib host_codecs
 	@mkdir -p $(@D)
-	@cp target/staticlib/libhost.a $@
+	@rm -rf $@ target/parts && mkdir target/parts
+	@cd target/parts && for part in host host_codecs; do $(AR) x ../staticlib/lib$$part.a; done && $(AR) rcs ../lib/$(@F) *.o
 
 target/native/libasternhaken.a: target/lib/libasternhaken.a tools/native-archive
 	@mkdir -p $(@D)
-	@tools/native-archive host $@
+	@rm -f $@
+	@for part in host host_codecs; do tools/native-archive $@ $$part || exit; done
 
 demo: $(archive)
 	@command -v cc > /dev/null || { apt-get -qq update && apt-get -qq install -y gcc libc6-dev; }

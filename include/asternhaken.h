@@ -143,7 +143,8 @@ uint32_t asternhaken_read(const uint8_t *state, size_t state_length, uint32_t en
  *
  * A record is an array of numbers, in the order given here; a flag is 0 or 1. A reader fills the lent array from its start with as many numbers as it
  * has places, and with zeros beyond them; a refused reading is all zeros. A writer takes an array of exactly the record's length (another is
- * ASTERNHAKEN_LENGTH), then a number that its field cannot hold is ASTERNHAKEN_RANGE, then the writer's own grounds follow; a refused writing leaves the lent octets untouched. */
+ * ASTERNHAKEN_LENGTH), then a number that its field cannot hold is ASTERNHAKEN_RANGE, then the writer's own grounds follow (a
+ * cause without a septet, or of over 255 octets, is ASTERNHAKEN_LENGTH even beside such a number); a refused writing leaves the lent octets untouched. */
 
 /* NT/N Rest Octets:
  *   0 NLN there, 1 NLN, 2 how many calls, then four calls of eleven numbers (from 3):

@@ -1,4 +1,2 @@
-// The C library: what include/asternhaken.h declares, each function a thin one over the crate that does the work.
-mod codecs;
-mod elements;
+// The C library: the receiver on a lent state, as include/asternhaken.h declares it, each function a thin one over the crate that does the work.
 mod state;

@@ -1,6 +1,7 @@
 pub mod Numbers
 pub mod Wide
 pub mod Decoding
+pub mod Finding
 pub mod Sweeps
 pub mod Runs
 pub mod Tellings

@@ -8,15 +8,10 @@ use Rattle.csn1.specs.Told.{padded}
 use Rattle.facch.specs.declared.Notification.{Notification}
 use Rattle.facch.specs.declared.Reading.{Reading}
 use Rattle.facch.specs.Told.{readOf}
-use Rattle.call.specs.declared.Call.{Call}
 use Rattle.numbers.specs.Runs.{stored}
 use Rattle.numbers.specs.CallNumbers.{callNumbers}
 use Rattle.numbers.specs.FacchNumbers.{release6Numbers, release7Numbers, numbersOf, readNumbers}
 use Rattle.numbers.proofs.Filling.{more, stored-whole}
-
-pub length-call : (c : Call) → length (callNumbers c) ≡ 11
-unfolding callNumbers
-length-call c = refl
 
 pub length-all : (m : Notification) → length (numbersOf m) ≡ 21
 unfolding numbersOf callNumbers

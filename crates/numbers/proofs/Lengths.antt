@@ -3,12 +3,10 @@ use mathlib.Core.Path.{_≡_, refl}
 use mathlib.Core.Bool.{Bool}
 use lib.ListN.{length}
 use Rattle.call.specs.declared.Call.{Call}
-use Rattle.facch.specs.declared.Notification as facch
 use Rattle.nch.specs.declared.Reduced.{Reduced}
 use Rattle.nch.specs.declared.Random.{Random}
 use Rattle.nch.specs.declared.Release7.{Release7}
 use Rattle.numbers.specs.CallNumbers.{callNumbers}
-use Rattle.numbers.specs.FacchNumbers as facch-numbers
 use Rattle.numbers.specs.NotificationNumbers.{reducedNumbers, randomNumbers, markNumbers, partsNumbers}
 
 pub length-call : (c : Call) → length (callNumbers c) ≡ 11

@@ -1,13 +1,44 @@
 -- Listed inputs as numbers, computed. Assumes nothing.
-use mathlib.Core.Path.{refl}
-use Rattle.bits.specs.Field.{bit, field}
-use Rattle.csn1.specs.Format.{readItems, padBit}
+use mathlib.Core.Path.{_≡_, refl}
+use mathlib.Core.List.{_∷_, [], _++_}
+use lib.ListN.{replicate}
+use Rattle.bits.specs.Field.{bit, field, withBit, setBit}
+use Rattle.csn1.specs.Format.{numBits, readItems, padBit, putBits}
+use Rattle.call.specs.Call.{groupCall}
+use Rattle.call.specs.Write as calls
+use Rattle.facch.specs.Message as facch
 use Rattle.nch.specs.Octets.{notification}
+use Rattle.nch.specs.Write as records
+use Rattle.numbers.specs.Limits.{within}
 use Rattle.numbers.specs.Runs.{each}
-use Rattle.numbers.specs.CallNumbers.{callNumbers}
-use Rattle.numbers.specs.NotificationNumbers.{reducedNumbers, randomNumbers, markNumbers, release6Numbers, partsNumbers, release7Numbers, numbersOf, readNumbers}
-use Rattle.numbers.specs.Promises.{Listed-numbers-are-right}
+use Rattle.numbers.specs.CallNumbers.{callNumbers, descriptionFrom, callFrom}
+use Rattle.numbers.specs.FacchNumbers as facch-numbers
+use Rattle.numbers.specs.NotificationNumbers.{reducedNumbers, randomNumbers, markNumbers, release6Numbers, partsNumbers, release7Numbers, numbersOf, readNumbers, reducedFrom, randomFrom, release6From, release7From, recordFrom, most, writeCode, afterWrite}
+use Rattle.numbers.specs.Promises.{everyPart, everyNumber, everyFacchPart, everyFacchNumber, Listed-numbers}
 
-pub listed-numbers-are-right : Listed-numbers-are-right
-unfolding notification readItems field bit padBit each callNumbers reducedNumbers randomNumbers markNumbers release6Numbers partsNumbers release7Numbers numbersOf readNumbers
-listed-numbers-are-right = (refl, refl, refl)
+facch-read : facch-numbers.readNumbers everyFacchPart ≡ everyFacchNumber ++ (183 ∷ [])
+unfolding facch.notification groupCall field bit padBit callNumbers facch-numbers.numbersOf facch-numbers.readNumbers
+facch-read = refl
+
+nch-accepted : writeCode everyNumber 20 ≡ 0
+unfolding writeCode within most callFrom descriptionFrom reducedFrom randomFrom release6From release7From recordFrom records.writeNumber records.recordRefusal records.inRange records.placesRight records.all records.release6InRange records.release7InRange records.referencesLow records.lengthsRight records.hopsRight records.randomsOwned records.marksOwned calls.callInRange calls.callIsZero calls.callIsLow calls.callLengthRight calls.callHopsRight records.form notification groupCall numBits padBit
+nch-accepted = refl
+
+nch-written : afterWrite everyNumber (replicate 20 0) ≡ everyPart
+unfolding afterWrite within most callFrom descriptionFrom reducedFrom randomFrom release6From release7From recordFrom records.afterWrite records.writeNumber records.recordRefusal records.inRange records.placesRight records.all records.release6InRange records.release7InRange records.referencesLow records.lengthsRight records.hopsRight records.randomsOwned records.marksOwned calls.callInRange calls.callIsZero calls.callIsLow calls.callLengthRight calls.callHopsRight records.form records.written notification groupCall numBits padBit putBits setBit withBit
+nch-written = refl
+
+pub listed-numbers : Listed-numbers
+unfolding notification groupCall readItems field bit padBit each callNumbers reducedNumbers randomNumbers markNumbers release6Numbers partsNumbers release7Numbers numbersOf readNumbers writeCode within most
+listed-numbers =
+    record {
+      nothing = refl;
+      numbered = refl;
+      refused = refl;
+      parts = refl;
+      facch = facch-read;
+      accepted = nch-accepted;
+      written = nch-written;
+      flagged = refl;
+      few = refl;
+    }

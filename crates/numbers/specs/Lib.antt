@@ -1,3 +1,4 @@
+-- The definitions that the contracts cite, and what is promised beside them.
 pub mod Limits
 pub mod Runs
 pub mod CallNumbers

@@ -4,6 +4,7 @@ use mathlib.Core.Logic.{⊎-elim}
 use mathlib.Core.Path.{_≡_, sym, _∙_}
 use Prim.Native.Nat.{_≤_, _-_, min}
 use Prim.Native.Nat.{ℕ}
+use native.Mathlib.Nat.{add-zero}
 use native.Mathlib.Omega.{arith}
 use lib.ListN.{length, length-map}
 use borrow.Author.Tests.{ltb-true, ltb-false}
@@ -38,8 +39,22 @@ few c =
 tell-calls-requires : tie.Need-tell-calls-requires Inv-loop μ-loop
 tell-calls-requires c κs = c .before .before .pre
 
+cast-result : tie.Need-cast-result Inv-loop μ-loop
+cast-result c = omega (arith, few (c .before .before .before .before .before))
+
+same-length : tie.Need-same-length Inv-loop μ-loop
+same-length c = all-length _ _ _ _ _ (c .before .before .before .before .before .tell-calls .ensures .1 .1)
+
+returns : tie.Need-returns Inv-loop μ-loop
+returns c =
+    let s = c .before .before .before .before .before .before .before .before in
+    let a = s .args in
+    let n = c .before .before .before .before .before .tell-calls in
+    let all = reduceds-all (a .b .now) (a .tick) (a .m) (four s) (five s) (n .result .count) (n .ensures .0) 0 _ (reduceds-none (a .b .now) (a .tick) (a .m) _ (n .ensures .1 .1)) (omega (arith, c .before .if1 .taken)) in
+    (sym (add-zero (n .result .count)) ∙ all .0, all .1)
+
 loop-holds : tie.Need-loop-holds Inv-loop μ-loop
-loop-holds c = (omega arith, λ l p. reduceds-none l (c .before .before .before .before .before .before .args .tick) (c .before .before .before .before .before .before .args .m) _ p)
+loop-holds c = (omega arith, λ l p. reduceds-none l (c .before .before .before .before .before .before .before .before .args .tick) (c .before .before .before .before .before .before .before .before .args .m) _ p)
 
 mul-r : tie.Need-mul-r Inv-loop μ-loop
 mul-r c = omega arith
@@ -48,13 +63,13 @@ element-copy-out-r : tie.Need-element-copy-out-r Inv-loop μ-loop
 element-copy-out-r c = omega arith
 
 add-tell-reduced : tie.Need-add-tell-reduced Inv-loop μ-loop
-add-tell-reduced c = omega (arith, few (c .before .before .before .before .before .before .before .before .before))
+add-tell-reduced c = omega (arith, few (c .before .before .before .before .before .before .before .before .before .before .before))
 
 add-tell-reduced-2 : tie.Need-add-tell-reduced-2 Inv-loop μ-loop
-add-tell-reduced-2 c = omega (arith, few (c .before .before .before .before .before .before .before .before .before .before))
+add-tell-reduced-2 c = omega (arith, few (c .before .before .before .before .before .before .before .before .before .before .before .before))
 
 tell-reduced-requires : tie.Need-tell-reduced-requires Inv-loop μ-loop
-tell-reduced-requires c κs = (all-length _ _ _ _ _ (c .before .before .before .before .before .before .loop .inv .1 _ (c .before .before .before .before .before .before .before .before .before .before .tell-calls .ensures .1 .1)) ∙ c .before .before .before .before .before .before .before .before .before .before .before .before .before .pre, omega (arith, few (c .before .before .before .before .before .before .before .before .before .before), c .before .before .before .before .before .loop-test .taken))
+tell-reduced-requires c κs = (all-length _ _ _ _ _ (c .before .before .before .before .before .before .loop .inv .1 _ (c .before .before .before .before .before .before .before .before .before .before .before .before .tell-calls .ensures .1 .1)) ∙ c .before .before .before .before .before .before .before .before .before .before .before .before .before .before .before .pre, omega (arith, few (c .before .before .before .before .before .before .before .before .before .before .before .before), c .before .before .before .before .before .loop-test .taken))
 
 add-j : tie.Need-add-j Inv-loop μ-loop
 add-j c = omega arith
@@ -64,28 +79,28 @@ loop-less c = omega arith
 
 loop-again : tie.Need-loop-again Inv-loop μ-loop
 loop-again c =
-    let s = c .before .before .before .before .before .before .before .before .before .before .before .before .before .before .before .before in
+    let s = c .before .before .before .before .before .before .before .before .before .before .before .before .before .before .before .before .before .before in
     let a = s .args in
-    let n = c .before .before .before .before .before .before .before .before .before .before .before .before .before .tell-calls in
+    let n = c .before .before .before .before .before .before .before .before .before .before .before .before .before .before .before .tell-calls in
     let l = c .before .before .before .before .before .before .before .before .before .loop in
     let h = c .before .before .before .before .before .before .before .before .loop-test .taken in
-    let k = ltb-true (l .j) (a .m .release6 .reducedcount) (c .before .before .before .before .before .before .before .if1 .taken) in
+    let k = ltb-true (l .j) (a .m .release6 .reducedcount) (c .before .before .before .before .before .before .before .if2 .taken) in
     (omega (arith, h, k), λ x p. reduceds-next x (a .tick) (a .m) (four s) (five s) (n .result .count) (n .ensures .0) (l .j) (l .b) (l .inv .1 x p) h k (n .result .ciphered) (n .ensures .1 .0) _ (c .before .before .tell-reduced .ensures))
 
 add-result : tie.Need-add-result Inv-loop μ-loop
-add-result c = omega (arith, few (c .before .before .before .before .before .before), c .before .before .loop .inv .0)
+add-result c = omega (arith, few (c .before .before .before .before .before .before .before .before), c .before .before .loop .inv .0)
 
-cast-result : tie.Need-cast-result Inv-loop μ-loop
-cast-result c = omega (arith, few (c .before .before .before .before .before .before), c .before .before .loop .inv .0)
+cast-result-2 : tie.Need-cast-result-2 Inv-loop μ-loop
+cast-result-2 c = omega (arith, few (c .before .before .before .before .before .before .before .before), c .before .before .loop .inv .0)
 
-same-length : tie.Need-same-length Inv-loop μ-loop
-same-length c = all-length _ _ _ _ _ (c .before .before .loop .inv .1 _ (c .before .before .before .before .before .before .tell-calls .ensures .1 .1))
+same-length-2 : tie.Need-same-length-2 Inv-loop μ-loop
+same-length-2 c = all-length _ _ _ _ _ (c .before .before .loop .inv .1 _ (c .before .before .before .before .before .before .before .before .tell-calls .ensures .1 .1))
 
-returns : tie.Need-returns Inv-loop μ-loop
-returns c =
-    let s = c .before .before .before .before .before .before .before .before .before in
+returns-2 : tie.Need-returns-2 Inv-loop μ-loop
+returns-2 c =
+    let s = c .before .before .before .before .before .before .before .before .before .before .before in
     let a = s .args in
-    let n = c .before .before .before .before .before .before .tell-calls in
+    let n = c .before .before .before .before .before .before .before .before .tell-calls in
     let l = c .before .before .loop in
     let e : l .j ≡ min (a .m .release6 .reducedcount) 5 =
     ⊎-elim (λ w. omega (arith, l .inv .0, ltb-false (l .j) (a .m .release6 .reducedcount) (w .1 .left))) (λ w. omega (arith, l .inv .0, w .left)) (c .before .loop-test .came)
@@ -99,6 +114,9 @@ tell-nch-spec =
     Inv-loop
     μ-loop
     tell-calls-requires
+    cast-result
+    same-length
+    returns
     loop-holds
     mul-r
     element-copy-out-r
@@ -109,6 +127,6 @@ tell-nch-spec =
     loop-less
     loop-again
     add-result
-    cast-result
-    same-length
-    returns)
+    cast-result-2
+    same-length-2
+    returns-2)

@@ -1,74 +1,74 @@
 -- `numbers::calls::call_at` meets its contract. Assumes nothing.
 use Rattle.numbers.specs.CallNumbers.{callFrom}
-use borrow.Author.Needs.{needs}
+use native.Mathlib.Omega.{arith}
 use Rattle.numbers.proofs.calls.call_at.Statement.{statement}
 use Rattle.numbers.proofs.calls.call_at.Tie as tie
 
 mul-t3 : tie.Need-mul-t3
-mul-t3 c = search needs
+mul-t3 c = omega arith
 
 shared-slice-read-t5 : tie.Need-shared-slice-read-t5
-shared-slice-read-t5 c = search needs
+shared-slice-read-t5 c = omega arith
 
 cast-t6 : tie.Need-cast-t6
-cast-t6 c = search needs
+cast-t6 c = omega arith
 
 add-t7 : tie.Need-add-t7
-add-t7 c = search needs
+add-t7 c = omega arith
 
 mul-t8 : tie.Need-mul-t8
-mul-t8 c = search needs
+mul-t8 c = omega arith
 
 shared-slice-read-t10 : tie.Need-shared-slice-read-t10
-shared-slice-read-t10 c = search needs
+shared-slice-read-t10 c = omega arith
 
 add-t12 : tie.Need-add-t12
-add-t12 c = search needs
+add-t12 c = omega arith
 
 mul-t13 : tie.Need-mul-t13
-mul-t13 c = search needs
+mul-t13 c = omega arith
 
 shared-slice-read-t15 : tie.Need-shared-slice-read-t15
-shared-slice-read-t15 c = search needs
+shared-slice-read-t15 c = omega arith
 
 add-t17 : tie.Need-add-t17
-add-t17 c = search needs
+add-t17 c = omega arith
 
 mul-t18 : tie.Need-mul-t18
-mul-t18 c = search needs
+mul-t18 c = omega arith
 
 shared-slice-read-t20 : tie.Need-shared-slice-read-t20
-shared-slice-read-t20 c = search needs
+shared-slice-read-t20 c = omega arith
 
 cast-t21 : tie.Need-cast-t21
-cast-t21 c = search needs
+cast-t21 c = omega arith
 
 add-t22 : tie.Need-add-t22
-add-t22 c = search needs
+add-t22 c = omega arith
 
 mul-t23 : tie.Need-mul-t23
-mul-t23 c = search needs
+mul-t23 c = omega arith
 
 shared-slice-read-t25 : tie.Need-shared-slice-read-t25
-shared-slice-read-t25 c = search needs
+shared-slice-read-t25 c = omega arith
 
 cast-t26 : tie.Need-cast-t26
-cast-t26 c = search needs
+cast-t26 c = omega arith
 
 add-t27 : tie.Need-add-t27
-add-t27 c = search needs
+add-t27 c = omega arith
 
 mul-t28 : tie.Need-mul-t28
-mul-t28 c = search needs
+mul-t28 c = omega arith
 
 shared-slice-read-t30 : tie.Need-shared-slice-read-t30
-shared-slice-read-t30 c = search needs
+shared-slice-read-t30 c = omega arith
 
 add-description-at : tie.Need-add-description-at
-add-description-at c = search needs
+add-description-at c = omega arith
 
 description-at-requires : tie.Need-description-at-requires
-description-at-requires c κs = search needs
+description-at-requires c κs = omega arith
 
 returns : tie.Need-returns
 unfolding callFrom

@@ -6,7 +6,6 @@ use lib.ListN.{length, getD, take, length-set}
 use Rattle.nch_write.proofs.Putting.{copied-next}
 use Rattle.numbers.proofs.Filling.{copied-most}
 use native.Mathlib.Omega.{arith}
-use borrow.Author.Needs.{needs}
 use Rattle.numbers.proofs.fill.copy.Statement.{statement}
 use Rattle.numbers.proofs.fill.copy.Tie as tie
 
@@ -17,25 +16,25 @@ abbrev μ-loop : tie.MeasureT-loop
 μ-loop values numbers₀ n i₀ numbers i = n - i
 
 shorter-requires : tie.Need-shorter-requires Inv-loop μ-loop
-shorter-requires c κs = search needs
+shorter-requires c κs = omega arith
 
 loop-holds : tie.Need-loop-holds Inv-loop μ-loop
 loop-holds c = (omega arith, (refl, refl))
 
 mul-numbers : tie.Need-mul-numbers Inv-loop μ-loop
-mul-numbers c = search needs
+mul-numbers c = omega arith
 
 shared-slice-read-numbers : tie.Need-shared-slice-read-numbers Inv-loop μ-loop
-shared-slice-read-numbers c = search needs
+shared-slice-read-numbers c = omega arith
 
 mul-numbers-2 : tie.Need-mul-numbers-2 Inv-loop μ-loop
-mul-numbers-2 c = search needs
+mul-numbers-2 c = omega arith
 
 slice-write-numbers : tie.Need-slice-write-numbers Inv-loop μ-loop
 slice-write-numbers c = omega arith
 
 add-i : tie.Need-add-i Inv-loop μ-loop
-add-i c = search needs
+add-i c = omega arith
 
 loop-less : tie.Need-loop-less Inv-loop μ-loop
 loop-less c = omega arith

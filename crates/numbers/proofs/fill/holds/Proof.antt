@@ -6,7 +6,6 @@ use lib.ListN.{drop}
 use Rattle.numbers.specs.Limits.{within}
 use Rattle.numbers.proofs.Filling.{within-next, within-not, within-end}
 use native.Mathlib.Omega.{arith}
-use borrow.Author.Needs.{needs}
 use Rattle.numbers.proofs.fill.holds.Statement.{statement}
 use Rattle.numbers.proofs.fill.holds.Tie as tie
 
@@ -17,22 +16,22 @@ abbrev μ-loop : tie.MeasureT-loop
 μ-loop numbers most n i₀ i = n - i
 
 shorter-requires : tie.Need-shorter-requires Inv-loop μ-loop
-shorter-requires c κs = search needs
+shorter-requires c κs = omega arith
 
 loop-holds : tie.Need-loop-holds Inv-loop μ-loop
 loop-holds c = (omega arith, refl)
 
 mul-if1 : tie.Need-mul-if1 Inv-loop μ-loop
-mul-if1 c = search needs
+mul-if1 c = omega arith
 
 shared-slice-read-if1 : tie.Need-shared-slice-read-if1 Inv-loop μ-loop
-shared-slice-read-if1 c = search needs
+shared-slice-read-if1 c = omega arith
 
 mul-if1-2 : tie.Need-mul-if1-2 Inv-loop μ-loop
-mul-if1-2 c = search needs
+mul-if1-2 c = omega arith
 
 shared-slice-read-if1-2 : tie.Need-shared-slice-read-if1-2 Inv-loop μ-loop
-shared-slice-read-if1-2 c = search needs
+shared-slice-read-if1-2 c = omega arith
 
 returns : tie.Need-returns Inv-loop μ-loop
 returns c =
@@ -41,7 +40,7 @@ returns c =
     within-not (now (a .numbers)) (now (a .most)) (l .i) (omega arith) (omega arith) (c .if1 .taken) (l .inv .1)
 
 add-i : tie.Need-add-i Inv-loop μ-loop
-add-i c = search needs
+add-i c = omega arith
 
 loop-less : tie.Need-loop-less Inv-loop μ-loop
 loop-less c = omega arith

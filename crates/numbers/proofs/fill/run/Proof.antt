@@ -8,7 +8,6 @@ use lib.Seq.{take-all}
 use Rattle.numbers.specs.Runs.{stored}
 use Rattle.numbers.proofs.Filling.{stored-none, stored-next}
 use native.Mathlib.Omega.{arith}
-use borrow.Author.Needs.{needs}
 use Rattle.numbers.proofs.fill.run.Statement.{statement}
 use Rattle.numbers.proofs.fill.run.Tie as tie
 
@@ -22,22 +21,22 @@ loop-holds : tie.Need-loop-holds Inv-loop μ-loop
 loop-holds c = (omega arith, (refl, sym (stored-none _ _)))
 
 mul-numbers : tie.Need-mul-numbers Inv-loop μ-loop
-mul-numbers c = search needs
+mul-numbers c = omega arith
 
 shared-slice-read-numbers : tie.Need-shared-slice-read-numbers Inv-loop μ-loop
-shared-slice-read-numbers c = search needs
+shared-slice-read-numbers c = omega arith
 
 add-numbers : tie.Need-add-numbers Inv-loop μ-loop
-add-numbers c = search needs
+add-numbers c = omega arith
 
 mul-numbers-2 : tie.Need-mul-numbers-2 Inv-loop μ-loop
-mul-numbers-2 c = search needs
+mul-numbers-2 c = omega arith
 
 slice-write-numbers : tie.Need-slice-write-numbers Inv-loop μ-loop
 slice-write-numbers c = omega arith
 
 add-i : tie.Need-add-i Inv-loop μ-loop
-add-i c = search needs
+add-i c = omega arith
 
 loop-less : tie.Need-loop-less Inv-loop μ-loop
 loop-less c = omega arith

@@ -1,45 +1,45 @@
 -- `numbers::on_facch::all_numbers` meets its contract. Assumes nothing.
 use mathlib.Core.Path.{refl}
 use Rattle.numbers.proofs.FacchRuns.{all-runs}
-use borrow.Author.Needs.{needs}
+use native.Mathlib.Omega.{arith}
 use Rattle.numbers.proofs.on_facch.all_numbers.Statement.{statement}
 use Rattle.numbers.proofs.on_facch.all_numbers.Tie as tie
 
 numbers-of-requires : tie.Need-numbers-of-requires
-numbers-of-requires c κs = search needs
+numbers-of-requires c κs = omega arith
 
 slice-aggregate-run : tie.Need-slice-aggregate-run
-slice-aggregate-run c = search needs
+slice-aggregate-run c = omega arith
 
 slice-aggregate-run-2 : tie.Need-slice-aggregate-run-2
-slice-aggregate-run-2 c = search needs
+slice-aggregate-run-2 c = omega arith
 
 run-requires : tie.Need-run-requires
-run-requires c κs = search needs
+run-requires c κs = omega arith
 
 release6-numbers-requires : tie.Need-release6-numbers-requires
-release6-numbers-requires c κs = search needs
+release6-numbers-requires c κs = omega arith
 
 slice-aggregate-run-3 : tie.Need-slice-aggregate-run-3
-slice-aggregate-run-3 c = search needs
+slice-aggregate-run-3 c = omega arith
 
 slice-aggregate-run-4 : tie.Need-slice-aggregate-run-4
-slice-aggregate-run-4 c = search needs
+slice-aggregate-run-4 c = omega arith
 
 run-requires-2 : tie.Need-run-requires-2
-run-requires-2 c κs = search needs
+run-requires-2 c κs = omega arith
 
 last-numbers-requires : tie.Need-last-numbers-requires
-last-numbers-requires c κs = search needs
+last-numbers-requires c κs = omega arith
 
 slice-aggregate-run-5 : tie.Need-slice-aggregate-run-5
-slice-aggregate-run-5 c = search needs
+slice-aggregate-run-5 c = omega arith
 
 slice-aggregate-run-6 : tie.Need-slice-aggregate-run-6
-slice-aggregate-run-6 c = search needs
+slice-aggregate-run-6 c = omega arith
 
 run-requires-3 : tie.Need-run-requires-3
-run-requires-3 c κs = search needs
+run-requires-3 c κs = omega arith
 
 returns : tie.Need-returns
 returns c =

@@ -2,24 +2,24 @@
 use denote.Ref.{now}
 use lib.ListN.{length}
 use Rattle.numbers.proofs.FacchRuns.{read-runs}
-use borrow.Author.Needs.{needs}
+use native.Mathlib.Omega.{arith}
 use Rattle.numbers.proofs.on_facch.read.Statement.{statement}
 use Rattle.numbers.proofs.on_facch.read.Tie as tie
 
 read-requires : tie.Need-read-requires
-read-requires c κs = search needs
+read-requires c κs = omega arith
 
 all-numbers-requires : tie.Need-all-numbers-requires
-all-numbers-requires c κs = search needs
+all-numbers-requires c κs = omega arith
 
 slice-aggregate-store : tie.Need-slice-aggregate-store
-slice-aggregate-store c = search needs
+slice-aggregate-store c = omega arith
 
 store-requires : tie.Need-store-requires
-store-requires c κs = search needs
+store-requires c κs = omega arith
 
 same-length : tie.Need-same-length
-same-length c = search needs
+same-length c = omega arith
 
 returns : tie.Need-returns
 returns c =

@@ -5,33 +5,33 @@ use Rattle.csn1.proofs.Writing.{flag-byte}
 use mathlib.Core.Path.{sym, _∙_}
 use lib.ListN.{length-set, length-map}
 use Rattle.numbers.proofs.NotificationRuns.{all-runs}
-use borrow.Author.Needs.{needs}
+use native.Mathlib.Omega.{arith}
 use Rattle.numbers.proofs.on_nch.put_all.Statement.{statement}
 use Rattle.numbers.proofs.on_nch.put_all.Tie as tie
 
 cast-numbers : tie.Need-cast-numbers
-cast-numbers c = search needs
+cast-numbers c = omega arith
 
 cast-t9 : tie.Need-cast-t9
-cast-t9 c = search needs
+cast-t9 c = omega arith
 
 slice-aggregate-run : tie.Need-slice-aggregate-run
-slice-aggregate-run c = search needs
+slice-aggregate-run c = omega arith
 
 run-requires : tie.Need-run-requires
-run-requires c κs = search needs
+run-requires c κs = omega arith
 
 put-calls-requires : tie.Need-put-calls-requires
-put-calls-requires c κs = search needs
+put-calls-requires c κs = omega arith
 
 put-release6-requires : tie.Need-put-release6-requires
-put-release6-requires c κs = search needs
+put-release6-requires c κs = omega arith
 
 put-release7-requires : tie.Need-put-release7-requires
-put-release7-requires c κs = search needs
+put-release7-requires c κs = omega arith
 
 slice-write-numbers : tie.Need-slice-write-numbers
-slice-write-numbers c = search needs
+slice-write-numbers c = omega arith
 
 same-length : tie.Need-same-length
 same-length c = length-set (c .before .before .put-release7 .last .0) 105 (c .before .before .before .before .before .before .before .before .before .before .before .before .before .before .before .before .before .before .before .before .before .before .before .args .used) ∙ c .before .before .put-release7 .kept .0 ∙ c .before .before .before .before .before .before .before .put-release6 .kept .0 ∙ c .before .before .before .before .before .before .before .before .before .before .before .before .put-calls .kept .0 ∙ c .before .before .before .before .before .before .before .before .before .before .before .before .before .before .before .before .before .run .kept .1 .0

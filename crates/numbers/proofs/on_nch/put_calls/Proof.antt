@@ -9,7 +9,6 @@ use Rattle.numbers.specs.CallNumbers.{callNumbers}
 use Rattle.numbers.proofs.Filling.{each-none, each-next}
 use Rattle.numbers.proofs.Lengths.{length-call}
 use native.Mathlib.Omega.{arith}
-use borrow.Author.Needs.{needs}
 use Rattle.numbers.proofs.on_nch.put_calls.Statement.{statement}
 use Rattle.numbers.proofs.on_nch.put_calls.Tie as tie
 
@@ -23,22 +22,22 @@ loop-holds : tie.Need-loop-holds Inv-loop μ-loop
 loop-holds c = (omega arith, (refl, each-none _ _ _))
 
 mul-c : tie.Need-mul-c Inv-loop μ-loop
-mul-c c = search needs
+mul-c c = omega arith
 
 array-copy-out-c : tie.Need-array-copy-out-c Inv-loop μ-loop
-array-copy-out-c c = search needs
+array-copy-out-c c = omega arith
 
 numbers-of-requires : tie.Need-numbers-of-requires Inv-loop μ-loop
-numbers-of-requires c κs = search needs
+numbers-of-requires c κs = omega arith
 
 slice-aggregate-run : tie.Need-slice-aggregate-run Inv-loop μ-loop
-slice-aggregate-run c = search needs
+slice-aggregate-run c = omega arith
 
 mul-run : tie.Need-mul-run Inv-loop μ-loop
-mul-run c = search needs
+mul-run c = omega arith
 
 add-run : tie.Need-add-run Inv-loop μ-loop
-add-run c = search needs
+add-run c = omega arith
 
 run-requires : tie.Need-run-requires Inv-loop μ-loop
 run-requires c κs =
@@ -46,7 +45,7 @@ run-requires c κs =
     omega arith
 
 add-i : tie.Need-add-i Inv-loop μ-loop
-add-i c = search needs
+add-i c = omega arith
 
 loop-less : tie.Need-loop-less Inv-loop μ-loop
 loop-less c = omega arith

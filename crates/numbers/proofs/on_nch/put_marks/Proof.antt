@@ -12,7 +12,6 @@ use Rattle.numbers.proofs.Filling.{each-none}
 use Rattle.numbers.proofs.NotificationRuns.{mark-next}
 use Rattle.csn1.proofs.Writing.{flag-byte}
 use native.Mathlib.Omega.{arith}
-use borrow.Author.Needs.{needs}
 use Rattle.numbers.proofs.on_nch.put_marks.Statement.{statement}
 use Rattle.numbers.proofs.on_nch.put_marks.Tie as tie
 
@@ -26,22 +25,22 @@ loop-holds : tie.Need-loop-holds Inv-loop μ-loop
 loop-holds c = (omega arith, (refl, each-none _ _ _))
 
 array-read-numbers : tie.Need-array-read-numbers Inv-loop μ-loop
-array-read-numbers c = search needs
+array-read-numbers c = omega arith
 
 cast-numbers : tie.Need-cast-numbers Inv-loop μ-loop
-cast-numbers c = search needs
+cast-numbers c = omega arith
 
 add-numbers : tie.Need-add-numbers Inv-loop μ-loop
-add-numbers c = search needs
+add-numbers c = omega arith
 
 mul-numbers : tie.Need-mul-numbers Inv-loop μ-loop
-mul-numbers c = search needs
+mul-numbers c = omega arith
 
 slice-write-numbers : tie.Need-slice-write-numbers Inv-loop μ-loop
 slice-write-numbers c = omega arith
 
 add-i : tie.Need-add-i Inv-loop μ-loop
-add-i c = search needs
+add-i c = omega arith
 
 loop-less : tie.Need-loop-less Inv-loop μ-loop
 loop-less c = omega arith

@@ -9,7 +9,6 @@ use Rattle.numbers.specs.NotificationNumbers.{reducedNumbers}
 use Rattle.numbers.proofs.Filling.{each-none, each-next}
 use Rattle.numbers.proofs.Lengths.{length-reduced}
 use native.Mathlib.Omega.{arith}
-use borrow.Author.Needs.{needs}
 use Rattle.numbers.proofs.on_nch.put_reduceds.Statement.{statement}
 use Rattle.numbers.proofs.on_nch.put_reduceds.Tie as tie
 
@@ -23,22 +22,22 @@ loop-holds : tie.Need-loop-holds Inv-loop μ-loop
 loop-holds c = (omega arith, (refl, each-none _ _ _))
 
 mul-r : tie.Need-mul-r Inv-loop μ-loop
-mul-r c = search needs
+mul-r c = omega arith
 
 array-copy-out-r : tie.Need-array-copy-out-r Inv-loop μ-loop
-array-copy-out-r c = search needs
+array-copy-out-r c = omega arith
 
 reduced-numbers-requires : tie.Need-reduced-numbers-requires Inv-loop μ-loop
-reduced-numbers-requires c κs = search needs
+reduced-numbers-requires c κs = omega arith
 
 slice-aggregate-run : tie.Need-slice-aggregate-run Inv-loop μ-loop
-slice-aggregate-run c = search needs
+slice-aggregate-run c = omega arith
 
 mul-run : tie.Need-mul-run Inv-loop μ-loop
-mul-run c = search needs
+mul-run c = omega arith
 
 add-run : tie.Need-add-run Inv-loop μ-loop
-add-run c = search needs
+add-run c = omega arith
 
 run-requires : tie.Need-run-requires Inv-loop μ-loop
 run-requires c κs =
@@ -46,7 +45,7 @@ run-requires c κs =
     omega arith
 
 add-i : tie.Need-add-i Inv-loop μ-loop
-add-i c = search needs
+add-i c = omega arith
 
 loop-less : tie.Need-loop-less Inv-loop μ-loop
 loop-less c = omega arith

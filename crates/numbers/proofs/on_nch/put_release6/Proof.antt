@@ -5,30 +5,29 @@ use mathlib.Core.Path.{_≡_, sym, _∙_}
 use lib.ListN.{length, length-set, length-map}
 use Rattle.numbers.proofs.NotificationRuns.{release6-runs}
 use native.Mathlib.Omega.{arith}
-use borrow.Author.Needs.{needs}
 use Rattle.numbers.proofs.on_nch.put_release6.Statement.{statement}
 use Rattle.numbers.proofs.on_nch.put_release6.Tie as tie
 
 cast-numbers : tie.Need-cast-numbers
-cast-numbers c = search needs
+cast-numbers c = omega arith
 
 cast-t7 : tie.Need-cast-t7
-cast-t7 c = search needs
+cast-t7 c = omega arith
 
 cast-t8 : tie.Need-cast-t8
-cast-t8 c = search needs
+cast-t8 c = omega arith
 
 slice-aggregate-run : tie.Need-slice-aggregate-run
-slice-aggregate-run c = search needs
+slice-aggregate-run c = omega arith
 
 run-requires : tie.Need-run-requires
-run-requires c κs = search needs
+run-requires c κs = omega arith
 
 put-reduceds-requires : tie.Need-put-reduceds-requires
-put-reduceds-requires c κs = search needs
+put-reduceds-requires c κs = omega arith
 
 slice-write-numbers : tie.Need-slice-write-numbers
-slice-write-numbers c = search needs
+slice-write-numbers c = omega arith
 
 put-randoms-requires : tie.Need-put-randoms-requires
 put-randoms-requires c κs = let n = length-set (c .before .before .before .before .put-reduceds .last .0) 61 (c .before .before .before .before .before .before .before .before .before .before .before .before .before .before .before .before .args .r .randomcount) in omega (arith, n, c .before .before .before .before .put-reduceds .kept .0, c .before .before .before .before .before .before .before .before .before .run .kept .1 .0)

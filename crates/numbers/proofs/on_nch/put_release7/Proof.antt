@@ -4,33 +4,33 @@ use Rattle.csn1.proofs.Writing.{flag-byte}
 use mathlib.Core.Path.{_≡_, sym, _∙_}
 use lib.ListN.{length, length-map}
 use Rattle.numbers.proofs.NotificationRuns.{release7-runs}
-use borrow.Author.Needs.{needs}
+use native.Mathlib.Omega.{arith}
 use Rattle.numbers.proofs.on_nch.put_release7.Statement.{statement}
 use Rattle.numbers.proofs.on_nch.put_release7.Tie as tie
 
 cast-t6 : tie.Need-cast-t6
-cast-t6 c = search needs
+cast-t6 c = omega arith
 
 slice-aggregate-run : tie.Need-slice-aggregate-run
-slice-aggregate-run c = search needs
+slice-aggregate-run c = omega arith
 
 run-requires : tie.Need-run-requires
-run-requires c κs = search needs
+run-requires c κs = omega arith
 
 put-marks-requires : tie.Need-put-marks-requires
-put-marks-requires c κs = search needs
+put-marks-requires c κs = omega arith
 
 parts-numbers-requires : tie.Need-parts-numbers-requires
-parts-numbers-requires c κs = search needs
+parts-numbers-requires c κs = omega arith
 
 slice-aggregate-run-2 : tie.Need-slice-aggregate-run-2
-slice-aggregate-run-2 c = search needs
+slice-aggregate-run-2 c = omega arith
 
 run-requires-2 : tie.Need-run-requires-2
-run-requires-2 c κs = search needs
+run-requires-2 c κs = omega arith
 
 same-length : tie.Need-same-length
-same-length c = search needs
+same-length c = omega arith
 
 returns : tie.Need-returns
 returns c =

@@ -3,21 +3,21 @@ use denote.Ref.{now}
 use mathlib.Core.Path.{refl}
 use lib.ListN.{length}
 use Rattle.numbers.proofs.NotificationRuns.{read-there, read-most}
-use borrow.Author.Needs.{needs}
+use native.Mathlib.Omega.{arith}
 use Rattle.numbers.proofs.on_nch.read.Statement.{statement}
 use Rattle.numbers.proofs.on_nch.read.Tie as tie
 
 read-requires : tie.Need-read-requires
-read-requires c κs = search needs
+read-requires c κs = omega arith
 
 put-all-requires : tie.Need-put-all-requires
-put-all-requires c κs = search needs
+put-all-requires c κs = omega arith
 
 clear-requires : tie.Need-clear-requires
-clear-requires c κs = search needs
+clear-requires c κs = omega arith
 
 same-length : tie.Need-same-length
-same-length c = search needs
+same-length c = omega arith
 
 returns : tie.Need-returns
 returns c =
@@ -27,19 +27,19 @@ returns c =
     read-there (now (a .octets)) (r .result) (r .ensures) (now (a .numbers)) _ _ (c .before .before .before .before .before .before .before .before .if1 .taken) (p .ensures) (p .kept .0) (c .before .before .clear .ensures)
 
 slice-aggregate-put-all : tie.Need-slice-aggregate-put-all
-slice-aggregate-put-all c = search needs
+slice-aggregate-put-all c = omega arith
 
 put-all-requires-2 : tie.Need-put-all-requires-2
-put-all-requires-2 c κs = search needs
+put-all-requires-2 c κs = omega arith
 
 slice-aggregate-store : tie.Need-slice-aggregate-store
-slice-aggregate-store c = search needs
+slice-aggregate-store c = omega arith
 
 store-requires : tie.Need-store-requires
-store-requires c κs = search needs
+store-requires c κs = omega arith
 
 same-length-2 : tie.Need-same-length-2
-same-length-2 c = search needs
+same-length-2 c = omega arith
 
 returns-2 : tie.Need-returns-2
 returns-2 c =

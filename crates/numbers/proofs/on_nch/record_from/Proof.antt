@@ -3,22 +3,21 @@ use mathlib.Core.Path.{refl}
 use Rattle.numbers.specs.NotificationNumbers.{most, recordFrom}
 use Rattle.numbers.proofs.NotificationFits.{fits-at, call-fits}
 use native.Mathlib.Omega.{arith}
-use borrow.Author.Needs.{needs}
 use Rattle.numbers.proofs.on_nch.record_from.Statement.{statement}
 use Rattle.numbers.proofs.on_nch.record_from.Tie as tie
 
 shared-slice-read-t3 : tie.Need-shared-slice-read-t3
-shared-slice-read-t3 c = search needs
+shared-slice-read-t3 c = omega arith
 
 shared-slice-read-t6 : tie.Need-shared-slice-read-t6
-shared-slice-read-t6 c = search needs
+shared-slice-read-t6 c = omega arith
 
 cast-t7 : tie.Need-cast-t7
 unfolding most
 cast-t7 c = omega (arith, fits-at _ (c .before .before .before .pre) 1 255 (omega arith) refl)
 
 shared-slice-read-t9 : tie.Need-shared-slice-read-t9
-shared-slice-read-t9 c = search needs
+shared-slice-read-t9 c = omega arith
 
 call-at-requires : tie.Need-call-at-requires
 unfolding most
@@ -37,10 +36,10 @@ unfolding most
 call-at-requires-4 c κs = call-fits _ (c .before .before .before .before .before .before .before .pre) 36 (omega arith) refl refl refl refl refl
 
 release6-from-requires : tie.Need-release6-from-requires
-release6-from-requires c κs = search needs
+release6-from-requires c κs = c .before .before .before .before .before .before .before .before .pre
 
 release7-from-requires : tie.Need-release7-from-requires
-release7-from-requires c κs = search needs
+release7-from-requires c κs = c .before .before .before .before .before .before .before .before .before .pre
 
 returns : tie.Need-returns
 unfolding recordFrom

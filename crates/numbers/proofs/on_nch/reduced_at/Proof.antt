@@ -1,27 +1,27 @@
 -- `numbers::on_nch::reduced_at` meets its contract. Assumes nothing.
 use mathlib.Core.Path.{refl}
 use Rattle.numbers.specs.NotificationNumbers.{reducedFrom}
-use borrow.Author.Needs.{needs}
+use native.Mathlib.Omega.{arith}
 use Rattle.numbers.proofs.on_nch.reduced_at.Statement.{statement}
 use Rattle.numbers.proofs.on_nch.reduced_at.Tie as tie
 
 mul-t3 : tie.Need-mul-t3
-mul-t3 c = search needs
+mul-t3 c = omega arith
 
 shared-slice-read-t5 : tie.Need-shared-slice-read-t5
-shared-slice-read-t5 c = search needs
+shared-slice-read-t5 c = omega arith
 
 cast-t6 : tie.Need-cast-t6
-cast-t6 c = search needs
+cast-t6 c = omega arith
 
 add-t7 : tie.Need-add-t7
-add-t7 c = search needs
+add-t7 c = omega arith
 
 mul-t8 : tie.Need-mul-t8
-mul-t8 c = search needs
+mul-t8 c = omega arith
 
 shared-slice-read-t10 : tie.Need-shared-slice-read-t10
-shared-slice-read-t10 c = search needs
+shared-slice-read-t10 c = omega arith
 
 returns : tie.Need-returns
 unfolding reducedFrom

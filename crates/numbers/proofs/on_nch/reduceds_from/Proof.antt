@@ -3,7 +3,6 @@ use mathlib.Core.Path.{refl}
 use Rattle.numbers.specs.NotificationNumbers.{most}
 use Rattle.numbers.proofs.NotificationFits.{reduced-fits}
 use native.Mathlib.Omega.{arith}
-use borrow.Author.Needs.{needs}
 use Rattle.numbers.proofs.on_nch.reduceds_from.Statement.{statement}
 use Rattle.numbers.proofs.on_nch.reduceds_from.Tie as tie
 
@@ -28,7 +27,7 @@ unfolding most
 reduced-at-requires-5 c κs = reduced-fits _ (c .before .before .before .before .before .pre) 59 (omega arith) refl
 
 returns : tie.Need-returns
-returns c = search needs
+returns c = rw (c .before .before .before .before .reduced-at .ensures, c .before .before .before .reduced-at2 .ensures, c .before .before .reduced-at3 .ensures, c .before .reduced-at4 .ensures, c .reduced-at5 .ensures)
 
 pub reduceds-from-spec : {M : Type 1} → statement M
 reduceds-from-spec =

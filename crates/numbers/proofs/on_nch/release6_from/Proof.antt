@@ -3,34 +3,33 @@ use mathlib.Core.Path.{refl}
 use Rattle.numbers.specs.NotificationNumbers.{most, release6From}
 use Rattle.numbers.proofs.NotificationFits.{fits-at}
 use native.Mathlib.Omega.{arith}
-use borrow.Author.Needs.{needs}
 use Rattle.numbers.proofs.on_nch.release6_from.Statement.{statement}
 use Rattle.numbers.proofs.on_nch.release6_from.Tie as tie
 
 shared-slice-read-t3 : tie.Need-shared-slice-read-t3
-shared-slice-read-t3 c = search needs
+shared-slice-read-t3 c = omega arith
 
 shared-slice-read-t6 : tie.Need-shared-slice-read-t6
-shared-slice-read-t6 c = search needs
+shared-slice-read-t6 c = omega arith
 
 shared-slice-read-t9 : tie.Need-shared-slice-read-t9
-shared-slice-read-t9 c = search needs
+shared-slice-read-t9 c = omega arith
 
 cast-t10 : tie.Need-cast-t10
 unfolding most
 cast-t10 c = omega (arith, fits-at _ (c .before .before .before .before .pre) 49 255 (omega arith) refl)
 
 shared-slice-read-t12 : tie.Need-shared-slice-read-t12
-shared-slice-read-t12 c = search needs
+shared-slice-read-t12 c = omega arith
 
 reduceds-from-requires : tie.Need-reduceds-from-requires
-reduceds-from-requires c κs = search needs
+reduceds-from-requires c κs = c .before .before .before .before .before .pre
 
 shared-slice-read-t16 : tie.Need-shared-slice-read-t16
-shared-slice-read-t16 c = search needs
+shared-slice-read-t16 c = omega arith
 
 randoms-from-requires : tie.Need-randoms-from-requires
-randoms-from-requires c κs = search needs
+randoms-from-requires c κs = c .before .before .before .before .before .before .before .pre
 
 returns : tie.Need-returns
 unfolding release6From

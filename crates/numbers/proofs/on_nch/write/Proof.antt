@@ -4,7 +4,7 @@ use mathlib.Core.Path.{sym, _∙_}
 use borrow.Author.Tests.{not-true, not-false}
 use Rattle.numbers.specs.NotificationNumbers.{most}
 use Rattle.numbers.proofs.NotificationFits.{write-long, write-wide, write-held}
-use borrow.Author.Needs.{needs}
+use native.Mathlib.Omega.{arith}
 use Rattle.numbers.proofs.on_nch.write.Statement.{statement}
 use Rattle.numbers.proofs.on_nch.write.Tie as tie
 
@@ -12,10 +12,10 @@ returns : tie.Need-returns
 returns c = let a = c .before .before .before .args in write-long (now (a .numbers)) (now (a .octets)) (c .if1 .taken)
 
 slice-aggregate-holds : tie.Need-slice-aggregate-holds
-slice-aggregate-holds c = search needs
+slice-aggregate-holds c = omega arith
 
 holds-requires : tie.Need-holds-requires
-holds-requires c κs = search needs
+holds-requires c κs = omega arith
 
 returns-2 : tie.Need-returns-2
 unfolding most
@@ -26,10 +26,10 @@ unfolding most
 record-from-requires c κs = record { long = c .before .before .before .if1 .left; held = sym (c .before .holds .ensures) ∙ not-false _ (c .if2 .left) }
 
 write-requires : tie.Need-write-requires
-write-requires c κs = search needs
+write-requires c κs = omega arith
 
 same-length : tie.Need-same-length
-same-length c = search needs
+same-length c = omega arith
 
 returns-3 : tie.Need-returns-3
 unfolding most

@@ -1,0 +1,184 @@
+/* The comparison of all sides, by the numbers that their users would read. */
+#include "agree.h"
+#include "messages.h"
+
+#include <inttypes.h>
+#include <stdio.h>
+#include <stdlib.h>
+#include <string.h>
+
+enum { PARTS = 35, EXPIRED = 0, DROPPED = 1, COUNT = 2, KEY_OF = 3, TOLD = 4, ENTRIES = 9 };
+
+unsigned long refusals_seen[14], told_seen[9];
+
+static uint64_t part(const struct side *s, const uint8_t *state, uint32_t entry, uint32_t number)
+{
+    uint64_t value = 0;
+    return s->read(state, s->state_length, entry, number, &value) ? UINT64_MAX : value;
+}
+
+static int differ(const char *where, const char *what, const struct side *a, uint64_t x, const struct side *b, uint64_t y)
+{
+    printf("%s: %s is %" PRIu64 " by %s and %" PRIu64 " by %s\n", where, what, x, a->name, y, b->name);
+    return 0;
+}
+
+int same_answers(const struct side *const *sides, uint8_t *const *states, unsigned n_sides, const char *where)
+{
+    for (unsigned k = 1; k < n_sides; k++)
+        for (uint32_t entry = 0; entry <= ENTRIES; entry++) /* one more than there can be, and one part more */
+            for (uint32_t number = entry ? KEY_OF : EXPIRED; number <= PARTS; number++) {
+                uint64_t x = part(sides[0], states[0], entry, number), y = part(sides[k], states[k], entry, number);
+                if (x != y) {
+                    char what[40];
+                    snprintf(what, sizeof what, "part %u of entry %u", (unsigned)number, (unsigned)entry);
+                    return differ(where, what, sides[0], x, sides[k], y);
+                }
+            }
+    return 1;
+}
+
+int same_reading(const struct side *const *sides, unsigned n_sides, int facch, const uint8_t *octets, size_t n)
+{
+    static const struct readers *const all[3] = { &plain_gcc_readers, &plain_clang_readers, &bitwise_readers };
+    static const char *const names[3] = { "plain_gcc", "plain_clang", "bitwise" };
+    size_t most = facch ? 22 : 106;
+    uint64_t here[106], there[106];
+    uint32_t refusal = facch ? sides[0]->facch_numbers(octets, n, here, most) : sides[0]->nch_numbers(octets, n, here, most);
+    for (unsigned k = 1; k < n_sides + 3; k++) {
+        const char *name = k < n_sides ? sides[k]->name : names[k - n_sides];
+        uint32_t other;
+        memset(there, 0xEE, sizeof there);
+        if (k < n_sides) {
+            other = facch ? sides[k]->facch_numbers(octets, n, there, most) : sides[k]->nch_numbers(octets, n, there, most);
+        } else if (facch) {
+            struct plain_facch m;
+            other = all[k - n_sides]->facch(octets, n, &m);
+            plain_gcc_readers.facch_numbers(there, &m);
+        } else {
+            struct plain_nch m;
+            other = all[k - n_sides]->nch(octets, n, &m);
+            plain_gcc_readers.nch_numbers(there, &m);
+        }
+        if (refusal != other || memcmp(here, there, most * sizeof *here) != 0) {
+            printf("%s message", facch ? "FACCH" : "NCH");
+            for (size_t i = 0; i < n; i++)
+                printf(" %02X", octets[i]);
+            printf(": refusal %u by %s, %u by %s", (unsigned)refusal, sides[0]->name, (unsigned)other, name);
+            for (size_t i = 0; i < most; i++)
+                if (here[i] != there[i])
+                    printf("; number %u: %" PRIu64 ", %" PRIu64, (unsigned)i, here[i], there[i]);
+            printf("\n");
+            return 0;
+        }
+    }
+    return 1;
+}
+
+unsigned messages_alike(const struct side *const *sides, unsigned n_sides, uint64_t seed, unsigned messages)
+{
+    struct dice d = { seed };
+    uint32_t keys[6] = { 2468, 2469, 199999998, 0, 77777777, 1 };
+    for (unsigned i = 0; i < messages; i++) {
+        int facch = one_in(&d, 3);
+        struct message m = facch ? random_facch(&d, keys, 6) : random_nch(&d, keys, 6);
+        if (!same_reading(sides, n_sides, facch, m.octets, m.n))
+            return i;
+    }
+    return messages;
+}
+
+/* One random event, the same for every side. */
+struct event {
+    unsigned kind;
+    uint32_t tick, key;
+    struct message message;
+};
+
+static uint32_t hand_in(const struct side *s, uint8_t *state, const struct event *e)
+{
+    size_t length = s->state_length;
+    switch (e->kind) {
+    case 0: return s->nch(state, length, e->tick, e->message.octets, e->message.n);
+    case 1: return s->facch(state, length, e->tick, e->message.octets, e->message.n);
+    case 2: return s->joined(state, length, e->tick, e->key);
+    case 3: return s->reselected(state, length, e->tick);
+    case 4: return s->handed_over(state, length, e->tick);
+    case 5: return s->reconfigured(state, length, e->tick);
+    default: return s->tick(state, length, e->tick);
+    }
+}
+
+/* tick is the last accepted one; few steps are long enough to let a half run out. */
+static struct event random_event(struct dice *d, uint32_t tick, const uint32_t *keys, uint32_t n_keys)
+{
+    struct event e = { 0 };
+    unsigned which = below(d, 40);
+    e.kind = which < 18 ? 0 : which < 34 ? 1 : which - 32;
+    e.tick = tick + (one_in(d, 50) ? (uint32_t)roll(d) : below(d, one_in(d, 4) ? 200 : 20));
+    e.key = one_in(d, 10) ? below(d, 210000000) : keys[below(d, n_keys)];
+    if (e.kind == 0)
+        e.message = random_nch(d, keys, n_keys);
+    if (e.kind == 1)
+        e.message = random_facch(d, keys, n_keys);
+    return e;
+}
+
+static int sequence_alike(const struct side *const *sides, uint8_t *const *states, uint8_t *before, unsigned n_sides, struct dice *d, unsigned events)
+{
+    static const uint32_t all[6] = { 2468, 2469, 199999998, 0, 77777777, 1 };
+    uint32_t n_keys = 1 + below(d, 5), mine[50], tick = one_in(d, 3) ? (uint32_t)-below(d, 500) : (uint32_t)roll(d);
+    uint32_t n_mine = one_in(d, 8) ? 50 : n_keys, t3206 = 1 + below(d, 1000), t3208 = 1 + below(d, 1000);
+    for (uint32_t i = 0; i < n_mine; i++) /* with 50 keys, those in use stand last */
+        mine[i] = i < n_mine - n_keys ? 5000 + i : all[i - (n_mine - n_keys)];
+    char where[80] = "setup";
+    for (unsigned k = 0; k < n_sides; k++) {
+        memset(states[k], 0xA5, sides[k]->state_length);
+        if (sides[k]->setup(states[k], sides[k]->state_length, mine, n_mine, tick, t3206, t3208) != 0)
+            return differ(where, "refusal", sides[k], 1, sides[k], 0);
+    }
+    if (!same_answers(sides, states, n_sides, where))
+        return 0;
+    for (unsigned i = 0; i < events; i++) {
+        struct event e = random_event(d, tick, all, n_keys + 1); /* one key is not subscribed */
+        uint32_t refusal = 0;
+        snprintf(where, sizeof where, "event %u of kind %u", i, e.kind);
+        for (unsigned k = 0; k < n_sides; k++) {
+            memcpy(before, states[k], sides[k]->state_length);
+            uint32_t result = hand_in(sides[k], states[k], &e);
+            if (k == 0)
+                refusal = result;
+            if (result != refusal)
+                return differ(where, "refusal", sides[0], refusal, sides[k], result);
+            if (result && memcmp(before, states[k], sides[k]->state_length) != 0)
+                return differ(where, "refused, but the state changed; refusal", sides[0], refusal, sides[k], result);
+        }
+        refusals_seen[refusal & 15]++;
+        if (!same_answers(sides, states, n_sides, where))
+            return 0;
+        if (!refusal) {
+            tick = e.tick;
+            for (uint32_t j = 0; j < part(sides[0], states[0], 0, COUNT); j++)
+                told_seen[part(sides[0], states[0], j, TOLD) % 9]++;
+        }
+    }
+    return 1;
+}
+
+unsigned sequences_alike(const struct side *const *sides, unsigned n_sides, uint64_t seed, unsigned sequences, unsigned events)
+{
+    struct dice d = { seed };
+    uint8_t *states[MOST_SIDES], *before = malloc(1 << 15);
+    unsigned i;
+    for (unsigned k = 0; k < n_sides; k++)
+        states[k] = aligned_alloc(64, 1 << 15);
+    for (i = 0; i < sequences; i++)
+        if (!sequence_alike(sides, states, before, n_sides, &d, events)) {
+            printf("in random sequence %u\n", i);
+            break;
+        }
+    for (unsigned k = 0; k < n_sides; k++)
+        free(states[k]);
+    free(before);
+    return i;
+}

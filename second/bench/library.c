@@ -1,0 +1,14 @@
+/* The proved library as one of the sides. Built with NO_LIBRARY, there is none, and the plain sides are measured alone. */
+#include "plain.h"
+
+#ifdef NO_LIBRARY
+const struct side *const library = NULL;
+#else
+#include "asternhaken.h"
+
+static const struct side table = {
+    "library", ASTERNHAKEN_STATE_LENGTH, asternhaken_setup, asternhaken_nch, asternhaken_facch, asternhaken_joined, asternhaken_reselected, asternhaken_handed_over,
+    asternhaken_reconfigured, asternhaken_tick, asternhaken_read, asternhaken_nch_read, asternhaken_facch_read
+};
+const struct side *const library = &table;
+#endif

@@ -1,0 +1,847 @@
+/* The competent plain implementation: the octets of a message as big-endian words and its fields by shifts; a receiver that is a struct, with one 64-bit mask of
+ * held places for each channel, so that empty places are never walked over. Written from the documents; it answers as the library does.
+ *
+ * Built once for each compiler: PLAIN names its tables (plain_gcc, plain_clang). */
+#include "plain.h"
+
+#include <string.h>
+
+#ifndef PLAIN
+#define PLAIN plain_gcc
+#endif
+#define INLINE static inline __attribute__((always_inline)) /* so that the place in the message stays in a register */
+#define JOIN_(a, b) a##b
+#define JOIN(a, b) JOIN_(a, b)
+
+enum {
+    ACCEPTED, MESSAGE_LENGTH, RAN_OUT, ALLOCATION_LENGTH, REFERENCE, HOPPING, RANDOM_ENTRIES, EMERGENCY_MARKS, PAGING, CLOCK, SETUP,
+    STATE_LENGTH = 13
+};
+enum { NOT_OURS, CLEAR, ONE_PIECE, JOINED, HALF_STORED, HALF_HELD, NO_CHANNEL, UNUSABLE, SECOND_BEFORE_FIRST };
+enum { NCH, FACCH, CHANNELS };
+enum { KEYS = 50, ENTRIES = 9, LONGEST = 60000, LAST_REFERENCE = 99999999, LAST_KEY = 199999999, NLN_UNKNOWN = 4 };
+
+/* ---- Bits ---- */
+
+/* A message of at most 24 octets, first bit on top of the first word; the fourth word is 0, so that a field may always be put together from two. */
+struct bits {
+    uint64_t words[4];
+    unsigned at, size;
+};
+
+static inline uint64_t word_at(const uint8_t *p)
+{
+    uint64_t w;
+    memcpy(&w, p, 8);
+#if __BYTE_ORDER__ == __ORDER_LITTLE_ENDIAN__
+    w = __builtin_bswap64(w);
+#endif
+    return w;
+}
+
+static inline unsigned left(const struct bits *b)
+{
+    return b->size - b->at;
+}
+
+/* The next n bits, 1 to 64; the caller has seen that they are there. */
+static inline uint64_t take(struct bits *b, unsigned n)
+{
+    unsigned i = b->at >> 6, shift = b->at & 63;
+    uint64_t window = b->words[i] << shift | b->words[i + 1] >> 1 >> (63 - shift);
+    b->at += n;
+    return window >> (64 - n);
+}
+
+/* The next bit, which the caller has seen to be there. */
+static inline uint8_t flag(struct bits *b)
+{
+    uint64_t word = b->words[b->at >> 6] << (b->at & 63);
+    b->at++;
+    return (uint8_t)(word >> 63);
+}
+
+/* The next bit, 1 where it is H and 0 where it is L. */
+static inline uint8_t high(struct bits *b)
+{
+    uint8_t padding = 0x2B >> (7 - (b->at & 7)) & 1;
+    return flag(b) ^ padding;
+}
+
+/* ---- Readers ---- */
+
+INLINE uint32_t read_description(struct bits *b, struct plain_call *c)
+{
+    if (left(b) < 25)
+        return RAN_OUT;
+    uint64_t v = take(b, 25);
+    c->described = 1;
+    c->channel = (uint32_t)(v >> 1);
+    c->hops = v & 1;
+    if ((v >> 13 & 1) != (v & 1)) /* bit 11 of the 24 is the hopping bit */
+        return HOPPING;
+    if (!c->hops)
+        return ACCEPTED;
+    if (left(b) < 1)
+        return RAN_OUT;
+    c->short_list = flag(b);
+    if (c->short_list) {
+        if (left(b) < 64)
+            return RAN_OUT;
+        c->frequencies = take(b, 64);
+        return ACCEPTED;
+    }
+    if (left(b) < 8)
+        return RAN_OUT;
+    unsigned n = (unsigned)take(b, 8);
+    if (n < 1 || n > 8)
+        return ALLOCATION_LENGTH;
+    if (left(b) < 8 * n)
+        return RAN_OUT;
+    c->allocation_octets = (uint8_t)n;
+    c->frequencies = take(b, 8 * n);
+    return ACCEPTED;
+}
+
+INLINE uint32_t read_call(struct bits *b, struct plain_call *c)
+{
+    if (left(b) < 36)
+        return RAN_OUT;
+    uint64_t v = take(b, 36);
+    c->reference = (uint32_t)(v >> 9);
+    c->vgcs = v >> 8 & 1;
+    c->acknowledged = v >> 7 & 1;
+    c->priority = v >> 4 & 7;
+    c->cipher_key_number = v & 15;
+    if (c->reference > LAST_REFERENCE)
+        return REFERENCE;
+    if (left(b) < 1)
+        return RAN_OUT;
+    return flag(b) ? read_description(b, c) : ACCEPTED;
+}
+
+/* The random entries; those past the record's places are only counted. */
+static uint32_t read_random(struct bits *b, struct plain_nch *m)
+{
+    for (;;) {
+        if (left(b) < 1)
+            return RAN_OUT;
+        if (!flag(b))
+            return ACCEPTED;
+        if (left(b) < 2)
+            return RAN_OUT;
+        unsigned v = (unsigned)take(b, 2);
+        uint64_t vstk_rand = 0;
+        if (v & 1) {
+            if (left(b) < 36)
+                return RAN_OUT;
+            vstk_rand = take(b, 36);
+        }
+        if (m->n_random < 9)
+            m->random[m->n_random] = (struct plain_random){ vstk_rand, v >> 1 & 1, v & 1 };
+        m->n_random++;
+    }
+}
+
+static uint32_t read_release_6(struct bits *b, struct plain_nch *m)
+{
+    m->release_6 = 1;
+    if (left(b) < 1)
+        return RAN_OUT;
+    m->counted = flag(b);
+    if (m->counted) {
+        if (left(b) < 2)
+            return RAN_OUT;
+        m->cell_global_count = (uint8_t)take(b, 2);
+    }
+    for (;;) {
+        if (left(b) < 1)
+            return RAN_OUT;
+        if (!flag(b))
+            break;
+        if (left(b) < 28) /* so there are never more than five */
+            return RAN_OUT;
+        uint32_t key = (uint32_t)take(b, 28);
+        if (key > LAST_KEY)
+            return REFERENCE;
+        m->reduced[m->n_reduced++] = key;
+    }
+    return read_random(b, m);
+}
+
+/* One AMR part: a flag and 4 bits. */
+INLINE uint32_t read_amr(struct bits *b, uint8_t *given, uint8_t *config)
+{
+    if (left(b) < 1)
+        return RAN_OUT;
+    *given = flag(b);
+    if (!*given)
+        return ACCEPTED;
+    if (left(b) < 4)
+        return RAN_OUT;
+    *config = (uint8_t)take(b, 4);
+    return ACCEPTED;
+}
+
+static uint32_t read_release_7(struct bits *b, struct plain_nch *m)
+{
+    m->release_7 = 1;
+    for (;;) {
+        if (left(b) < 1)
+            return RAN_OUT;
+        if (!flag(b))
+            break;
+        if (left(b) < 1)
+            return RAN_OUT;
+        uint8_t mark = flag(b);
+        if (m->n_marks < 4)
+            m->marks[m->n_marks] = mark;
+        m->n_marks++;
+    }
+    if (left(b) < 1)
+        return RAN_OUT;
+    m->uplink_given = flag(b);
+    if (m->uplink_given) {
+        if (left(b) < 1)
+            return RAN_OUT;
+        m->uplink_access = flag(b);
+    }
+    if (left(b) < 1)
+        return RAN_OUT;
+    m->amr = flag(b);
+    if (m->amr && (read_amr(b, &m->fr_amr_given, &m->fr_amr_config) || read_amr(b, &m->hr_amr_given, &m->hr_amr_config)))
+        return RAN_OUT;
+    if (left(b) < 1)
+        return RAN_OUT;
+    m->sms = flag(b);
+    if (m->sms) {
+        if (left(b) < 2)
+            return RAN_OUT;
+        unsigned v = (unsigned)take(b, 2);
+        m->sms_confidentiality = v >> 1 & 1;
+        m->sms_privacy = v & 1;
+    }
+    return ACCEPTED;
+}
+
+static uint32_t read_nch_parts(struct bits *b, struct plain_nch *m)
+{
+    uint32_t refusal;
+    unsigned ciphered = 0, described = 0;
+
+    m->nln_given = flag(b);
+    if (m->nln_given)
+        m->nln = (uint8_t)take(b, 2);
+    for (;;) {
+        if (left(b) < 1)
+            return RAN_OUT;
+        if (!flag(b))
+            break;
+        struct plain_call *c = &m->calls[m->n_calls]; /* a fifth call has not bits enough, so nothing is written there */
+        refusal = read_call(b, c);
+        if (refusal)
+            return refusal;
+        ciphered += c->cipher_key_number != 0;
+        described += c->described;
+        m->n_calls++;
+    }
+    if (left(b) && high(b)) {
+        refusal = read_release_6(b, m);
+        if (refusal)
+            return refusal;
+    }
+    if (left(b) && high(b)) {
+        refusal = read_release_7(b, m);
+        if (refusal)
+            return refusal;
+    }
+    m->used = (uint8_t)b->at;
+    if (m->n_random > ciphered + m->n_reduced)
+        return RANDOM_ENTRIES;
+    if (m->n_marks > described)
+        return EMERGENCY_MARKS;
+    return ACCEPTED;
+}
+
+static uint32_t read_nch(const uint8_t *octets, size_t n, struct plain_nch *m)
+{
+    memset(m, 0, sizeof *m);
+    if (n != 20)
+        return MESSAGE_LENGTH;
+    struct bits b = { { word_at(octets), word_at(octets + 8), word_at(octets + 12) << 32, 0 }, 0, 160 };
+    uint32_t refusal = read_nch_parts(&b, m);
+    if (refusal)
+        memset(m, 0, sizeof *m);
+    return refusal;
+}
+
+static uint32_t read_facch_parts(struct bits *b, struct plain_facch *m)
+{
+    if (flag(b))
+        return PAGING;
+    uint32_t refusal = read_call(b, &m->call);
+    if (refusal)
+        return refusal;
+    if (left(b) && high(b)) {
+        m->release_6 = 1;
+        if (left(b) < 1)
+            return RAN_OUT;
+        m->counted = flag(b);
+        if (m->counted) {
+            if (left(b) < 3)
+                return RAN_OUT;
+            unsigned v = (unsigned)take(b, 3);
+            m->cell_global_count = v >> 1 & 3;
+            m->b22_count = v & 1;
+        }
+        if (left(b) < 1)
+            return RAN_OUT;
+        m->rand_given = flag(b);
+        if (m->rand_given) {
+            if (left(b) < 36)
+                return RAN_OUT;
+            m->vstk_rand = take(b, 36);
+        }
+    }
+    if (left(b) && high(b)) {
+        m->release_7 = 1;
+        if (left(b) < 3)
+            return RAN_OUT;
+        m->uplink_access = high(b);
+        m->emergency = high(b);
+        m->paging_cause_given = flag(b);
+        if (m->paging_cause_given) {
+            if (left(b) < 1)
+                return RAN_OUT;
+            flag(b);
+        }
+    }
+    m->used = (uint8_t)b->at;
+    return ACCEPTED;
+}
+
+static uint32_t read_facch(const uint8_t *octets, size_t n, struct plain_facch *m)
+{
+    memset(m, 0, sizeof *m);
+    if (n < 2 || n > 23)
+        return MESSAGE_LENGTH;
+    uint8_t whole[24] = { 0 };
+    memcpy(whole, octets, n);
+    struct bits b = { { word_at(whole), word_at(whole + 8), word_at(whole + 16), 0 }, 8, 8 * (unsigned)n };
+    uint32_t refusal = read_facch_parts(&b, m);
+    if (refusal)
+        memset(m, 0, sizeof *m);
+    return refusal;
+}
+
+/* ---- The records as arrays of numbers ---- */
+
+static uint64_t *call_numbers(uint64_t *to, const struct plain_call *c)
+{
+    to[0] = c->reference;
+    to[1] = c->vgcs;
+    to[2] = c->acknowledged;
+    to[3] = c->priority;
+    to[4] = c->cipher_key_number;
+    to[5] = c->described;
+    to[6] = c->channel;
+    to[7] = c->hops;
+    to[8] = c->short_list;
+    to[9] = c->allocation_octets;
+    to[10] = c->frequencies;
+    return to + 11;
+}
+
+/* As many numbers as the lent array has places, and zeros beyond them. */
+static void hand_over(const uint64_t *all, size_t n_all, uint64_t *numbers, size_t n_numbers)
+{
+    size_t n = n_all < n_numbers ? n_all : n_numbers;
+    memcpy(numbers, all, n * sizeof *all);
+    memset(numbers + n, 0, (n_numbers - n) * sizeof *all);
+}
+
+static void nch_numbers(uint64_t *to, const struct plain_nch *m)
+{
+    *to++ = m->nln_given;
+    *to++ = m->nln;
+    *to++ = m->n_calls;
+    for (int i = 0; i < 4; i++)
+        to = call_numbers(to, &m->calls[i]);
+    *to++ = m->release_6;
+    *to++ = m->counted;
+    *to++ = m->cell_global_count;
+    *to++ = m->n_reduced;
+    for (int i = 0; i < 5; i++) {
+        *to++ = m->reduced[i] >> 1;
+        *to++ = m->reduced[i] & 1;
+    }
+    *to++ = m->n_random;
+    for (int i = 0; i < 9; i++) {
+        *to++ = m->random[i].segment_id;
+        *to++ = m->random[i].given;
+        *to++ = m->random[i].vstk_rand;
+    }
+    *to++ = m->release_7;
+    *to++ = m->n_marks;
+    for (int i = 0; i < 4; i++)
+        *to++ = m->marks[i];
+    *to++ = m->uplink_given;
+    *to++ = m->uplink_access;
+    *to++ = m->amr;
+    *to++ = m->fr_amr_given;
+    *to++ = m->fr_amr_config;
+    *to++ = m->hr_amr_given;
+    *to++ = m->hr_amr_config;
+    *to++ = m->sms;
+    *to++ = m->sms_confidentiality;
+    *to++ = m->sms_privacy;
+    *to = m->used;
+}
+
+static uint32_t read_nch_numbers(const uint8_t *octets, size_t n, uint64_t *numbers, size_t n_numbers)
+{
+    struct plain_nch m;
+    uint32_t refusal = read_nch(octets, n, &m);
+    if (n_numbers == 106) {
+        nch_numbers(numbers, &m);
+    } else {
+        uint64_t all[106];
+        nch_numbers(all, &m);
+        hand_over(all, 106, numbers, n_numbers);
+    }
+    return refusal;
+}
+
+static void facch_numbers(uint64_t *to, const struct plain_facch *m)
+{
+    to = call_numbers(to, &m->call);
+    *to++ = m->release_6;
+    *to++ = m->counted;
+    *to++ = m->cell_global_count;
+    *to++ = m->b22_count;
+    *to++ = m->rand_given;
+    *to++ = m->vstk_rand;
+    *to++ = m->release_7;
+    *to++ = m->uplink_access;
+    *to++ = m->emergency;
+    *to++ = m->paging_cause_given;
+    *to = m->used;
+}
+
+static uint32_t read_facch_numbers(const uint8_t *octets, size_t n, uint64_t *numbers, size_t n_numbers)
+{
+    struct plain_facch m;
+    uint32_t refusal = read_facch(octets, n, &m);
+    if (n_numbers == 22) {
+        facch_numbers(numbers, &m);
+    } else {
+        uint64_t all[22];
+        facch_numbers(all, &m);
+        hand_over(all, 22, numbers, n_numbers);
+    }
+    return refusal;
+}
+
+/* ---- The receiver ---- */
+
+struct record {
+    uint32_t reference, channel;
+    uint64_t frequencies, vstk_rand;
+    uint8_t full, vgcs, acknowledged, described, hops, short_list, segmented, segment_id, rand_given, emergency;
+    uint8_t counted, b22_count, uplink_given, uplink_access, amr, fr_amr_given, hr_amr_given, sms, sms_confidentiality, sms_privacy;
+    uint8_t priority, cipher_key_number, allocation_octets, cell_global_count, fr_amr_config, hr_amr_config;
+};
+
+struct told {
+    uint32_t key;
+    uint8_t number;
+    struct record record; /* there only where the number is 1 to 3 */
+};
+
+struct receiver {
+    uint32_t tick, timer[CHANNELS];
+    uint32_t n_keys, keys[KEYS];
+    uint8_t nln;
+    uint64_t held[CHANNELS], first[CHANNELS]; /* one bit for each subscription: a half is held; it is a first half */
+    uint32_t since[CHANNELS][KEYS];
+    struct record halves[CHANNELS][KEYS];
+    uint32_t expired, dropped, count;
+    struct told entries[ENTRIES];
+};
+
+/* The place of a key, or KEYS where it is not subscribed. */
+static unsigned find(const struct receiver *r, uint32_t key)
+{
+    for (unsigned i = 0; i < r->n_keys; i++)
+        if (r->keys[i] == key)
+            return i;
+    return KEYS;
+}
+
+static uint32_t clock_refusal(const struct receiver *r, size_t state_length, uint32_t tick)
+{
+    if (state_length != sizeof *r)
+        return STATE_LENGTH;
+    return tick - r->tick >= 0x80000000u ? CLOCK : ACCEPTED;
+}
+
+static unsigned expire(struct receiver *r, unsigned channel)
+{
+    unsigned n = 0;
+    uint32_t tick = r->tick, timer = r->timer[channel];
+    const uint32_t *since = r->since[channel];
+    for (uint64_t rest = r->held[channel]; rest; rest &= rest - 1) {
+        size_t i = (unsigned)__builtin_ctzll(rest);
+        if (tick - since[i] >= timer) {
+            r->held[channel] &= ~(1ull << i);
+            n++;
+        }
+    }
+    return n;
+}
+
+/* The tick is taken and what ran out is dropped; the event's entries and own drops come after. */
+static void accept(struct receiver *r, uint32_t tick)
+{
+    r->tick = tick;
+    r->expired = expire(r, NCH) + expire(r, FACCH);
+    r->dropped = 0;
+    r->count = 0;
+}
+
+static unsigned drop(struct receiver *r, unsigned channel, uint64_t but)
+{
+    uint64_t gone = r->held[channel] & ~but;
+    if (!gone)
+        return 0;
+    r->held[channel] &= but;
+    return (unsigned)__builtin_popcountll(gone);
+}
+
+/* What a half is told; x is its record, and becomes the joined one where it is told that. */
+static uint8_t tell_half(struct receiver *r, unsigned channel, unsigned place, struct record *x, unsigned is_first)
+{
+    uint64_t bit = 1ull << place;
+    struct record *held = &r->halves[channel][place];
+    if (!(r->held[channel] & bit)) {
+        if (channel == FACCH && !is_first)
+            return SECOND_BEFORE_FIRST;
+        *held = *x;
+        r->since[channel][place] = r->tick;
+        r->held[channel] |= bit;
+        r->first[channel] = is_first ? r->first[channel] | bit : r->first[channel] & ~bit;
+        return HALF_STORED;
+    }
+    if (((r->first[channel] & bit) != 0) == is_first)
+        return HALF_HELD;
+    if (held->full && x->full && (held->acknowledged != x->acknowledged || held->priority != x->priority || held->cipher_key_number != x->cipher_key_number))
+        return UNUSABLE;
+    struct record second = is_first ? *held : *x;
+    if (!is_first)
+        *x = *held;
+    x->rand_given = 1;
+    x->vstk_rand = second.vstk_rand;
+    if (second.counted) {
+        x->counted = 1;
+        x->cell_global_count = second.cell_global_count;
+        x->b22_count = second.b22_count;
+    }
+    r->held[channel] &= ~bit;
+    return JOINED;
+}
+
+static void call_parts(struct record *x, const struct plain_call *c)
+{
+    x->reference = c->reference;
+    x->channel = c->channel;
+    x->frequencies = c->frequencies;
+    x->full = 1;
+    x->vgcs = c->vgcs;
+    x->acknowledged = c->acknowledged;
+    x->described = c->described;
+    x->hops = c->hops;
+    x->short_list = c->short_list;
+    x->priority = c->priority;
+    x->cipher_key_number = c->cipher_key_number;
+    x->allocation_octets = c->allocation_octets;
+}
+
+static void nch_parts(struct record *x, const struct plain_nch *m, const struct plain_random *random)
+{
+    x->counted = m->counted;
+    x->cell_global_count = m->cell_global_count;
+    x->uplink_given = m->uplink_given;
+    x->uplink_access = m->uplink_access;
+    x->amr = m->amr;
+    x->fr_amr_given = m->fr_amr_given;
+    x->fr_amr_config = m->fr_amr_config;
+    x->hr_amr_given = m->hr_amr_given;
+    x->hr_amr_config = m->hr_amr_config;
+    x->sms = m->sms;
+    x->sms_confidentiality = m->sms_confidentiality;
+    x->sms_privacy = m->sms_privacy;
+    if (random) {
+        x->segmented = 1;
+        x->segment_id = random->segment_id;
+        x->rand_given = random->given;
+        x->vstk_rand = random->vstk_rand;
+    }
+}
+
+static uint8_t tell_nch_call(struct receiver *r, struct told *t, const struct plain_nch *m, const struct plain_call *c, const struct plain_random *random, uint8_t emergency)
+{
+    unsigned place = find(r, t->key);
+    if (place == KEYS)
+        return NOT_OURS;
+    unsigned second = c->cipher_key_number && random && random->segment_id && random->given;
+    if (!c->described && !second)
+        return NO_CHANNEL;
+    if (c->described && c->cipher_key_number && (!random || random->segment_id))
+        return UNUSABLE;
+    struct record *x = &t->record;
+    memset(x, 0, sizeof *x);
+    call_parts(x, c);
+    nch_parts(x, m, random);
+    x->emergency = emergency;
+    if (!c->described)
+        return tell_half(r, NCH, place, x, 0);
+    if (!c->cipher_key_number)
+        return CLEAR;
+    return random->given ? ONE_PIECE : tell_half(r, NCH, place, x, 1);
+}
+
+static uint8_t tell_reduced(struct receiver *r, struct told *t, const struct plain_nch *m, const struct plain_random *random)
+{
+    unsigned place = find(r, t->key);
+    if (place == KEYS)
+        return NOT_OURS;
+    if (!random || !random->segment_id || !random->given)
+        return UNUSABLE;
+    struct record *x = &t->record;
+    memset(x, 0, sizeof *x);
+    x->reference = t->key >> 1;
+    x->vgcs = t->key & 1;
+    nch_parts(x, m, random);
+    return tell_half(r, NCH, place, x, 0);
+}
+
+static uint32_t event_nch(uint8_t *state, size_t state_length, uint32_t tick, const uint8_t *octets, size_t n)
+{
+    struct receiver *r = (struct receiver *)(void *)state;
+    struct plain_nch m;
+    uint32_t refusal = clock_refusal(r, state_length, tick);
+    if (!refusal)
+        refusal = read_nch(octets, n, &m);
+    if (refusal)
+        return refusal;
+    accept(r, tick);
+    if (m.nln_given) {
+        if (r->nln != NLN_UNKNOWN && r->nln != m.nln)
+            r->dropped = drop(r, NCH, 0);
+        r->nln = m.nln;
+    }
+    struct told *t = r->entries;
+    unsigned randoms = 0, marks = 0;
+    for (unsigned i = 0; i < m.n_calls; i++, t++) {
+        const struct plain_call *c = &m.calls[i];
+        const struct plain_random *random = c->cipher_key_number && randoms < m.n_random ? &m.random[randoms++] : NULL;
+        uint8_t emergency = c->described && marks < m.n_marks ? m.marks[marks++] : 0;
+        t->key = c->reference * 2 + c->vgcs;
+        t->number = tell_nch_call(r, t, &m, c, random, emergency);
+    }
+    for (unsigned i = 0; i < m.n_reduced; i++, t++) {
+        const struct plain_random *random = randoms < m.n_random ? &m.random[randoms++] : NULL;
+        t->key = m.reduced[i];
+        t->number = tell_reduced(r, t, &m, random);
+    }
+    r->count = m.n_calls + m.n_reduced;
+    return ACCEPTED;
+}
+
+static uint8_t tell_facch(struct receiver *r, struct told *t, const struct plain_facch *m)
+{
+    const struct plain_call *c = &m->call;
+    unsigned place = find(r, t->key);
+    if (place == KEYS)
+        return NOT_OURS;
+    if (!c->described && !(c->cipher_key_number && m->rand_given))
+        return NO_CHANNEL;
+    struct record *x = &t->record;
+    memset(x, 0, sizeof *x);
+    call_parts(x, c);
+    x->rand_given = m->rand_given;
+    x->vstk_rand = m->vstk_rand;
+    x->counted = m->counted;
+    x->cell_global_count = m->cell_global_count;
+    x->b22_count = m->b22_count;
+    x->uplink_given = m->release_7;
+    x->uplink_access = m->uplink_access;
+    x->emergency = m->emergency;
+    if (!c->described)
+        return tell_half(r, FACCH, place, x, 0);
+    if (!c->cipher_key_number)
+        return CLEAR;
+    return m->rand_given ? ONE_PIECE : tell_half(r, FACCH, place, x, 1);
+}
+
+static uint32_t event_facch(uint8_t *state, size_t state_length, uint32_t tick, const uint8_t *octets, size_t n)
+{
+    struct receiver *r = (struct receiver *)(void *)state;
+    struct plain_facch m;
+    uint32_t refusal = clock_refusal(r, state_length, tick);
+    if (!refusal)
+        refusal = read_facch(octets, n, &m);
+    if (refusal)
+        return refusal;
+    accept(r, tick);
+    struct told *t = r->entries;
+    t->key = m.call.reference * 2 + m.call.vgcs;
+    t->number = tell_facch(r, t, &m);
+    r->count = 1;
+    return ACCEPTED;
+}
+
+static uint32_t event_joined(uint8_t *state, size_t state_length, uint32_t tick, uint32_t key)
+{
+    struct receiver *r = (struct receiver *)(void *)state;
+    uint32_t refusal = clock_refusal(r, state_length, tick);
+    if (!refusal && key > LAST_KEY)
+        refusal = REFERENCE;
+    if (refusal)
+        return refusal;
+    accept(r, tick);
+    unsigned place = find(r, key);
+    uint64_t but = place == KEYS ? 0 : 1ull << place;
+    r->dropped = drop(r, NCH, but) + drop(r, FACCH, but);
+    return ACCEPTED;
+}
+
+static uint32_t drop_channel(uint8_t *state, size_t state_length, uint32_t tick, unsigned channel)
+{
+    struct receiver *r = (struct receiver *)(void *)state;
+    uint32_t refusal = clock_refusal(r, state_length, tick);
+    if (refusal)
+        return refusal;
+    accept(r, tick);
+    r->dropped = drop(r, channel, 0);
+    return ACCEPTED;
+}
+
+static uint32_t event_reselected(uint8_t *state, size_t state_length, uint32_t tick)
+{
+    return drop_channel(state, state_length, tick, NCH);
+}
+
+static uint32_t event_handed_over(uint8_t *state, size_t state_length, uint32_t tick)
+{
+    return drop_channel(state, state_length, tick, FACCH);
+}
+
+static uint32_t event_reconfigured(uint8_t *state, size_t state_length, uint32_t tick)
+{
+    return drop_channel(state, state_length, tick, FACCH);
+}
+
+static uint32_t event_tick(uint8_t *state, size_t state_length, uint32_t tick)
+{
+    struct receiver *r = (struct receiver *)(void *)state;
+    uint32_t refusal = clock_refusal(r, state_length, tick);
+    if (refusal)
+        return refusal;
+    accept(r, tick);
+    return ACCEPTED;
+}
+
+static uint32_t setup(uint8_t *state, size_t state_length, const uint32_t *keys, size_t n_keys, uint32_t tick, uint32_t t3206, uint32_t t3208)
+{
+    struct receiver *r = (struct receiver *)(void *)state;
+    if (state_length != sizeof *r)
+        return STATE_LENGTH;
+    if (n_keys > KEYS || t3206 < 1 || t3206 > LONGEST || t3208 < 1 || t3208 > LONGEST)
+        return SETUP;
+    for (size_t i = 0; i < n_keys; i++) {
+        if (keys[i] > LAST_KEY)
+            return SETUP;
+        for (size_t j = 0; j < i; j++)
+            if (keys[j] == keys[i])
+                return SETUP;
+    }
+    memset(r, 0, sizeof *r);
+    r->tick = tick;
+    r->timer[NCH] = t3206;
+    r->timer[FACCH] = t3208;
+    r->n_keys = (uint32_t)n_keys;
+    memcpy(r->keys, keys, n_keys * sizeof *keys);
+    r->nln = NLN_UNKNOWN;
+    return ACCEPTED;
+}
+
+/* The parts of asternhaken_read, in its order. */
+static uint64_t record_part(const struct record *x, uint32_t part)
+{
+    switch (part) {
+    case 5: return x->reference;
+    case 6: return x->channel;
+    case 7: return x->frequencies;
+    case 8: return x->vstk_rand;
+    case 9: return x->full;
+    case 10: return x->vgcs;
+    case 11: return x->acknowledged;
+    case 12: return x->described;
+    case 13: return x->hops;
+    case 14: return x->short_list;
+    case 15: return x->segmented;
+    case 16: return x->segment_id;
+    case 17: return x->rand_given;
+    case 18: return x->emergency;
+    case 19: return x->counted;
+    case 20: return x->b22_count;
+    case 21: return x->uplink_given;
+    case 22: return x->uplink_access;
+    case 23: return x->amr;
+    case 24: return x->fr_amr_given;
+    case 25: return x->hr_amr_given;
+    case 26: return x->sms;
+    case 27: return x->sms_confidentiality;
+    case 28: return x->sms_privacy;
+    case 29: return x->priority;
+    case 30: return x->cipher_key_number;
+    case 31: return x->allocation_octets;
+    case 32: return x->cell_global_count;
+    case 33: return x->fr_amr_config;
+    case 34: return x->hr_amr_config;
+    default: return 0;
+    }
+}
+
+static uint32_t read_part(const uint8_t *state, size_t state_length, uint32_t entry, uint32_t part, uint64_t *value)
+{
+    const struct receiver *r = (const struct receiver *)(const void *)state;
+    if (state_length != sizeof *r)
+        return STATE_LENGTH;
+    *value = 0;
+    if (part == 0)
+        *value = r->expired;
+    else if (part == 1)
+        *value = r->dropped;
+    else if (part == 2)
+        *value = r->count;
+    else if (entry < r->count) {
+        const struct told *t = &r->entries[entry];
+        if (part == 3)
+            *value = t->key;
+        else if (part == 4)
+            *value = t->number;
+        else if (t->number >= CLEAR && t->number <= JOINED)
+            *value = record_part(&t->record, part);
+    }
+    return ACCEPTED;
+}
+
+#define STRING_(x) #x
+#define STRING(x) STRING_(x)
+const struct side PLAIN = {
+    STRING(PLAIN), sizeof(struct receiver), setup, event_nch, event_facch, event_joined, event_reselected, event_handed_over, event_reconfigured, event_tick, read_part,
+    read_nch_numbers, read_facch_numbers
+};
+const struct readers JOIN(PLAIN, _readers) = { read_nch, read_facch, nch_numbers, facch_numbers };

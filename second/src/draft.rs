@@ -1,0 +1,483 @@
+//! Drafts of messages, laid out bit by bit from the grammar, and a generator for them.
+//!
+//! A draft knows its octets and its numbers without asking the readers and writers of this program, so it can be held against both sides.
+
+use crate::rng::Rng;
+
+/// Octet 2B hex, bit by bit.
+const PADDING: [u8; 8] = [0, 0, 1, 0, 1, 0, 1, 1];
+
+#[derive(Clone, Default)]
+pub struct Bits(pub Vec<u8>);
+
+impl Bits {
+    fn put(&mut self, value: u64, width: usize) {
+        for i in 0..width {
+            self.0.push((value >> (width - 1 - i)) as u8 & 1);
+        }
+    }
+
+    fn one(&mut self) {
+        self.0.push(1);
+    }
+
+    fn zero(&mut self) {
+        self.0.push(0);
+    }
+
+    fn maybe(&mut self, value: Option<u64>, width: usize) {
+        match value {
+            None => self.zero(),
+            Some(value) => {
+                self.one();
+                self.put(value, width);
+            }
+        }
+    }
+
+    fn low(&mut self) {
+        self.0.push(PADDING[self.0.len() % 8]);
+    }
+
+    fn high(&mut self) {
+        self.0.push(1 - PADDING[self.0.len() % 8]);
+    }
+
+    fn coded(&mut self, bit: u64) {
+        if bit == 1 {
+            self.high()
+        } else {
+            self.low()
+        }
+    }
+
+    /// At least `octets` octets, filled up with padding.
+    pub fn octets(&self, octets: usize) -> Vec<u8> {
+        let mut bits = self.0.clone();
+        while bits.len() < 8 * octets || !bits.len().is_multiple_of(8) {
+            bits.push(PADDING[bits.len() % 8]);
+        }
+        bits.chunks(8).map(|eight| (0..8).map(|i| eight[i] << (7 - i)).sum()).collect()
+    }
+}
+
+#[derive(Clone, Debug)]
+pub enum Hops {
+    No,
+    Allocation(u64, u64),
+    List(u64),
+}
+
+#[derive(Clone, Debug)]
+pub struct CallDraft {
+    pub reference: u64,
+    pub service: u64,
+    pub acknowledged: u64,
+    pub priority: u64,
+    pub cipher: u64,
+    /// The 24 bits and the frequencies.
+    pub description: Option<(u64, Hops)>,
+}
+
+impl CallDraft {
+    /// A call as a scenario needs it: reference, service flag and key number, not described.
+    pub fn plain(key: u32, cipher: u64) -> CallDraft {
+        CallDraft { reference: u64::from(key / 2), service: u64::from(key % 2), acknowledged: 0, priority: 1, cipher, description: None }
+    }
+
+    pub fn on(mut self, channel: u64) -> CallDraft {
+        let hops = if channel & 0x1000 == 0 { Hops::No } else { Hops::List(0x0123_4567_89AB_CDEF) };
+        self.description = Some((channel, hops));
+        self
+    }
+
+    fn lay(&self, bits: &mut Bits) {
+        bits.put(self.reference, 27);
+        bits.put(self.service, 1);
+        bits.put(self.acknowledged, 1);
+        bits.put(self.priority, 3);
+        bits.put(self.cipher, 4);
+        let Some((channel, hops)) = &self.description else { return bits.zero() };
+        bits.one();
+        bits.put(*channel, 24);
+        match hops {
+            Hops::No => bits.zero(),
+            Hops::Allocation(length, octets) => {
+                bits.one();
+                bits.zero();
+                bits.put(*length, 8);
+                for i in (0..*length).rev() {
+                    bits.put(if i < 8 { octets >> (8 * i) } else { 0 }, 8);
+                }
+            }
+            Hops::List(list) => {
+                bits.one();
+                bits.one();
+                bits.put(*list, 64);
+            }
+        }
+    }
+
+    fn numbers(&self) -> Vec<u64> {
+        let mut numbers = vec![self.reference, self.service, self.acknowledged, self.priority, self.cipher];
+        numbers.extend(match &self.description {
+            None => [0, 0, 0, 0, 0, 0],
+            Some((channel, Hops::No)) => [1, *channel, 0, 0, 0, 0],
+            Some((channel, Hops::Allocation(length, octets))) => [1, *channel, 1, 0, *length, *octets],
+            Some((channel, Hops::List(list))) => [1, *channel, 1, 1, 0, *list],
+        });
+        numbers
+    }
+}
+
+#[derive(Clone, Debug, Default)]
+pub struct SixDraft {
+    pub count: Option<u64>,
+    pub reduced: Vec<(u64, u64)>,
+    pub random: Vec<(u64, Option<u64>)>,
+}
+
+#[derive(Clone, Debug, Default)]
+pub struct SevenDraft {
+    pub marks: Vec<u64>,
+    pub uplink: Option<u64>,
+    pub amr: Option<(Option<u64>, Option<u64>)>,
+    pub sms: Option<(u64, u64)>,
+}
+
+#[derive(Clone, Debug, Default)]
+pub struct NchDraft {
+    pub nln: Option<u64>,
+    pub calls: Vec<CallDraft>,
+    pub six: Option<SixDraft>,
+    pub seven: Option<SevenDraft>,
+}
+
+impl NchDraft {
+    pub fn bits(&self) -> Bits {
+        let mut bits = Bits::default();
+        bits.maybe(self.nln, 2);
+        for call in &self.calls {
+            bits.one();
+            call.lay(&mut bits);
+        }
+        bits.zero();
+        match &self.six {
+            None if bits.0.len() == 160 && self.seven.is_none() => return bits,
+            None => bits.low(),
+            Some(six) => {
+                bits.high();
+                bits.maybe(six.count, 2);
+                for (reference, service) in &six.reduced {
+                    bits.one();
+                    bits.put(reference << 1 | service, 28);
+                }
+                bits.zero();
+                for (segment, vstk_rand) in &six.random {
+                    bits.one();
+                    bits.put(*segment, 1);
+                    bits.maybe(*vstk_rand, 36);
+                }
+                bits.zero();
+            }
+        }
+        match &self.seven {
+            None if bits.0.len() == 160 => return bits,
+            None => bits.low(),
+            Some(seven) => {
+                bits.high();
+                for mark in &seven.marks {
+                    bits.one();
+                    bits.put(*mark, 1);
+                }
+                bits.zero();
+                bits.maybe(seven.uplink, 1);
+                match seven.amr {
+                    None => bits.zero(),
+                    Some((fr, hr)) => {
+                        bits.one();
+                        bits.maybe(fr, 4);
+                        bits.maybe(hr, 4);
+                    }
+                }
+                bits.maybe(seven.sms.map(|(confidentiality, privacy)| confidentiality << 1 | privacy), 2);
+            }
+        }
+        bits
+    }
+
+    pub fn octets(&self) -> Vec<u8> {
+        self.bits().octets(20)
+    }
+
+    /// The numbers in the header's order, where all lists fit in their places.
+    pub fn numbers(&self) -> Option<Vec<u64>> {
+        let pair = |value: Option<u64>| [u64::from(value.is_some()), value.unwrap_or(0)];
+        let mut numbers = Vec::new();
+        numbers.extend(pair(self.nln));
+        numbers.push(self.calls.len() as u64);
+        for call in &self.calls {
+            numbers.extend(call.numbers());
+        }
+        let up_to = |numbers: &mut Vec<u64>, length: usize| {
+            let fits = numbers.len() <= length;
+            numbers.resize(length, 0);
+            fits
+        };
+        let mut fits = up_to(&mut numbers, 47);
+        if let Some(six) = &self.six {
+            numbers.push(1);
+            numbers.extend(pair(six.count));
+            numbers.push(six.reduced.len() as u64);
+            numbers.extend(six.reduced.iter().flat_map(|(reference, service)| [*reference, *service]));
+            fits &= up_to(&mut numbers, 61);
+            numbers.push(six.random.len() as u64);
+            for (segment, vstk_rand) in &six.random {
+                numbers.push(*segment);
+                numbers.extend(pair(*vstk_rand));
+            }
+        }
+        fits &= up_to(&mut numbers, 89);
+        if let Some(seven) = &self.seven {
+            numbers.push(1);
+            numbers.push(seven.marks.len() as u64);
+            numbers.extend(&seven.marks);
+            fits &= up_to(&mut numbers, 95);
+            numbers.extend(pair(seven.uplink));
+            numbers.push(u64::from(seven.amr.is_some()));
+            let (fr, hr) = seven.amr.unwrap_or_default();
+            numbers.extend(pair(fr));
+            numbers.extend(pair(hr));
+            numbers.push(u64::from(seven.sms.is_some()));
+            let (confidentiality, privacy) = seven.sms.unwrap_or_default();
+            numbers.extend([confidentiality, privacy]);
+        }
+        fits &= up_to(&mut numbers, 105);
+        fits.then_some(numbers)
+    }
+}
+
+/// Count with B22, VSTK_RAND.
+type FacchSix = (Option<(u64, u64)>, Option<u64>);
+/// Priority Uplink Access, emergency, Paging Cause.
+type FacchSeven = (u64, u64, Option<u64>);
+
+#[derive(Clone, Debug)]
+pub struct FacchDraft {
+    pub first_octet: u64,
+    /// None is the paging branch.
+    pub call: Option<CallDraft>,
+    pub six: Option<FacchSix>,
+    pub seven: Option<FacchSeven>,
+    /// Where both releases may be told by nothing: as few octets as the call takes.
+    pub short: bool,
+}
+
+impl FacchDraft {
+    pub fn of(call: CallDraft) -> FacchDraft {
+        FacchDraft { first_octet: 4, call: Some(call), six: None, seven: None, short: false }
+    }
+
+    pub fn rand(mut self, vstk_rand: u64) -> FacchDraft {
+        let count = self.six.and_then(|six| six.0);
+        self.six = Some((count, Some(vstk_rand)));
+        self
+    }
+
+    pub fn count(mut self, count: u64, b22: u64) -> FacchDraft {
+        let vstk_rand = self.six.and_then(|six| six.1);
+        self.six = Some((Some((count, b22)), vstk_rand));
+        self
+    }
+
+    pub fn bits(&self) -> Bits {
+        let mut bits = Bits::default();
+        bits.put(self.first_octet, 8);
+        match &self.call {
+            None => bits.one(),
+            Some(call) => {
+                bits.zero();
+                call.lay(&mut bits);
+            }
+        }
+        if self.short && self.six.is_none() && self.seven.is_none() && bits.0.len() % 8 == 0 {
+            return bits;
+        }
+        match self.six {
+            None => bits.low(),
+            Some((count, vstk_rand)) => {
+                bits.high();
+                bits.maybe(count.map(|(count, b22)| count << 1 | b22), 3);
+                bits.maybe(vstk_rand, 36);
+            }
+        }
+        if self.short && self.seven.is_none() && bits.0.len() % 8 == 0 {
+            return bits;
+        }
+        match self.seven {
+            None => bits.low(),
+            Some((uplink, emergency, cause)) => {
+                bits.high();
+                bits.coded(uplink);
+                bits.coded(emergency);
+                bits.maybe(cause, 1);
+            }
+        }
+        bits
+    }
+
+    pub fn octets(&self) -> Vec<u8> {
+        self.bits().octets(if self.short { 2 } else { 23 })
+    }
+
+    pub fn numbers(&self) -> Option<Vec<u64>> {
+        let mut numbers = self.call.as_ref()?.numbers();
+        match self.six {
+            None => numbers.extend([0; 6]),
+            Some((count, vstk_rand)) => {
+                let (value, b22) = count.unwrap_or_default();
+                numbers.extend([1, u64::from(count.is_some()), value, b22, u64::from(vstk_rand.is_some()), vstk_rand.unwrap_or(0)]);
+            }
+        }
+        match self.seven {
+            None => numbers.extend([0; 4]),
+            Some((uplink, emergency, cause)) => numbers.extend([1, uplink, emergency, u64::from(cause.is_some())]),
+        }
+        Some(numbers)
+    }
+}
+
+/// What drafts are made of: any calls, or few, so that halves meet.
+pub struct Pool {
+    pub references: Vec<u64>,
+}
+
+impl Pool {
+    pub fn wide() -> Pool {
+        Pool { references: Vec::new() }
+    }
+
+    fn is_wide(&self) -> bool {
+        self.references.is_empty()
+    }
+
+    pub fn reference(&self, rng: &mut Rng) -> u64 {
+        if !self.is_wide() {
+            return self.references[rng.below(self.references.len() as u64) as usize];
+        }
+        match rng.below(16) {
+            0 => 99_999_999,
+            1 => 0,
+            2 => rng.below(100),
+            _ => rng.below(100_000_000),
+        }
+    }
+
+    pub fn call(&self, rng: &mut Rng) -> CallDraft {
+        let wide = self.is_wide();
+        CallDraft {
+            reference: self.reference(rng),
+            service: rng.below(2),
+            // In a small pool the 36 bits must agree often, and now and then not.
+            acknowledged: if wide { rng.below(2) } else { u64::from(rng.one_in(20)) },
+            priority: if wide { rng.below(8) } else { 5 + u64::from(rng.one_in(20)) },
+            cipher: if rng.one_in(4) {
+                0
+            } else if wide {
+                rng.below(16)
+            } else {
+                3 + u64::from(rng.one_in(20))
+            },
+            description: if rng.one_in(2) { Some(Pool::description(rng)) } else { None },
+        }
+    }
+
+    fn description(rng: &mut Rng) -> (u64, Hops) {
+        let channel = rng.below(1 << 24);
+        match rng.below(8) {
+            0 => {
+                let length = if rng.one_in(3) { 1 + rng.below(8) } else { 1 + rng.below(2) };
+                let octets = if length == 8 { rng.next() } else { rng.below(1 << (8 * length)) };
+                (channel | 0x1000, Hops::Allocation(length, octets))
+            }
+            1 => (channel | 0x1000, Hops::List(rng.next())),
+            _ => (channel & !0x1000, Hops::No),
+        }
+    }
+
+    /// An NCH draft with as much in it as may fit; its lists mostly agree, so that 6 and 7 are not the usual case.
+    pub fn nch(&self, rng: &mut Rng) -> NchDraft {
+        let nln = rng.one_in(2).then(|| rng.below(4));
+        let calls: Vec<CallDraft> = match rng.below(8) {
+            0 => Vec::new(),
+            1 | 2 => (0..2).map(|_| self.call(rng)).collect(),
+            3 => (0..3).map(|_| self.call(rng)).collect(),
+            4 => (0..1 + rng.below(4)).map(|_| CallDraft { description: None, ..self.call(rng) }).collect(),
+            _ => vec![self.call(rng)],
+        };
+        let used: usize = 5 + calls.iter().map(|call| call.numbers()[5] as usize * 25 + 38).sum::<usize>();
+        let room = 160usize.saturating_sub(used);
+        let six = (room > 8 && !rng.one_in(4)).then(|| self.six(rng, &calls, room - 5));
+        let seven = rng.one_in(2).then(|| Pool::seven(rng, &calls));
+        NchDraft { nln, calls, six, seven }
+    }
+
+    fn six(&self, rng: &mut Rng, calls: &[CallDraft], room: usize) -> SixDraft {
+        let count = rng.one_in(2).then(|| rng.below(4));
+        let most = if rng.one_in(2) { 0 } else { room / 29 };
+        let reduced: Vec<(u64, u64)> = (0..rng.below(most as u64 + 1)).map(|_| (self.reference(rng), rng.below(2))).collect();
+        let owners = calls.iter().filter(|call| call.cipher != 0).map(|call| call.description.is_some());
+        let owners: Vec<bool> = owners.chain(reduced.iter().map(|_| false)).collect();
+        let mut left = room as i64 - 29 * reduced.len() as i64;
+        let mut random = Vec::new();
+        for described in &owners {
+            if rng.one_in(6) {
+                break;
+            }
+            // Usually what fits the entry: a first half or one piece for a described call, a second half for another.
+            let segment = if rng.one_in(8) { rng.below(2) } else { u64::from(!described) };
+            let wanted = if *described { rng.one_in(2) } else { !rng.one_in(8) };
+            let vstk_rand = (wanted && left >= 39).then(|| rng.below(1 << 36));
+            left -= if vstk_rand.is_some() { 39 } else { 3 };
+            random.push((segment, vstk_rand));
+        }
+        if rng.one_in(16) {
+            // Refusal 6: an entry too many, or very many.
+            let most = if rng.one_in(4) { 60 } else { 3 };
+            random.extend((0..1 + rng.below(most)).map(|_| (rng.below(2), None)));
+        }
+        SixDraft { count, reduced, random }
+    }
+
+    fn seven(rng: &mut Rng, calls: &[CallDraft]) -> SevenDraft {
+        let described = calls.iter().filter(|call| call.description.is_some()).count() as u64;
+        // Refusal 7: marks too many, or very many.
+        let most = if !rng.one_in(16) {
+            described + 1
+        } else if rng.one_in(4) {
+            80
+        } else {
+            6
+        };
+        let count = rng.below(most);
+        SevenDraft {
+            marks: (0..count).map(|_| rng.below(2)).collect(),
+            uplink: rng.one_in(2).then(|| rng.below(2)),
+            amr: rng.one_in(2).then(|| (rng.one_in(2).then(|| rng.below(16)), rng.one_in(2).then(|| rng.below(16)))),
+            sms: rng.one_in(2).then(|| (rng.below(2), rng.below(2))),
+        }
+    }
+
+    pub fn facch(&self, rng: &mut Rng) -> FacchDraft {
+        FacchDraft {
+            first_octet: rng.below(256),
+            call: (!rng.one_in(16)).then(|| self.call(rng)),
+            six: rng.one_in(2).then(|| {
+                let count = rng.one_in(2).then(|| (rng.below(4), rng.below(2)));
+                (count, rng.one_in(2).then(|| rng.below(1 << 36)))
+            }),
+            seven: rng.one_in(2).then(|| (rng.below(2), rng.below(2), rng.one_in(3).then(|| rng.below(2)))),
+            short: rng.one_in(2),
+        }
+    }
+}

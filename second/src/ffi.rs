@@ -1,0 +1,228 @@
+//! The functions of include/asternhaken.h, called with guard octets around everything that is lent.
+
+use std::cell::Cell;
+
+pub mod archive {
+    macro_rules! exported {
+        ($( fn $name:ident($($arg:ident: $type:ty),*); )*) => {
+            extern "C" { $( pub fn $name($($arg: $type),*) -> u32; )* }
+        };
+    }
+    exported! {
+        fn asternhaken_setup(state: *mut u8, state_length: usize, keys: *const u32, n_keys: usize, tick: u32, t3206: u32, t3208: u32);
+        fn asternhaken_nch(state: *mut u8, state_length: usize, tick: u32, octets: *const u8, n: usize);
+        fn asternhaken_facch(state: *mut u8, state_length: usize, tick: u32, octets: *const u8, n: usize);
+        fn asternhaken_joined(state: *mut u8, state_length: usize, tick: u32, key: u32);
+        fn asternhaken_reselected(state: *mut u8, state_length: usize, tick: u32);
+        fn asternhaken_handed_over(state: *mut u8, state_length: usize, tick: u32);
+        fn asternhaken_reconfigured(state: *mut u8, state_length: usize, tick: u32);
+        fn asternhaken_tick(state: *mut u8, state_length: usize, tick: u32);
+        fn asternhaken_read(state: *const u8, state_length: usize, entry: u32, part: u32, value: *mut u64);
+        fn asternhaken_nch_read(octets: *const u8, n: usize, numbers: *mut u64, n_numbers: usize);
+        fn asternhaken_nch_write(numbers: *const u64, n_numbers: usize, octets: *mut u8, n: usize);
+        fn asternhaken_facch_read(octets: *const u8, n: usize, numbers: *mut u64, n_numbers: usize);
+        fn asternhaken_message_type_read(octet: u8, numbers: *mut u64, n_numbers: usize);
+        fn asternhaken_message_type_write(numbers: *const u64, n_numbers: usize, octet: *mut u8);
+        fn asternhaken_call_reference_read(octets: *const u8, n: usize, numbers: *mut u64, n_numbers: usize);
+        fn asternhaken_call_reference_write(numbers: *const u64, n_numbers: usize, octets: *mut u8, n: usize);
+        fn asternhaken_call_state_read(half: u8, numbers: *mut u64, n_numbers: usize);
+        fn asternhaken_call_state_write(numbers: *const u64, n_numbers: usize, half: *mut u8);
+        fn asternhaken_cause_read(octets: *const u8, n: usize, numbers: *mut u64, n_numbers: usize);
+        fn asternhaken_cause_write(numbers: *const u64, n_numbers: usize, octets: *mut u8, n: usize);
+        fn asternhaken_originator_read(half: u8, numbers: *mut u64, n_numbers: usize);
+        fn asternhaken_originator_write(numbers: *const u64, n_numbers: usize, half: *mut u8);
+        fn asternhaken_state_attributes_read(half: u8, numbers: *mut u64, n_numbers: usize);
+        fn asternhaken_state_attributes_write(numbers: *const u64, n_numbers: usize, half: *mut u8);
+        fn asternhaken_sms_read(half: u8, numbers: *mut u64, n_numbers: usize);
+        fn asternhaken_sms_write(numbers: *const u64, n_numbers: usize, half: *mut u8);
+        fn asternhaken_talker_read(half: u8, numbers: *mut u64, n_numbers: usize);
+        fn asternhaken_talker_write(numbers: *const u64, n_numbers: usize, half: *mut u8);
+        fn asternhaken_digits_read(octets: *const u8, n: usize, numbers: *mut u64, n_numbers: usize);
+        fn asternhaken_digits_write(numbers: *const u64, n_numbers: usize, octets: *mut u8, n: usize);
+    }
+}
+
+pub type OctetsReader = unsafe extern "C" fn(*const u8, usize, *mut u64, usize) -> u32;
+pub type OctetsWriter = unsafe extern "C" fn(*const u64, usize, *mut u8, usize) -> u32;
+pub type OctetReader = unsafe extern "C" fn(u8, *mut u64, usize) -> u32;
+pub type OctetWriter = unsafe extern "C" fn(*const u64, usize, *mut u8) -> u32;
+
+thread_local! {
+    static DAMAGE: Cell<Option<&'static str>> = const { Cell::new(None) };
+}
+
+/// What the calls since the last question did to memory they had no business with.
+pub fn take_damage() -> Option<&'static str> {
+    DAMAGE.with(Cell::take)
+}
+
+fn note_damage(what: &'static str) {
+    DAMAGE.with(|damage| damage.set(Some(what)));
+}
+
+const GUARD: usize = 16;
+
+/// Lent memory with guards on both sides.
+struct Lent<T> {
+    all: Vec<T>,
+    start: usize,
+    length: usize,
+    guard: T,
+}
+
+impl<T: Copy + PartialEq> Lent<T> {
+    /// The guard also varies the start, so that octets are lent at every alignment.
+    fn new(content: &[T], guard: T, shift: usize) -> Lent<T> {
+        let start = GUARD + shift;
+        let mut all = Vec::with_capacity(start + content.len() + GUARD);
+        all.resize(start, guard);
+        all.extend_from_slice(content);
+        all.resize(start + content.len() + GUARD, guard);
+        Lent { all, start, length: content.len(), guard }
+    }
+
+    fn content(&self) -> &[T] {
+        &self.all[self.start..self.start + self.length]
+    }
+
+    fn pointer(&self) -> *const T {
+        self.all[self.start..].as_ptr()
+    }
+
+    fn pointer_mut(&mut self) -> *mut T {
+        self.all[self.start..].as_mut_ptr()
+    }
+
+    fn check_guards(&self) {
+        let around = self.all[..self.start].iter().chain(&self.all[self.start + self.length..]);
+        if !around.into_iter().all(|octet| *octet == self.guard) {
+            note_damage("memory beside a lent buffer was written");
+        }
+    }
+
+    /// Memory lent to be read must stay as it was.
+    fn check_all(&self, content: &[T]) {
+        self.check_guards();
+        if self.content() != content {
+            note_damage("memory lent only to be read was written");
+        }
+    }
+}
+
+const OCTET_GUARD: u8 = 0xA5;
+const NUMBER_GUARD: u64 = 0xA5A5_5A5A_C3C3_3C3C;
+/// What stands in an array before a reader fills it.
+const STALE: u64 = 0xDEAD_BEEF_0BAD_F00D;
+
+pub fn read_octets(function: OctetsReader, octets: &[u8], n_numbers: usize) -> (u32, Vec<u64>) {
+    let input = Lent::new(octets, OCTET_GUARD, octets.len() % 8);
+    let mut numbers = Lent::new(&vec![STALE; n_numbers], NUMBER_GUARD, 0);
+    let refusal = unsafe { function(input.pointer(), octets.len(), numbers.pointer_mut(), n_numbers) };
+    input.check_all(octets);
+    numbers.check_guards();
+    (refusal, numbers.content().to_vec())
+}
+
+pub fn read_octet(function: OctetReader, octet: u8, n_numbers: usize) -> (u32, Vec<u64>) {
+    let mut numbers = Lent::new(&vec![STALE; n_numbers], NUMBER_GUARD, 0);
+    let refusal = unsafe { function(octet, numbers.pointer_mut(), n_numbers) };
+    numbers.check_guards();
+    (refusal, numbers.content().to_vec())
+}
+
+/// The refusal, and the lent octets afterwards.
+pub fn write_octets(function: OctetsWriter, numbers: &[u64], before: &[u8]) -> (u32, Vec<u8>) {
+    let input = Lent::new(numbers, NUMBER_GUARD, 0);
+    let mut octets = Lent::new(before, OCTET_GUARD, numbers.len() % 8);
+    let refusal = unsafe { function(input.pointer(), numbers.len(), octets.pointer_mut(), before.len()) };
+    input.check_all(numbers);
+    octets.check_guards();
+    (refusal, octets.content().to_vec())
+}
+
+pub fn write_octet(function: OctetWriter, numbers: &[u64], before: u8) -> (u32, u8) {
+    let input = Lent::new(numbers, NUMBER_GUARD, 0);
+    let mut octet = Lent::new(&[before], OCTET_GUARD, numbers.len() % 8);
+    let refusal = unsafe { function(input.pointer(), numbers.len(), octet.pointer_mut()) };
+    input.check_all(numbers);
+    octet.check_guards();
+    (refusal, octet.content()[0])
+}
+
+/// A lent state. Its length may be a wrong one.
+pub struct State {
+    lent: Lent<u8>,
+}
+
+impl State {
+    pub fn new(octets: &[u8], shift: usize) -> State {
+        State { lent: Lent::new(octets, OCTET_GUARD, shift % 8) }
+    }
+
+    pub fn octets(&self) -> &[u8] {
+        self.lent.content()
+    }
+
+    fn call(&mut self, function: impl FnOnce(*mut u8, usize) -> u32) -> u32 {
+        let length = self.lent.length;
+        let refusal = function(self.lent.pointer_mut(), length);
+        self.lent.check_guards();
+        refusal
+    }
+
+    pub fn setup(&mut self, keys: &[u32], tick: u32, t3206: u32, t3208: u32) -> u32 {
+        let lent = Lent::new(keys, 0xA5A5_A5A5, 0);
+        let refusal = self.call(|state, n| unsafe { archive::asternhaken_setup(state, n, lent.pointer(), keys.len(), tick, t3206, t3208) });
+        lent.check_all(keys);
+        refusal
+    }
+
+    pub fn nch(&mut self, tick: u32, octets: &[u8]) -> u32 {
+        let lent = Lent::new(octets, OCTET_GUARD, tick as usize % 8);
+        let refusal = self.call(|state, n| unsafe { archive::asternhaken_nch(state, n, tick, lent.pointer(), octets.len()) });
+        lent.check_all(octets);
+        refusal
+    }
+
+    pub fn facch(&mut self, tick: u32, octets: &[u8]) -> u32 {
+        let lent = Lent::new(octets, OCTET_GUARD, tick as usize % 8);
+        let refusal = self.call(|state, n| unsafe { archive::asternhaken_facch(state, n, tick, lent.pointer(), octets.len()) });
+        lent.check_all(octets);
+        refusal
+    }
+
+    pub fn joined(&mut self, tick: u32, key: u32) -> u32 {
+        self.call(|state, n| unsafe { archive::asternhaken_joined(state, n, tick, key) })
+    }
+
+    pub fn reselected(&mut self, tick: u32) -> u32 {
+        self.call(|state, n| unsafe { archive::asternhaken_reselected(state, n, tick) })
+    }
+
+    pub fn handed_over(&mut self, tick: u32) -> u32 {
+        self.call(|state, n| unsafe { archive::asternhaken_handed_over(state, n, tick) })
+    }
+
+    pub fn reconfigured(&mut self, tick: u32) -> u32 {
+        self.call(|state, n| unsafe { archive::asternhaken_reconfigured(state, n, tick) })
+    }
+
+    pub fn tick(&mut self, tick: u32) -> u32 {
+        self.call(|state, n| unsafe { archive::asternhaken_tick(state, n, tick) })
+    }
+
+    /// One number of the answer. The caller sees to it that the state stayed as it was.
+    pub fn read(&self, entry: u32, part: u32) -> (u32, u64) {
+        let mut value = [NUMBER_GUARD, STALE, NUMBER_GUARD];
+        let refusal =
+            unsafe { archive::asternhaken_read(self.lent.pointer(), self.lent.length, entry, part, value.as_mut_ptr().wrapping_add(1)) };
+        if value[0] != NUMBER_GUARD || value[2] != NUMBER_GUARD {
+            note_damage("memory beside a lent number was written");
+        }
+        (refusal, value[1])
+    }
+
+    pub fn check_guards(&self) {
+        self.lent.check_guards();
+    }
+}

@@ -1,0 +1,334 @@
+//! Messages and records: both sides read and write the same.
+
+use crate::draft::{Bits, CallDraft, FacchDraft, Hops, NchDraft, Pool};
+use crate::ffi::{self, archive};
+use crate::rng::Rng;
+use crate::tally::{hex, sparse, Tally};
+use crate::{facch, nch};
+
+/// What a reader leaves in an array of `places` numbers: the reading, zeros beyond it; all zeros where it was refused.
+pub fn filled(reading: Result<Vec<u64>, u32>, places: usize) -> (u32, Vec<u64>) {
+    let (refusal, mut numbers) = match reading {
+        Ok(numbers) => (0, numbers),
+        Err(refusal) => (refusal, Vec::new()),
+    };
+    numbers.resize(places, 0);
+    (refusal, numbers)
+}
+
+pub fn second_nch(octets: &[u8]) -> Result<Vec<u64>, u32> {
+    nch::read(octets).map(|(message, used)| [message.numbers(), vec![used as u64]].concat())
+}
+
+pub fn second_facch(octets: &[u8]) -> Result<Vec<u64>, u32> {
+    facch::read(octets).map(|(message, used)| [message.numbers(), vec![used as u64]].concat())
+}
+
+const NCH_READING: usize = nch::NUMBERS + 1;
+const FACCH_READING: usize = facch::NUMBERS + 1;
+
+/// Reads on both sides; an accepted message is also written back. Gives the archive's reading.
+pub fn compare_nch(tally: &mut Tally, octets: &[u8], places: usize) -> (u32, Vec<u64>) {
+    let archive = ffi::read_octets(archive::asternhaken_nch_read, octets, places);
+    let second = filled(second_nch(octets), places);
+    tally.count_refusal(archive.0);
+    tally.same_reading("nch_read", || format!("{} into {places} numbers", hex(octets)), &archive, &second);
+    if archive.0 == 0 && places == NCH_READING {
+        let used = archive.1[nch::NUMBERS] as usize;
+        let written = compare_nch_write(tally, &archive.1[..nch::NUMBERS], 20);
+        let expected = Bits(bits_of(octets)[..used.min(160)].to_vec()).octets(20);
+        tally.same_writing("nch: what was read is written back, then padding", || hex(octets), &written, &(0, expected));
+    }
+    archive
+}
+
+fn bits_of(octets: &[u8]) -> Vec<u8> {
+    octets.iter().flat_map(|octet| (0..8).rev().map(move |place| octet >> place & 1)).collect()
+}
+
+pub fn compare_facch(tally: &mut Tally, octets: &[u8], places: usize) -> (u32, Vec<u64>) {
+    let archive = ffi::read_octets(archive::asternhaken_facch_read, octets, places);
+    let second = filled(second_facch(octets), places);
+    tally.count_refusal(archive.0);
+    tally.same_reading("facch_read", || format!("{} into {places} numbers", hex(octets)), &archive, &second);
+    archive
+}
+
+/// Writes on both sides into octets that held something; gives the archive's refusal and octets.
+pub fn compare_nch_write(tally: &mut Tally, numbers: &[u64], size: usize) -> (u32, Vec<u8>) {
+    let before: Vec<u8> = (0..size).map(|i| 0xC0 ^ i as u8).collect();
+    let archive = ffi::write_octets(archive::asternhaken_nch_write, numbers, &before);
+    let mut octets = before;
+    let refusal = nch::write(numbers, &mut octets).err().unwrap_or(0);
+    tally.count_refusal(archive.0);
+    tally.same_writing("nch_write", || format!("{} into {size} octets", sparse(numbers)), &archive, &(refusal, octets));
+    archive
+}
+
+/// Numbers that lie at and just beyond the bounds of all the fields there are, and that a narrower field would cut down to a good one.
+pub const BOUNDS: [u64; 42] = [
+    0,
+    1,
+    2,
+    3,
+    4,
+    5,
+    6,
+    7,
+    8,
+    9,
+    10,
+    11,
+    12,
+    15,
+    16,
+    127,
+    128,
+    255,
+    256,
+    257,
+    0xFFFF,
+    0x1_0000,
+    0x1000,
+    (1 << 24) - 1,
+    1 << 24,
+    99_999_999,
+    100_000_000,
+    (1 << 27) - 1,
+    1 << 27,
+    (1 << 32) - 1,
+    1 << 32,
+    (1 << 32) + 1,
+    (1 << 36) - 1,
+    1 << 36,
+    (1 << 40) - 1,
+    1 << 40,
+    (1 << 48) - 1,
+    1 << 48,
+    (1 << 56) - 1,
+    1 << 56,
+    1 << 63,
+    u64::MAX,
+];
+
+fn places(rng: &mut Rng, usual: usize) -> usize {
+    if rng.one_in(40) {
+        rng.below(2 * usual as u64) as usize
+    } else {
+        usual
+    }
+}
+
+/// A message with bits flipped, cut short or lengthened.
+fn spoiled(rng: &mut Rng, octets: &[u8]) -> Vec<u8> {
+    let mut octets = octets.to_vec();
+    match rng.below(8) {
+        0 => octets.truncate(rng.below(octets.len() as u64) as usize),
+        1 => {
+            let more = 1 + rng.below(4) as usize;
+            octets.extend(rng.octets(more));
+        }
+        _ => {
+            for _ in 0..1 + rng.below(3) {
+                let place = rng.below(8 * octets.len() as u64) as usize;
+                octets[place / 8] ^= 0x80 >> (place % 8);
+            }
+        }
+    }
+    octets
+}
+
+/// The draft's own octets and numbers against the archive: only where the draft is one that must be accepted.
+fn compare_nch_draft(tally: &mut Tally, draft: &NchDraft) -> Option<Vec<u64>> {
+    let bits = draft.bits().0.len();
+    let numbers = draft.numbers();
+    let owners = draft.calls.iter().filter(|call| call.cipher != 0).count() + draft.six.as_ref().map_or(0, |six| six.reduced.len());
+    let described = draft.calls.iter().filter(|call| call.description.is_some()).count();
+    let agrees = draft.six.as_ref().map_or(0, |six| six.random.len()) <= owners
+        && draft.seven.as_ref().map_or(0, |seven| seven.marks.len()) <= described;
+    if let (true, true, Some(numbers)) = (bits <= 160, agrees, &numbers) {
+        let octets = draft.octets();
+        let reading = ffi::read_octets(archive::asternhaken_nch_read, &octets, NCH_READING);
+        let expected = (0, [numbers.clone(), vec![bits as u64]].concat());
+        tally.same_reading("nch_read of a draft (second is the draft)", || hex(&octets), &reading, &expected);
+        let written = ffi::write_octets(archive::asternhaken_nch_write, numbers, &[0; 20]);
+        tally.same_writing("nch_write of a draft (second is the draft)", || sparse(numbers), &written, &(0, octets));
+    }
+    numbers
+}
+
+fn compare_facch_draft(tally: &mut Tally, draft: &FacchDraft) {
+    let octets = draft.octets();
+    let Some(mut numbers) = draft.numbers() else { return };
+    if octets.len() > 23 {
+        return;
+    }
+    numbers.push(draft.bits().0.len() as u64);
+    let reading = ffi::read_octets(archive::asternhaken_facch_read, &octets, FACCH_READING);
+    tally.same_reading("facch_read of a draft (second is the draft)", || hex(&octets), &reading, &(0, numbers));
+}
+
+/// Drafts that bend a rule on purpose: references, hopping flags and lengths that must be refused.
+fn bent_call(rng: &mut Rng, draft: &mut CallDraft) {
+    match rng.below(4) {
+        0 => draft.reference = 100_000_000 + rng.below((1 << 27) - 100_000_000) * rng.below(2),
+        1 => draft.description = Some((0x1000 | rng.below(1 << 24), Hops::Allocation(rng.pick(&[0, 9, 10, 127, 200, 255]), 0))),
+        _ => {
+            if let Some((channel, _)) = &mut draft.description {
+                *channel ^= 0x1000;
+            }
+        }
+    }
+}
+
+/// About `count` messages and records, at random.
+pub fn run(tally: &mut Tally, rng: &mut Rng, count: u64) {
+    let pool = Pool::wide();
+    let mut done = 0;
+    while done < count {
+        match rng.below(10) {
+            0 => {
+                let length = if rng.one_in(8) { rng.below(30) as usize } else { 20 };
+                let octets = rng.octets(length);
+                let places = places(rng, NCH_READING);
+                compare_nch(tally, &octets, places);
+                done += 1;
+            }
+            1 => {
+                let length = rng.below(26) as usize;
+                let mut octets = rng.octets(length);
+                if length > 1 && rng.one_in(2) {
+                    octets[1] &= 0x3F;
+                }
+                let places = places(rng, FACCH_READING);
+                compare_facch(tally, &octets, places);
+                done += 1;
+            }
+            2..=5 => done += nch_messages(tally, rng, &pool),
+            6..=7 => done += facch_messages(tally, rng, &pool),
+            _ => done += nch_records(tally, rng, &pool),
+        }
+    }
+}
+
+fn nch_messages(tally: &mut Tally, rng: &mut Rng, pool: &Pool) -> u64 {
+    let mut draft = pool.nch(rng);
+    if rng.one_in(6) && !draft.calls.is_empty() {
+        let which = rng.below(draft.calls.len() as u64) as usize;
+        bent_call(rng, &mut draft.calls[which]);
+    } else {
+        compare_nch_draft(tally, &draft);
+    }
+    // What runs over is cut, so that a list meets the end of the message.
+    let mut octets = draft.octets();
+    octets.truncate(20);
+    let places = places(rng, NCH_READING);
+    compare_nch(tally, &octets, places);
+    for _ in 0..3 {
+        let octets = spoiled(rng, &octets);
+        compare_nch(tally, &octets, NCH_READING);
+    }
+    4
+}
+
+fn facch_messages(tally: &mut Tally, rng: &mut Rng, pool: &Pool) -> u64 {
+    let mut draft = pool.facch(rng);
+    let octets = match &mut draft.call {
+        Some(call) if rng.one_in(6) => {
+            bent_call(rng, call);
+            let mut octets = draft.octets();
+            octets.truncate(23);
+            octets
+        }
+        _ => {
+            compare_facch_draft(tally, &draft);
+            draft.octets()
+        }
+    };
+    let places = places(rng, FACCH_READING);
+    compare_facch(tally, &octets, places);
+    for _ in 0..3 {
+        let octets = spoiled(rng, &octets);
+        compare_facch(tally, &octets, FACCH_READING);
+    }
+    4
+}
+
+fn nch_records(tally: &mut Tally, rng: &mut Rng, pool: &Pool) -> u64 {
+    let mut draft = pool.nch(rng);
+    if rng.one_in(3) && !draft.calls.is_empty() {
+        let which = rng.below(draft.calls.len() as u64) as usize;
+        bent_call(rng, &mut draft.calls[which]);
+    }
+    let Some(numbers) = draft.numbers() else { return 0 };
+    let size = if rng.one_in(20) { rng.below(42) as usize } else { 20 };
+    compare_nch_write(tally, &numbers, size);
+    for faults in 1..=3 {
+        let mut numbers = numbers.clone();
+        for _ in 0..faults {
+            // Half of the time a place that is in use, or most faults would only be something in an unused one.
+            let used: Vec<usize> = (0..numbers.len()).filter(|&place| numbers[place] != 0).collect();
+            let place = if used.is_empty() || rng.one_in(2) { rng.below(numbers.len() as u64) as usize } else { rng.pick(&used) };
+            numbers[place] = match rng.below(4) {
+                0 => numbers[place].wrapping_add(1),
+                1 => numbers[place] ^ 1 << rng.below(64),
+                _ => rng.pick(&BOUNDS),
+            };
+        }
+        if rng.one_in(30) {
+            numbers.resize(rng.below(220) as usize, 0);
+        }
+        compare_nch_write(tally, &numbers, 20);
+    }
+    4
+}
+
+/// Each field of some records at every bound, whatever the seed.
+pub fn fields(tally: &mut Tally) {
+    let mut rng = Rng::new(1);
+    let pool = Pool::wide();
+    let mut bases: Vec<Vec<u64>> = vec![vec![0; nch::NUMBERS]];
+    // Descriptions of every kind.
+    let kinds = (1..=8).map(|length| Hops::Allocation(length, 1)).chain([Hops::List(0x8000_0000_0000_0001)]);
+    for hops in kinds {
+        let call = CallDraft { description: Some((0x1000, hops)), ..CallDraft::plain(9_423, 0) };
+        bases.extend(NchDraft { calls: vec![call], ..NchDraft::default() }.numbers());
+    }
+    // Records with much in them, and of every shape.
+    while bases.len() < 24 {
+        let draft = pool.nch(&mut rng);
+        let enough = draft.calls.len() + draft.seven.iter().count() + draft.six.iter().count() >= 3;
+        let octets = draft.octets();
+        if let (true, Ok(numbers)) = (enough, second_nch(&octets)) {
+            bases.push(numbers[..nch::NUMBERS].to_vec());
+        }
+    }
+    for base in &bases {
+        for field in 0..nch::NUMBERS {
+            for bound in BOUNDS {
+                let mut numbers = base.clone();
+                numbers[field] = bound;
+                compare_nch_write(tally, &numbers, 20);
+            }
+        }
+        for length in 0..2 * nch::NUMBERS {
+            let mut numbers = base.clone();
+            numbers.resize(length, 0);
+            compare_nch_write(tally, &numbers, 20);
+        }
+        for size in 0..42 {
+            compare_nch_write(tally, base, size);
+        }
+    }
+    // Messages and arrays far too long.
+    for length in [24, 255, 256, 276, 4_095, 4_096, 4_097, 65_556, 100_000] {
+        for fill in [0x00, 0x2B, 0x80] {
+            compare_nch(tally, &vec![fill; length], NCH_READING);
+            compare_facch(tally, &vec![fill; length], FACCH_READING);
+        }
+        compare_nch(tally, &[0x2B; 20], length);
+        compare_facch(tally, &[0x2B; 23], length);
+        compare_nch_write(tally, &vec![0; length], 20);
+        compare_nch_write(tally, &bases[0], length);
+    }
+}

@@ -1,0 +1,151 @@
+//! The one-call receiver: knows one key and one channel, and is fed only what that call sees.
+//!
+//! It has no clock and no store: the age of its half is the sum of the steps of accepted events. What the receiver of document 01 tells
+//! the entries of a subscribed call must be what this one tells them, whatever the other calls do.
+
+use crate::facch::Facch;
+use crate::nch::Nch;
+use crate::receiver::{facch_entry, nch_entries, Channel, Record};
+
+/// What a call sees of an accepted event.
+pub enum Seen<'a> {
+    Nch(&'a Nch),
+    Facch(&'a Facch),
+    Joined(u32),
+    Reselected,
+    HandedOver,
+    Reconfigured,
+    Nothing,
+}
+
+#[derive(Clone)]
+struct Held {
+    second: bool,
+    age: u64,
+    record: Record,
+}
+
+#[derive(Clone)]
+pub struct One {
+    pub key: u32,
+    pub channel: Channel,
+    timer: u64,
+    nln: Option<u64>,
+    held: Option<Held>,
+}
+
+/// What happened to this call at one event.
+#[derive(Debug, Default, PartialEq)]
+pub struct Outcome {
+    pub expired: u64,
+    pub dropped: u64,
+    pub told: Vec<(u64, Option<Record>)>,
+}
+
+impl One {
+    pub fn new(key: u32, channel: Channel, timer: u32) -> One {
+        One { key, channel, timer: u64::from(timer), nln: None, held: None }
+    }
+
+    pub fn see(&mut self, step: u32, seen: &Seen) -> Outcome {
+        let mut outcome = Outcome::default();
+        if let Some(held) = &mut self.held {
+            held.age += u64::from(step);
+            if held.age >= self.timer {
+                self.held = None;
+                outcome.expired = 1;
+            }
+        }
+        if self.leaves(seen) && self.held.take().is_some() {
+            outcome.dropped = 1;
+        }
+        match (self.channel, seen) {
+            (Channel::Nch, Seen::Nch(message)) => {
+                self.nln = message.nln.or(self.nln);
+                for entry in nch_entries(message) {
+                    if entry.key() == u64::from(self.key) {
+                        outcome.told.push(self.on_nch(entry));
+                    }
+                }
+            }
+            (Channel::Facch, Seen::Facch(message)) => {
+                let entry = facch_entry(message);
+                if entry.key() == u64::from(self.key) {
+                    outcome.told.push(self.on_facch(entry));
+                }
+            }
+            _ => {}
+        }
+        outcome
+    }
+
+    /// Whether the event makes this call discard its half.
+    fn leaves(&self, seen: &Seen) -> bool {
+        match seen {
+            Seen::Joined(key) => *key != self.key,
+            Seen::Reselected => self.channel == Channel::Nch,
+            Seen::HandedOver | Seen::Reconfigured => self.channel == Channel::Facch,
+            Seen::Nch(message) => self.channel == Channel::Nch && self.nln.is_some() && message.nln.is_some() && message.nln != self.nln,
+            Seen::Facch(_) | Seen::Nothing => false,
+        }
+    }
+
+    fn on_nch(&mut self, entry: Record) -> (u64, Option<Record>) {
+        if !entry.full {
+            // A reduced reference is ciphered and not described: a second half, or of no use.
+            return match (entry.segmented, entry.segment_id, entry.rand_given) {
+                (true, true, true) => self.half(true, entry),
+                _ => (7, None),
+            };
+        }
+        let ciphered = entry.cipher_key_number > 0;
+        match (entry.described, ciphered) {
+            (true, false) => (1, Some(entry)),
+            (true, true) if !entry.segmented || entry.segment_id => (7, None),
+            (true, true) if entry.rand_given => (2, Some(entry)),
+            (true, true) => self.half(false, entry),
+            (false, true) if entry.segment_id && entry.rand_given => self.half(true, entry),
+            (false, _) => (6, None),
+        }
+    }
+
+    fn on_facch(&mut self, entry: Record) -> (u64, Option<Record>) {
+        match (entry.described, entry.cipher_key_number > 0, entry.rand_given) {
+            (true, false, _) => (1, Some(entry)),
+            (true, true, true) => (2, Some(entry)),
+            (true, true, false) => self.half(false, entry),
+            (false, true, true) if self.held.is_none() => (8, None),
+            (false, true, true) => self.half(true, entry),
+            (false, _, _) => (6, None),
+        }
+    }
+
+    fn half(&mut self, second: bool, entry: Record) -> (u64, Option<Record>) {
+        let Some(held) = self.held.take() else {
+            self.held = Some(Held { second, age: 0, record: entry });
+            return (4, None);
+        };
+        let differs = held.record.acknowledged != entry.acknowledged
+            || held.record.priority != entry.priority
+            || held.record.cipher_key_number != entry.cipher_key_number;
+        let number = if held.second == second {
+            5
+        } else if held.record.full && entry.full && differs {
+            7
+        } else {
+            3
+        };
+        if number != 3 {
+            self.held = Some(held);
+            return (number, None);
+        }
+        let (first, second) = if second { (held.record, entry) } else { (entry, held.record) };
+        let mut joined = Record { vstk_rand: second.vstk_rand, rand_given: true, ..first };
+        if second.counted {
+            joined.counted = true;
+            joined.cell_global_count = second.cell_global_count;
+            joined.b22_count = second.b22_count;
+        }
+        (3, Some(joined))
+    }
+}

@@ -1,0 +1,237 @@
+//! The archive and the second program side by side over one lent state.
+
+use crate::bits::Refusal;
+use crate::ffi;
+use crate::one::{One, Outcome, Seen};
+use crate::receiver::*;
+use crate::state::*;
+use crate::tally::{hex, Tally};
+use crate::{facch, nch};
+
+/// Entries and parts that are asked for after each event: all there can be, and some beyond.
+const ENTRIES_ASKED: u32 = 11;
+const PARTS_ASKED: u32 = 37;
+const BEYOND: [(u32, u32); 6] = [(0, 255), (0, 256 + 4), (256, 4), (u32::MAX, 3), (u32::MAX, 2), (1 << 31, u32::MAX)];
+
+pub struct Pair {
+    archive: ffi::State,
+    pub mirror: Mirror,
+    /// One for each subscription and channel; none where the state was not left by a setup.
+    ones: Vec<One>,
+    from_setup: bool,
+    /// What the state held at the start, and what was done since, for the reader of a difference.
+    start: Vec<u8>,
+    log: Vec<String>,
+}
+
+/// An answer in numbers: each entry is its key, the number told, and the numbers of its record.
+#[derive(Debug, Clone, PartialEq)]
+pub struct Spoken {
+    pub expired: u64,
+    pub dropped: u64,
+    pub entries: Vec<(u64, u64, Option<[u64; RECORD_NUMBERS]>)>,
+}
+
+/// What both sides said to one event.
+pub struct Said {
+    pub archive: Result<Spoken, Refusal>,
+    pub second: Result<Spoken, Refusal>,
+}
+
+fn spoken(answer: &Answer) -> Spoken {
+    let entries = answer.entries.iter().map(|told| (told.key, told.number, told.record.as_ref().map(numbers_of)));
+    Spoken { expired: answer.expired, dropped: answer.dropped, entries: entries.collect() }
+}
+
+pub fn event_line(tick: u32, event: &Event) -> String {
+    match event {
+        Event::Nch(octets) => format!("nch {tick} {}", hex(octets)),
+        Event::Facch(octets) => format!("facch {tick} {}", hex(octets)),
+        Event::Joined(key) => format!("joined {tick} {key}"),
+        Event::Reselected => format!("reselected {tick}"),
+        Event::HandedOver => format!("handed_over {tick}"),
+        Event::Reconfigured => format!("reconfigured {tick}"),
+        Event::Tick => format!("tick {tick}"),
+    }
+}
+
+pub fn feed(state: &mut ffi::State, tick: u32, event: &Event) -> Refusal {
+    match event {
+        Event::Nch(octets) => state.nch(tick, octets),
+        Event::Facch(octets) => state.facch(tick, octets),
+        Event::Joined(key) => state.joined(tick, *key),
+        Event::Reselected => state.reselected(tick),
+        Event::HandedOver => state.handed_over(tick),
+        Event::Reconfigured => state.reconfigured(tick),
+        Event::Tick => state.tick(tick),
+    }
+}
+
+/// Where two states differ, for the reader of a difference.
+fn differing(archive: &[u8], second: &[u8]) -> String {
+    let places: Vec<usize> = (0..STATE_LENGTH).filter(|&i| archive[i] != second[i]).collect();
+    let shown: Vec<String> = places.iter().take(16).map(|&i| format!("{i}: {:02x} {:02x}", archive[i], second[i])).collect();
+    format!("{} octets differ (octet: archive second): {}", places.len(), shown.join(", "))
+}
+
+impl Pair {
+    /// A state of octets that no setup left.
+    pub fn of(octets: &[u8], shift: usize) -> Pair {
+        Pair {
+            archive: ffi::State::new(octets, shift),
+            mirror: Mirror::of(octets),
+            ones: Vec::new(),
+            from_setup: false,
+            start: octets.to_vec(),
+            log: Vec::new(),
+        }
+    }
+
+    /// The start, if it was no setup, and all that was done since.
+    fn story(&self) -> String {
+        let start = if self.from_setup { String::new() } else { format!("state {}\n          ", hex(&self.start)) };
+        format!("{start}{}", self.log.join("\n          "))
+    }
+
+    fn tell(&self) -> String {
+        format!("  input   {}", self.story())
+    }
+
+    fn check_state(&self, tally: &mut Tally, what: &str) {
+        let (archive, second) = (self.archive.octets(), &self.mirror.octets[..]);
+        tally.check(archive == second, || format!("  {what}: the state afterwards\n{}\n  {}", self.tell(), differing(archive, second)));
+    }
+
+    pub fn setup(&mut self, tally: &mut Tally, keys: &[u32], tick: u32, t3206: u32, t3208: u32) -> Refusal {
+        let words: Vec<String> = keys.iter().map(u32::to_string).collect();
+        let line = format!("setup {tick} {t3206} {t3208} {}", words.join(" "));
+        let archive = self.archive.setup(keys, tick, t3206, t3208);
+        let second = self.mirror.setup(keys, tick, t3206, t3208).err().unwrap_or(0);
+        if second == 0 {
+            self.log.clear();
+            self.from_setup = true;
+            let both = |&key| [One::new(key, Channel::Nch, t3206), One::new(key, Channel::Facch, t3208)];
+            self.ones = keys.iter().flat_map(both).collect();
+        }
+        self.log.push(line);
+        tally.count_refusal(archive);
+        tally.same("setup: refusal", || self.story(), &archive, &second);
+        self.check_state(tally, "setup");
+        self.check_parts(tally);
+        archive
+    }
+
+    /// One event on both sides, everything compared; gives what each of them said.
+    pub fn event(&mut self, tally: &mut Tally, tick: u32, event: &Event) -> Said {
+        self.log.push(event_line(tick, event));
+        let step = tick.wrapping_sub(self.mirror.receiver.tick);
+        let archive = feed(&mut self.archive, tick, event);
+        let second = self.mirror.event(tick, event);
+        tally.count_refusal(archive);
+        tally.same("event: refusal", || self.story(), &archive, &second.as_ref().err().copied().unwrap_or(0));
+        self.check_state(tally, "event");
+        self.check_parts(tally);
+        let told = if archive == 0 { Ok(self.archive_answer()) } else { Err(archive) };
+        let second = second.map(|answer| spoken(&answer));
+        if let Ok(told) = &told {
+            for entry in &told.entries {
+                tally.count_told(entry.1);
+            }
+            tally.check(second.as_ref() == Ok(told), || {
+                format!("  event: answer\n{}\n  archive {told:?}\n  second  {second:?}", self.tell())
+            });
+            self.check_ones(tally, step, event, told);
+        }
+        Said { archive: told, second }
+    }
+
+    pub fn value(&self, entry: u32, part: u32) -> u64 {
+        self.archive.read(entry, part).1
+    }
+
+    /// The archive's answer, by asternhaken_read alone.
+    fn archive_answer(&self) -> Spoken {
+        let entries = (0..self.value(0, 2).min(20) as u32).map(|entry| {
+            let number = self.value(entry, 4);
+            let record = (1..=3).contains(&number).then(|| {
+                let mut numbers = [0; RECORD_NUMBERS];
+                for (i, value) in numbers.iter_mut().enumerate() {
+                    *value = self.value(entry, (FIRST_RECORD_PART + i) as u32);
+                }
+                numbers
+            });
+            (self.value(entry, 3), number, record)
+        });
+        Spoken { expired: self.value(0, 0), dropped: self.value(0, 1), entries: entries.collect() }
+    }
+
+    /// Every part of every entry, parts and entries beyond the last too.
+    fn check_parts(&self, tally: &mut Tally) {
+        let asked = (0..ENTRIES_ASKED).flat_map(|entry| (0..PARTS_ASKED).map(move |part| (entry, part))).chain(BEYOND);
+        let mut first_difference = None;
+        for (entry, part) in asked {
+            let archive = self.archive.read(entry, part);
+            let second = (0, self.mirror.read(entry, part));
+            if archive != second && first_difference.is_none() {
+                first_difference = Some((entry, part, archive, second));
+            }
+        }
+        self.archive.check_guards();
+        let untouched = self.archive.octets() == &self.mirror.octets[..];
+        tally.check(first_difference.is_none() && untouched, || {
+            format!("  read (entry, part, (refusal, value) of the archive, of the second): {first_difference:?}\n{}", self.tell())
+        });
+    }
+
+    /// Each subscribed call on each channel against the one-call receiver, and the counts against the sum of theirs.
+    fn check_ones(&mut self, tally: &mut Tally, step: u32, event: &Event, told: &Spoken) {
+        if !self.from_setup {
+            return;
+        }
+        let (read_nch, read_facch);
+        let seen = match event {
+            Event::Nch(octets) => {
+                let Ok((message, _)) = nch::read(octets) else { return };
+                read_nch = message;
+                Seen::Nch(&read_nch)
+            }
+            Event::Facch(octets) => {
+                let Ok((message, _)) = facch::read(octets) else { return };
+                read_facch = message;
+                Seen::Facch(&read_facch)
+            }
+            Event::Joined(key) => Seen::Joined(*key),
+            Event::Reselected => Seen::Reselected,
+            Event::HandedOver => Seen::HandedOver,
+            Event::Reconfigured => Seen::Reconfigured,
+            Event::Tick => Seen::Nothing,
+        };
+        let (mut expired, mut dropped) = (0, 0);
+        let mut strays = Vec::new();
+        for one in &mut self.ones {
+            let Outcome { expired: ran_out, dropped: left, told: own } = one.see(step, &seen);
+            expired += ran_out;
+            dropped += left;
+            let here = match event {
+                Event::Nch(_) => one.channel == Channel::Nch,
+                Event::Facch(_) => one.channel == Channel::Facch,
+                _ => false,
+            };
+            let own: Vec<_> = own.into_iter().map(|(number, record)| (number, record.as_ref().map(numbers_of))).collect();
+            let archive: Vec<_> =
+                told.entries.iter().filter(|entry| here && entry.0 == u64::from(one.key)).map(|entry| (entry.1, entry.2)).collect();
+            if own != archive {
+                strays.push((one.key, one.channel, archive, own));
+            }
+        }
+        let counts = (told.expired, told.dropped) == (expired, dropped);
+        tally.check(strays.is_empty() && counts, || {
+            format!(
+                "  one-call receiver: (key, channel, archive, one) {strays:?}\n  (expired, dropped): archive {:?}, the ones together {:?}\n{}",
+                (told.expired, told.dropped),
+                (expired, dropped),
+                self.tell()
+            )
+        });
+    }
+}

@@ -1,0 +1,399 @@
+//! The receiver (document 01, "Setup, clock and store" and "What each notified call is told").
+
+use crate::bits::*;
+use crate::call::{Call, Frequencies};
+use crate::facch::{self, Facch};
+use crate::nch::{self, Nch};
+use std::collections::BTreeMap;
+
+pub const LAST_KEY: u32 = 199_999_999;
+pub const MOST_KEYS: usize = 50;
+pub const LONGEST_TIMER: u32 = 60_000;
+
+#[derive(Clone, Copy, Debug, PartialEq, Eq, PartialOrd, Ord)]
+pub enum Channel {
+    Nch,
+    Facch,
+}
+
+/// What an entry brings: its own parts, and its message's count, uplink, AMR and SMS parts.
+#[derive(Clone, Copy, Debug, Default, PartialEq)]
+pub struct Record {
+    pub reference: u64,
+    pub channel: u64,
+    pub frequencies: u64,
+    pub vstk_rand: u64,
+    pub full: bool,
+    pub vgcs: bool,
+    pub acknowledged: bool,
+    pub described: bool,
+    pub hops: bool,
+    pub short_list: bool,
+    pub segmented: bool,
+    pub segment_id: bool,
+    pub rand_given: bool,
+    pub emergency: bool,
+    pub counted: bool,
+    pub b22_count: bool,
+    pub uplink_given: bool,
+    pub uplink_access: bool,
+    pub amr: bool,
+    pub fr_amr_given: bool,
+    pub hr_amr_given: bool,
+    pub sms: bool,
+    pub sms_confidentiality: bool,
+    pub sms_privacy: bool,
+    pub priority: u64,
+    pub cipher_key_number: u64,
+    pub allocation_octets: u64,
+    pub cell_global_count: u64,
+    pub fr_amr_config: u64,
+    pub hr_amr_config: u64,
+}
+
+impl Record {
+    fn of_call(call: &Call) -> Record {
+        let mut record = Record {
+            full: true,
+            reference: call.reference,
+            vgcs: call.vgcs,
+            acknowledged: call.acknowledged,
+            priority: call.priority,
+            cipher_key_number: call.cipher_key_number,
+            ..Record::default()
+        };
+        if let Some(description) = &call.description {
+            record.described = true;
+            record.channel = description.channel;
+            match description.frequencies {
+                Frequencies::NotHopping => {}
+                Frequencies::Allocation { length, octets } => {
+                    record.hops = true;
+                    record.allocation_octets = length;
+                    record.frequencies = octets;
+                }
+                Frequencies::ShortList(list) => {
+                    record.hops = true;
+                    record.short_list = true;
+                    record.frequencies = list;
+                }
+            }
+        }
+        record
+    }
+
+    pub fn key(&self) -> u64 {
+        2 * self.reference + u64::from(self.vgcs)
+    }
+
+    /// Every reduced reference counts as ciphered.
+    fn is_ciphered(&self) -> bool {
+        !self.full || self.cipher_key_number != 0
+    }
+
+    /// The 36 bits of a full reference.
+    fn reference_36(&self) -> (u64, bool, bool, u64, u64) {
+        (self.reference, self.vgcs, self.acknowledged, self.priority, self.cipher_key_number)
+    }
+}
+
+/// The entries of an NCH message: calls, then reduced references, each with the random entry and the mark that belong to it.
+pub fn nch_entries(message: &Nch) -> Vec<Record> {
+    let mut random = message.random().iter();
+    let mut marks = message.marks().iter();
+    let mut entries: Vec<Record> = message.calls.iter().map(Record::of_call).collect();
+    for reduced in message.reduced() {
+        entries.push(Record { reference: reduced.reference, vgcs: reduced.vgcs, ..Record::default() });
+    }
+    for entry in &mut entries {
+        if entry.is_ciphered() {
+            if let Some(random) = random.next() {
+                entry.segmented = true;
+                entry.segment_id = random.segment_id;
+                entry.rand_given = random.vstk_rand.is_some();
+                entry.vstk_rand = random.vstk_rand.unwrap_or(0);
+            }
+        }
+        if entry.described {
+            entry.emergency = marks.next() == Some(&true);
+        }
+        if let Some(count) = message.release6.as_ref().and_then(|six| six.cell_global_count) {
+            entry.counted = true;
+            entry.cell_global_count = count;
+        }
+        if let Some(seven) = &message.release7 {
+            entry.uplink_given = seven.uplink_access.is_some();
+            entry.uplink_access = seven.uplink_access == Some(1);
+            if let Some(amr) = seven.amr {
+                entry.amr = true;
+                entry.fr_amr_given = amr.fr.is_some();
+                entry.fr_amr_config = amr.fr.unwrap_or(0);
+                entry.hr_amr_given = amr.hr.is_some();
+                entry.hr_amr_config = amr.hr.unwrap_or(0);
+            }
+            if let Some(sms) = seven.sms {
+                entry.sms = true;
+                entry.sms_confidentiality = sms.confidentiality;
+                entry.sms_privacy = sms.privacy;
+            }
+        }
+    }
+    entries
+}
+
+/// The one entry of a FACCH message.
+pub fn facch_entry(message: &Facch) -> Record {
+    let mut entry = Record::of_call(&message.call);
+    if let Some(six) = &message.release6 {
+        if let Some(count) = &six.count {
+            entry.counted = true;
+            entry.cell_global_count = count.cell_global_count;
+            entry.b22_count = count.b22_count;
+        }
+        entry.rand_given = six.vstk_rand.is_some();
+        entry.vstk_rand = six.vstk_rand.unwrap_or(0);
+    }
+    if let Some(seven) = &message.release7 {
+        entry.uplink_given = true;
+        entry.uplink_access = seven.uplink_access;
+        entry.emergency = seven.emergency;
+    }
+    entry
+}
+
+#[derive(Clone, Copy, Debug, PartialEq)]
+pub enum Segment {
+    First,
+    Second,
+    /// Only in octets that no setup left: the opposite of whatever half comes.
+    Opposite,
+}
+
+/// What an entry is by itself, before the store is looked at.
+enum Class {
+    Clear,
+    OnePiece,
+    Half(Segment),
+    NoChannel,
+    Unusable,
+}
+
+fn class(channel: Channel, entry: &Record) -> Class {
+    // On the FACCH there is no Segment Id to look at.
+    let says = |id: bool| channel == Channel::Facch || (entry.segmented && entry.segment_id == id);
+    if !entry.is_ciphered() && entry.described {
+        Class::Clear
+    } else if entry.is_ciphered() && entry.described && entry.rand_given && says(false) {
+        Class::OnePiece
+    } else if entry.is_ciphered() && entry.described && !entry.rand_given && says(false) {
+        Class::Half(Segment::First)
+    } else if entry.is_ciphered() && !entry.described && entry.rand_given && says(true) {
+        Class::Half(Segment::Second)
+    } else if entry.full && !entry.described {
+        Class::NoChannel
+    } else {
+        Class::Unusable
+    }
+}
+
+/// A half in its place.
+#[derive(Clone, Copy, Debug, PartialEq)]
+pub struct Half {
+    pub segment: Segment,
+    pub tick: u32,
+    pub record: Record,
+}
+
+/// Everything is the first half's but VSTK_RAND, which every second half has, and a count that the second half brings.
+fn join(first: &Record, second: &Record) -> Record {
+    let mut joined = *first;
+    joined.rand_given = true;
+    joined.vstk_rand = second.vstk_rand;
+    if second.counted {
+        joined.counted = true;
+        joined.cell_global_count = second.cell_global_count;
+        joined.b22_count = second.b22_count;
+    }
+    joined
+}
+
+/// Two full references under one key must agree in all 36 bits.
+fn agree(one: &Record, other: &Record) -> bool {
+    !one.full || !other.full || one.reference_36() == other.reference_36()
+}
+
+#[derive(Clone, Debug, PartialEq)]
+pub enum Event {
+    Nch(Vec<u8>),
+    Facch(Vec<u8>),
+    Joined(u32),
+    Reselected,
+    HandedOver,
+    Reconfigured,
+    Tick,
+}
+
+/// What one entry is told.
+#[derive(Clone, Debug, PartialEq)]
+pub struct Told {
+    pub key: u64,
+    pub number: u64,
+    pub record: Option<Record>,
+}
+
+#[derive(Clone, Debug, Default, PartialEq)]
+pub struct Answer {
+    pub expired: u64,
+    pub dropped: u64,
+    pub entries: Vec<Told>,
+}
+
+/// The place of a half: which subscription (by its place in the setup's keys), and which channel.
+pub type Place = (usize, Channel);
+
+#[derive(Clone, Debug, PartialEq)]
+pub struct Receiver {
+    pub tick: u32,
+    pub t3206: u32,
+    pub t3208: u32,
+    pub nln: Option<u8>,
+    pub keys: Vec<u32>,
+    pub halves: BTreeMap<Place, Half>,
+    /// Places that the last accepted event filled or freed.
+    pub touched: Vec<Place>,
+}
+
+/// An event whose message, if it has one, has been read.
+enum Read {
+    Nch(Nch),
+    Facch(Facch),
+    Joined(u32),
+    Reselected,
+    HandedOver,
+    Reconfigured,
+    Tick,
+}
+
+fn read(event: &Event) -> Result<Read, Refusal> {
+    Ok(match event {
+        Event::Nch(octets) => Read::Nch(nch::read(octets)?.0),
+        Event::Facch(octets) => Read::Facch(facch::read(octets)?.0),
+        Event::Joined(key) if *key > LAST_KEY => return Err(REFERENCE),
+        Event::Joined(key) => Read::Joined(*key),
+        Event::Reselected => Read::Reselected,
+        Event::HandedOver => Read::HandedOver,
+        Event::Reconfigured => Read::Reconfigured,
+        Event::Tick => Read::Tick,
+    })
+}
+
+impl Receiver {
+    pub fn setup(keys: &[u32], tick: u32, t3206: u32, t3208: u32) -> Result<Receiver, Refusal> {
+        let mut sorted = keys.to_vec();
+        sorted.sort_unstable();
+        let repeated = sorted.windows(2).any(|pair| pair[0] == pair[1]);
+        let timers = [t3206, t3208].iter().all(|timer| (1..=LONGEST_TIMER).contains(timer));
+        if keys.len() > MOST_KEYS || keys.iter().any(|&key| key > LAST_KEY) || repeated || !timers {
+            return Err(SETUP);
+        }
+        Ok(Receiver { tick, t3206, t3208, nln: None, keys: keys.to_vec(), halves: BTreeMap::new(), touched: Vec::new() })
+    }
+
+    /// A setup's keys are all different. In octets that no setup left a key may stand twice: its first place counts, and what is held at a
+    /// later one is under another key.
+    fn place_of(&self, key: u64) -> Option<usize> {
+        self.keys.iter().position(|&subscribed| u64::from(subscribed) == key)
+    }
+
+    fn timer(&self, channel: Channel) -> u32 {
+        match channel {
+            Channel::Nch => self.t3206,
+            Channel::Facch => self.t3208,
+        }
+    }
+
+    /// Frees the places of the halves that `leaves` names and says how many there were.
+    fn discard(&mut self, leaves: impl Fn(&Self, &Place, &Half) -> bool) -> u64 {
+        let places: Vec<Place> = self.halves.iter().filter(|(place, half)| leaves(self, place, half)).map(|(place, _)| *place).collect();
+        for place in &places {
+            self.halves.remove(place);
+        }
+        self.touched.extend(&places);
+        places.len() as u64
+    }
+
+    pub fn event(&mut self, tick: u32, event: &Event) -> Result<Answer, Refusal> {
+        if tick.wrapping_sub(self.tick) >= 1 << 31 {
+            return Err(CLOCK);
+        }
+        let event = read(event)?;
+        self.tick = tick;
+        self.touched.clear();
+        let expired = self.discard(|me, place, half| tick.wrapping_sub(half.tick) >= me.timer(place.1));
+        let dropped = match &event {
+            Read::Joined(key) => self.discard(|me, place, _| me.place_of(u64::from(*key)) != Some(place.0)),
+            Read::Reselected => self.discard(|_, place, _| place.1 == Channel::Nch),
+            Read::HandedOver | Read::Reconfigured => self.discard(|_, place, _| place.1 == Channel::Facch),
+            Read::Nch(message) => self.see_nln(message.nln),
+            Read::Facch(_) | Read::Tick => 0,
+        };
+        let mut answer = Answer { expired, dropped, entries: Vec::new() };
+        match &event {
+            Read::Nch(message) => {
+                for entry in nch_entries(message) {
+                    let told = self.tell(Channel::Nch, entry);
+                    answer.entries.push(told);
+                }
+            }
+            Read::Facch(message) => answer.entries.push(self.tell(Channel::Facch, facch_entry(message))),
+            _ => {}
+        }
+        Ok(answer)
+    }
+
+    /// The first NLN is no change, and a message without one changes nothing.
+    fn see_nln(&mut self, nln: Option<u64>) -> u64 {
+        let Some(nln) = nln else { return 0 };
+        let changed = self.nln.is_some_and(|last| u64::from(last) != nln);
+        self.nln = Some(nln as u8);
+        if changed {
+            self.discard(|_, place, _| place.1 == Channel::Nch)
+        } else {
+            0
+        }
+    }
+
+    fn tell(&mut self, channel: Channel, entry: Record) -> Told {
+        let key = entry.key();
+        let place = self.place_of(key);
+        let (number, record) = match (place, class(channel, &entry)) {
+            (None, _) => (0, None),
+            (Some(_), Class::Clear) => (1, Some(entry)),
+            (Some(_), Class::OnePiece) => (2, Some(entry)),
+            (Some(place), Class::Half(segment)) => self.meet((place, channel), segment, entry),
+            (Some(_), Class::NoChannel) => (6, None),
+            (Some(_), Class::Unusable) => (7, None),
+        };
+        Told { key, number, record }
+    }
+
+    /// A half meets what its place holds.
+    fn meet(&mut self, place: Place, segment: Segment, entry: Record) -> (u64, Option<Record>) {
+        match self.halves.get(&place).copied() {
+            None if place.1 == Channel::Facch && segment == Segment::Second => (8, None),
+            None => {
+                self.halves.insert(place, Half { segment, tick: self.tick, record: entry });
+                self.touched.push(place);
+                (4, None)
+            }
+            Some(held) if held.segment == segment => (5, None),
+            Some(held) if !agree(&held.record, &entry) => (7, None),
+            Some(held) => {
+                self.halves.remove(&place);
+                self.touched.push(place);
+                let joined = if segment == Segment::First { join(&entry, &held.record) } else { join(&held.record, &entry) };
+                (3, Some(joined))
+            }
+        }
+    }
+}

@@ -1,0 +1,785 @@
+//! Hand-written scenes: each sentence of document 01's "Setup, clock and store" and "What each notified call is told", with the outcome
+//! that it asks for. The outcome is asked of both sides.
+
+use crate::draft::{CallDraft, FacchDraft, NchDraft, SevenDraft, SixDraft};
+use crate::ffi;
+use crate::pair::{Pair, Said};
+use crate::receiver::Event;
+use crate::state::STATE_LENGTH;
+use crate::tally::Tally;
+
+/// Reference 4711 as VBS and as VGCS, another call, the last key, and one that nobody subscribed.
+const VBS: u32 = 9_422;
+const VGCS: u32 = 9_423;
+const OTHER: u32 = 24_691_357;
+const LAST: u32 = 199_999_999;
+const STRANGER: u32 = 77_777;
+const KEYS: [u32; 4] = [VBS, VGCS, OTHER, LAST];
+
+/// Parts of the header that scenes ask for.
+const CHANNEL: u32 = 6;
+const FREQUENCIES: u32 = 7;
+const VSTK_RAND: u32 = 8;
+const FULL: u32 = 9;
+const SHORT_LIST: u32 = 14;
+const SEGMENTED: u32 = 15;
+const SEGMENT_ID: u32 = 16;
+const RAND_GIVEN: u32 = 17;
+const EMERGENCY: u32 = 18;
+const COUNTED: u32 = 19;
+const B22_COUNT: u32 = 20;
+const UPLINK_GIVEN: u32 = 21;
+const UPLINK_ACCESS: u32 = 22;
+const AMR: u32 = 23;
+const FR_AMR_GIVEN: u32 = 24;
+const HR_AMR_GIVEN: u32 = 25;
+const SMS: u32 = 26;
+const SMS_CONFIDENTIALITY: u32 = 27;
+const SMS_PRIVACY: u32 = 28;
+const CELL_GLOBAL_COUNT: u32 = 32;
+const HR_AMR_CONFIG: u32 = 34;
+
+const HERE: u64 = 0x0A_4123;
+const THERE: u64 = 0x5B_8456;
+const HOPPING: u64 = 0x8B_1FFF;
+
+struct Scene<'a> {
+    tally: &'a mut Tally,
+    name: &'static str,
+    pair: Pair,
+    said: Option<Said>,
+    line: u32,
+}
+
+impl<'a> Scene<'a> {
+    /// A receiver with the four keys at tick 1,000; T3206 is 5,000 ms and T3208 4,000 ms.
+    fn new(tally: &'a mut Tally, name: &'static str) -> Scene<'a> {
+        Scene::with(tally, name, &KEYS, 1_000, 5_000, 4_000)
+    }
+
+    fn with(tally: &'a mut Tally, name: &'static str, keys: &[u32], tick: u32, t3206: u32, t3208: u32) -> Scene<'a> {
+        let mut pair = Pair::of(&[0x5A; STATE_LENGTH], 0);
+        let refusal = pair.setup(tally, keys, tick, t3206, t3208);
+        tally.same("scene: setup", || name.to_string(), &refusal, &0);
+        Scene { tally, name, pair, said: None, line: 0 }
+    }
+
+    /// From here on both sides have the state with these octets put in it, as no setup and no event leaves it.
+    fn with_octets(&mut self, octets: &[(usize, u8)]) -> &mut Self {
+        let mut state = self.pair.mirror.octets.clone();
+        for &(place, octet) in octets {
+            state[place] = octet;
+        }
+        self.pair = Pair::of(&state, 0);
+        self
+    }
+
+    fn event(&mut self, tick: u32, event: Event) -> &mut Self {
+        self.line += 1;
+        self.said = Some(self.pair.event(self.tally, tick, &event));
+        self
+    }
+
+    fn nch(&mut self, tick: u32, draft: NchDraft) -> &mut Self {
+        self.event(tick, Event::Nch(draft.octets()))
+    }
+
+    fn facch(&mut self, tick: u32, draft: FacchDraft) -> &mut Self {
+        self.event(tick, Event::Facch(draft.octets()))
+    }
+
+    /// What both sides must have said: expired, dropped, and the numbers told.
+    fn says(&mut self, expired: u64, dropped: u64, told: &[u64]) -> &mut Self {
+        let input = || format!("{}, event {}", self.name, self.line);
+        let said = self.said.as_ref().unwrap();
+        for (side, answer) in [("archive", &said.archive), ("second", &said.second)] {
+            let numbers = answer.as_ref().map(|a| (a.expired, a.dropped, a.entries.iter().map(|entry| entry.1).collect::<Vec<u64>>()));
+            let expected = (expired, dropped, told.to_vec());
+            self.tally.check(numbers == Ok(expected.clone()), || {
+                format!("  scene {}: {side} {numbers:?}, the document asks for {expected:?}", input())
+            });
+        }
+        self
+    }
+
+    fn told(&mut self, told: &[u64]) -> &mut Self {
+        self.says(0, 0, told)
+    }
+
+    fn refuses(&mut self, refusal: u32) -> &mut Self {
+        let said = self.said.as_ref().unwrap();
+        let both = (said.archive.as_ref().err().copied(), said.second.as_ref().err().copied());
+        let input = format!("{}, event {}", self.name, self.line);
+        self.tally.check(both == (Some(refusal), Some(refusal)), || {
+            format!("  scene {input}: (archive, second) refuse {both:?}, the document asks for {refusal}")
+        });
+        self
+    }
+
+    /// Parts of entries: (entry, part, value).
+    fn has(&mut self, parts: &[(u32, u32, u64)]) -> &mut Self {
+        for &(entry, part, value) in parts {
+            let both = (self.pair.value(entry, part), self.pair.mirror.read(entry, part));
+            let input = format!("{}, event {}, entry {entry}, part {part}", self.name, self.line);
+            self.tally
+                .check(both == (value, value), || format!("  scene {input}: (archive, second) {both:?}, the document asks for {value}"));
+        }
+        self
+    }
+}
+
+fn call(key: u32) -> CallDraft {
+    CallDraft::plain(key, 3)
+}
+
+fn clear(key: u32) -> CallDraft {
+    CallDraft::plain(key, 0)
+}
+
+fn nch(calls: Vec<CallDraft>, random: &[(u64, Option<u64>)]) -> NchDraft {
+    let six = (!random.is_empty()).then(|| SixDraft { count: None, reduced: Vec::new(), random: random.to_vec() });
+    NchDraft { nln: None, calls, six, seven: None }
+}
+
+fn first(key: u32) -> NchDraft {
+    nch(vec![call(key).on(HERE)], &[(0, None)])
+}
+
+fn second(key: u32, vstk_rand: u64) -> NchDraft {
+    nch(vec![call(key)], &[(1, Some(vstk_rand))])
+}
+
+fn reduced(key: u32, random: &[(u64, Option<u64>)]) -> NchDraft {
+    let six = SixDraft { count: None, reduced: vec![(u64::from(key / 2), u64::from(key % 2))], random: random.to_vec() };
+    NchDraft { six: Some(six), ..NchDraft::default() }
+}
+
+fn with_nln(nln: u64, draft: NchDraft) -> NchDraft {
+    NchDraft { nln: Some(nln), ..draft }
+}
+
+fn with_count(count: u64, mut draft: NchDraft) -> NchDraft {
+    draft.six.get_or_insert_with(SixDraft::default).count = Some(count);
+    draft
+}
+
+fn empty() -> NchDraft {
+    NchDraft::default()
+}
+
+fn facch_first(key: u32) -> FacchDraft {
+    FacchDraft::of(call(key).on(HERE))
+}
+
+fn facch_second(key: u32, vstk_rand: u64) -> FacchDraft {
+    FacchDraft::of(call(key)).rand(vstk_rand)
+}
+
+pub fn run(tally: &mut Tally) {
+    setups(tally);
+    clock(tally);
+    drops(tally);
+    nln(tally);
+    places(tally);
+    without_store(tally);
+    halves(tally);
+    references(tally);
+    joined_records(tally);
+    records(tally);
+    reading(tally);
+    strange_octets(tally);
+}
+
+fn setups(tally: &mut Tally) {
+    let fifty: Vec<u32> = (0..50).map(|i| LAST - 3 * i).collect();
+    let setups: &[(&str, Vec<u32>, u32, u32, u32)] = &[
+        ("no key at all", vec![], 5_000, 5_000, 0),
+        ("fifty keys", fifty.clone(), 5_000, 5_000, 0),
+        ("fifty-one keys", [fifty.clone(), vec![5]].concat(), 5_000, 5_000, 10),
+        ("65,541 keys", (0..65_541).collect(), 5_000, 5_000, 10),
+        ("the lowest and the highest key", vec![0, LAST], 5_000, 5_000, 0),
+        ("a key above the highest", vec![0, LAST + 1], 5_000, 5_000, 10),
+        ("the largest number as a key", vec![u32::MAX], 5_000, 5_000, 10),
+        ("both services of one reference", vec![VBS, VGCS], 5_000, 5_000, 0),
+        ("a repeat side by side", vec![VBS, VBS], 5_000, 5_000, 10),
+        ("a repeat from first to last", [fifty[..49].to_vec(), vec![fifty[0]]].concat(), 5_000, 5_000, 10),
+        ("shortest timers", vec![VBS], 1, 1, 0),
+        ("longest timers", vec![VBS], 60_000, 60_000, 0),
+        ("T3206 of 0", vec![VBS], 0, 5_000, 10),
+        ("T3208 of 0", vec![VBS], 5_000, 0, 10),
+        ("T3206 too long", vec![VBS], 60_001, 5_000, 10),
+        ("T3208 too long", vec![VBS], 5_000, 60_001, 10),
+    ];
+    for (name, keys, t3206, t3208, expected) in setups {
+        // Whatever the state held: a receiver with a half, or octets that no setup left.
+        let mut used = Pair::of(&[0x5A; STATE_LENGTH], 0);
+        used.setup(tally, &KEYS, 1_000, 5_000, 4_000);
+        used.event(tally, 1_000, &Event::Nch(first(VGCS).octets()));
+        for mut pair in [Pair::of(&[0xFF; STATE_LENGTH], 1), used] {
+            let refusal = pair.setup(tally, keys, 7, *t3206, *t3208);
+            tally.same("scene: setup (archive, document)", || name.to_string(), &refusal, expected);
+        }
+    }
+    // The state's length goes before all else of a setup and of every event, 9 included.
+    for length in [0, STATE_LENGTH - 1, STATE_LENGTH + 1] {
+        let mut state = ffi::State::new(&vec![0x5A; length], 3);
+        let refusals = [
+            state.setup(&[0, 0], 1, 0, 0),
+            state.nch(1 << 31, &[]),
+            state.facch(1 << 31, &[]),
+            state.joined(1 << 31, u32::MAX),
+            state.reselected(1 << 31),
+            state.handed_over(1 << 31),
+            state.reconfigured(1 << 31),
+            state.tick(1 << 31),
+            state.read(0, 0).0,
+        ];
+        refusals.iter().for_each(|&refusal| tally.count_refusal(refusal));
+        let untouched = state.octets().iter().all(|&octet| octet == 0x5A);
+        tally.same("scene: a state of a wrong length", || format!("{length} octets"), &(refusals, untouched), &([13; 9], true));
+    }
+}
+
+fn clock(tally: &mut Tally) {
+    let mut s = Scene::with(tally, "a half just before its timer", &KEYS, 1_000, 5_000, 5_000);
+    s.nch(1_000, first(VGCS)).told(&[4]);
+    s.nch(5_999, second(VGCS, 7)).told(&[3]);
+
+    let mut s = Scene::with(tally, "a half at its timer", &KEYS, 1_000, 5_000, 5_000);
+    s.nch(1_000, first(VGCS)).told(&[4]);
+    s.nch(6_000, second(VGCS, 7)).says(1, 0, &[4]);
+
+    let mut s = Scene::with(tally, "the tick wraps", &KEYS, 4_294_967_290, 5_000, 5_000);
+    s.event(10, Event::Tick).told(&[]);
+    s.event(4_294_967_290, Event::Tick).refuses(9);
+
+    let mut s = Scene::with(tally, "a step of 2^31, and one less", &KEYS, 100, 5_000, 5_000);
+    s.event(100 + 2_147_483_648, Event::Tick).refuses(9);
+    s.event(99, Event::Tick).refuses(9);
+    s.event(100 + 2_147_483_647, Event::Tick).told(&[]);
+    s.event(100, Event::Tick).refuses(9);
+    s.event(98, Event::Tick).told(&[]);
+
+    let mut s = Scene::with(tally, "a half over the wrap", &KEYS, u32::MAX - 99, 5_000, 4_000);
+    s.nch(u32::MAX - 99, first(VGCS)).told(&[4]);
+    s.facch(u32::MAX - 99, facch_first(VGCS)).told(&[4]);
+    s.event(3_899, Event::Tick).told(&[]);
+    s.event(3_900, Event::Tick).says(1, 0, &[]);
+    s.event(4_899, Event::Tick).told(&[]);
+    s.event(4_900, Event::Tick).says(1, 0, &[]);
+
+    let mut s = Scene::new(tally, "steps far longer than a timer");
+    s.nch(1_000, first(VGCS)).told(&[4]);
+    s.event(1_000 + (1 << 30), Event::Tick).says(1, 0, &[]);
+
+    let mut s = Scene::new(tally, "a refused event is no time, and drops nothing");
+    s.nch(1_000, first(VGCS)).told(&[4]);
+    s.event(9_000, Event::Nch(vec![0x2B; 19])).refuses(1);
+    s.event(9_000, Event::Joined(LAST + 1)).refuses(4);
+    s.event(999, Event::Joined(LAST + 1)).refuses(9);
+    s.event(999, Event::Nch(vec![0x2B; 19])).refuses(9);
+    s.event(5_999, Event::Tick).told(&[]);
+    s.event(5_998, Event::Tick).refuses(9);
+    s.nch(5_999, second(VGCS, 7)).told(&[3]);
+
+    // Each kind of event first drops what has run out.
+    let events = [
+        Event::Nch(empty().octets()),
+        Event::Facch(FacchDraft::of(clear(STRANGER)).octets()),
+        Event::Joined(VGCS),
+        Event::Reselected,
+        Event::HandedOver,
+        Event::Reconfigured,
+        Event::Tick,
+    ];
+    for event in events {
+        let mut s = Scene::new(tally, "every event drops what has run out");
+        s.nch(1_000, first(VGCS)).told(&[4]);
+        s.facch(2_000, facch_first(VGCS)).told(&[4]);
+        let entries: &[u64] = if matches!(event, Event::Facch(_)) { &[0] } else { &[] };
+        s.event(6_000, event).says(2, 0, entries);
+    }
+
+    let mut s = Scene::new(tally, "each channel has its own timer");
+    s.nch(1_000, first(VGCS)).told(&[4]);
+    s.facch(1_000, facch_first(VGCS)).told(&[4]);
+    s.event(4_999, Event::Tick).told(&[]);
+    s.event(5_000, Event::Tick).says(1, 0, &[]);
+    s.facch(5_000, facch_second(VGCS, 7)).told(&[8]);
+    s.nch(5_999, second(VGCS, 7)).told(&[3]);
+}
+
+fn drops(tally: &mut Tally) {
+    /// Halves of three keys on each channel.
+    fn six_halves<'a>(tally: &'a mut Tally, name: &'static str) -> Scene<'a> {
+        let mut s = Scene::new(tally, name);
+        for key in [VBS, VGCS, OTHER] {
+            s.nch(1_000, first(key)).told(&[4]);
+            s.facch(1_000, facch_first(key)).told(&[4]);
+        }
+        s
+    }
+    let mut s = six_halves(tally, "joined drops halves under another key, on both channels, and keeps its own");
+    s.event(1_001, Event::Joined(VGCS)).says(0, 4, &[]);
+    s.nch(1_001, second(VGCS, 7)).told(&[3]);
+    s.facch(1_001, facch_second(VGCS, 7)).told(&[3]);
+    s.facch(1_001, facch_second(VBS, 7)).told(&[8]);
+    s.nch(1_001, second(VBS, 7)).told(&[4]);
+
+    let mut s = six_halves(tally, "joined with a key that is not subscribed drops all");
+    s.event(1_001, Event::Joined(STRANGER)).says(0, 6, &[]);
+    let mut s = six_halves(tally, "joined with a subscribed key that holds nothing drops all");
+    s.event(1_001, Event::Joined(LAST)).says(0, 6, &[]);
+    s.event(1_001, Event::Joined(LAST)).says(0, 0, &[]);
+
+    let mut s = six_halves(tally, "reselected drops NCH halves");
+    s.event(1_001, Event::Reselected).says(0, 3, &[]);
+    s.facch(1_001, facch_second(VGCS, 7)).told(&[3]);
+    s.nch(1_001, second(VGCS, 7)).told(&[4]);
+
+    let mut s = six_halves(tally, "handed over drops FACCH halves");
+    s.event(1_001, Event::HandedOver).says(0, 3, &[]);
+    s.facch(1_001, facch_second(VGCS, 7)).told(&[8]);
+    s.nch(1_001, second(VGCS, 7)).told(&[3]);
+
+    let mut s = six_halves(tally, "reconfigured drops FACCH halves");
+    s.event(1_001, Event::Reconfigured).says(0, 3, &[]);
+    s.facch(1_001, facch_second(OTHER, 7)).told(&[8]);
+    s.nch(1_001, second(OTHER, 7)).told(&[3]);
+
+    let mut s = six_halves(tally, "a tick alone drops nothing");
+    s.event(1_001, Event::Tick).told(&[]);
+    s.nch(1_001, second(VGCS, 7)).told(&[3]);
+    s.facch(1_001, facch_second(VGCS, 7)).told(&[3]);
+
+    let mut s = six_halves(tally, "what ran out counts as expired, what is left as dropped");
+    s.nch(3_000, first(LAST)).told(&[4]);
+    s.event(6_000, Event::Joined(STRANGER)).says(6, 1, &[]);
+
+    let mut s = six_halves(tally, "a half that is joined counts in neither");
+    s.nch(1_001, second(VGCS, 7)).says(0, 0, &[3]);
+}
+
+fn nln(tally: &mut Tally) {
+    let mut s = Scene::new(tally, "the first NLN is no change, whatever it is");
+    s.nch(1_000, first(VGCS)).told(&[4]);
+    s.nch(1_000, with_nln(3, empty())).told(&[]);
+    s.nch(1_000, with_nln(3, empty())).told(&[]);
+    s.nch(1_000, with_nln(2, empty())).says(0, 1, &[]);
+
+    let mut s = Scene::new(tally, "NLN 0 is a known one");
+    s.nch(1_000, with_nln(0, first(VGCS))).told(&[4]);
+    s.nch(1_000, with_nln(1, empty())).says(0, 1, &[]);
+
+    let mut s = Scene::new(tally, "a message without NLN changes nothing");
+    s.nch(1_000, with_nln(1, first(VGCS))).told(&[4]);
+    s.nch(1_000, first(OTHER)).told(&[4]);
+    s.nch(1_000, with_nln(1, empty())).told(&[]);
+    s.nch(1_000, with_nln(0, empty())).says(0, 2, &[]);
+
+    let mut s = Scene::new(tally, "a change drops NCH halves and no others, before its calls");
+    s.nch(1_000, with_nln(1, first(VGCS))).told(&[4]);
+    s.facch(1_000, facch_first(VGCS)).told(&[4]);
+    s.nch(1_000, with_nln(2, second(VGCS, 7))).says(0, 1, &[4]);
+    s.facch(1_000, facch_second(VGCS, 7)).told(&[3]);
+
+    let mut s = Scene::new(tally, "a half dropped and stored again by one message counts as dropped");
+    s.nch(1_000, with_nln(1, first(VGCS))).told(&[4]);
+    s.nch(1_000, with_nln(2, first(VGCS))).says(0, 1, &[4]);
+    s.nch(1_000, second(VGCS, 7)).told(&[3]);
+
+    let mut s = Scene::new(tally, "other events leave the NLN");
+    s.nch(1_000, with_nln(1, empty())).told(&[]);
+    for event in [Event::Reselected, Event::HandedOver, Event::Reconfigured, Event::Tick, Event::Joined(LAST)] {
+        s.event(1_000, event).told(&[]);
+    }
+    s.facch(1_000, FacchDraft::of(clear(STRANGER))).told(&[0]);
+    s.nch(1_000, first(VGCS)).told(&[4]);
+    s.nch(1_000, with_nln(1, empty())).told(&[]);
+    s.nch(1_000, with_nln(2, empty())).says(0, 1, &[]);
+
+    let mut s = Scene::new(tally, "the NLN of a refused message is not seen");
+    s.nch(1_000, with_nln(1, first(VGCS))).told(&[4]);
+    s.nch(1_000, with_nln(2, nch(vec![clear(OTHER)], &[(0, None)]))).refuses(6);
+    s.nch(1_000, with_nln(1, empty())).told(&[]);
+
+    let mut s = Scene::new(tally, "a half that ran out is not dropped by the NLN too");
+    s.nch(1_000, with_nln(1, first(VGCS))).told(&[4]);
+    s.nch(6_000, with_nln(2, empty())).says(1, 0, &[]);
+}
+
+fn places(tally: &mut Tally) {
+    let keys: Vec<u32> = (0..50).map(|i| 2 * i + 1).collect();
+    let mut s = Scene::with(tally, "a place for each subscription and channel, used again", &keys, 0, 5_000, 5_000);
+    for _ in 0..2 {
+        for &key in &keys {
+            s.nch(0, first(key)).told(&[4]);
+            s.facch(0, facch_first(key)).told(&[4]);
+        }
+        for &key in keys.iter().rev() {
+            s.facch(0, facch_second(key, u64::from(key))).told(&[3]).has(&[(0, VSTK_RAND, u64::from(key))]);
+            s.nch(0, second(key, u64::from(key))).told(&[3]).has(&[(0, VSTK_RAND, u64::from(key))]);
+        }
+    }
+    for &key in &keys {
+        s.nch(0, second(key, 7)).told(&[4]);
+        s.facch(0, facch_first(key)).told(&[4]);
+    }
+    s.event(0, Event::Joined(STRANGER)).says(0, 100, &[]);
+
+    let mut s = Scene::new(tally, "the service flag is part of the key");
+    s.nch(1_000, first(VGCS)).told(&[4]);
+    s.nch(1_000, second(VBS, 7)).told(&[4]);
+    s.nch(1_000, second(VGCS, 8)).told(&[3]);
+    s.nch(1_000, first(VBS)).told(&[3]).has(&[(0, VSTK_RAND, 7)]);
+
+    let mut s = Scene::new(tally, "each channel has its own store");
+    s.nch(1_000, first(VGCS)).told(&[4]);
+    s.facch(1_000, facch_second(VGCS, 7)).told(&[8]);
+    s.facch(1_000, facch_first(VGCS)).told(&[4]);
+    s.nch(1_000, second(VGCS, 8)).told(&[3]);
+    s.facch(1_000, facch_second(VGCS, 9)).told(&[3]).has(&[(0, VSTK_RAND, 9)]);
+}
+
+fn without_store(tally: &mut Tally) {
+    let mut s = Scene::new(tally, "0 goes before every other number");
+    s.nch(1_000, first(STRANGER)).told(&[0]).has(&[(0, 3, u64::from(STRANGER)), (0, CHANNEL, 0), (0, FULL, 0)]);
+    s.nch(1_000, nch(vec![clear(STRANGER).on(HERE)], &[])).told(&[0]);
+    s.nch(1_000, second(STRANGER, 7)).told(&[0]);
+    s.nch(1_000, nch(vec![call(STRANGER).on(HERE)], &[])).told(&[0]);
+    s.nch(1_000, nch(vec![call(STRANGER)], &[])).told(&[0]);
+    s.nch(1_000, reduced(STRANGER, &[])).told(&[0]);
+    s.facch(1_000, facch_second(STRANGER, 7)).told(&[0]);
+    s.facch(1_000, facch_first(STRANGER)).told(&[0]);
+    s.event(1_000, Event::Joined(LAST)).told(&[]);
+
+    let mut s = Scene::new(tally, "1: not ciphered, described");
+    s.nch(1_000, nch(vec![clear(VGCS).on(HERE)], &[])).told(&[1]).has(&[(0, CHANNEL, HERE), (0, SEGMENTED, 0), (0, RAND_GIVEN, 0)]);
+    s.facch(1_000, FacchDraft::of(clear(VGCS).on(THERE))).told(&[1]).has(&[(0, CHANNEL, THERE), (0, UPLINK_GIVEN, 0)]);
+    s.facch(1_000, FacchDraft::of(clear(VGCS).on(THERE)).rand(5)).told(&[1]).has(&[(0, RAND_GIVEN, 1), (0, VSTK_RAND, 5)]);
+
+    let mut s = Scene::new(tally, "2: ciphered, described, VSTK_RAND; on the NCH Segment Id 0");
+    s.nch(1_000, nch(vec![call(VGCS).on(HERE)], &[(0, Some(5))])).told(&[2]).has(&[(0, VSTK_RAND, 5), (0, SEGMENTED, 1)]);
+    s.nch(1_000, nch(vec![call(VGCS).on(HERE)], &[(1, Some(5))])).told(&[7]).has(&[(0, VSTK_RAND, 0)]);
+    s.facch(1_000, facch_first(VGCS).rand(5)).told(&[2]).has(&[(0, VSTK_RAND, 5), (0, SEGMENTED, 0)]);
+
+    let mut s = Scene::new(tally, "6: a call, not described, and not a second half");
+    s.nch(1_000, nch(vec![clear(VGCS)], &[])).told(&[6]);
+    s.nch(1_000, nch(vec![call(VGCS)], &[])).told(&[6]);
+    s.nch(1_000, nch(vec![call(VGCS)], &[(0, None)])).told(&[6]);
+    s.nch(1_000, nch(vec![call(VGCS)], &[(1, None)])).told(&[6]);
+    s.nch(1_000, nch(vec![call(VGCS)], &[(0, Some(7))])).told(&[6]);
+    s.facch(1_000, FacchDraft::of(clear(VGCS))).told(&[6]);
+    s.facch(1_000, FacchDraft::of(call(VGCS))).told(&[6]);
+    s.facch(1_000, FacchDraft::of(clear(VGCS)).rand(7)).told(&[6]);
+    s.event(1_000, Event::Joined(LAST)).told(&[]);
+
+    let mut s = Scene::new(tally, "7: any other case");
+    s.nch(1_000, nch(vec![call(VGCS).on(HERE)], &[])).told(&[7]);
+    s.nch(1_000, nch(vec![call(VGCS).on(HERE)], &[(1, None)])).told(&[7]);
+    s.nch(1_000, reduced(VGCS, &[])).told(&[7]);
+    s.nch(1_000, reduced(VGCS, &[(0, None)])).told(&[7]);
+    s.nch(1_000, reduced(VGCS, &[(1, None)])).told(&[7]);
+    s.nch(1_000, reduced(VGCS, &[(0, Some(7))])).told(&[7]);
+    s.event(1_000, Event::Joined(LAST)).told(&[]);
+
+    let mut s = Scene::new(tally, "1 and 2 do not touch the store");
+    s.nch(1_000, first(VGCS)).told(&[4]);
+    s.facch(1_000, facch_first(VGCS)).told(&[4]);
+    s.nch(2_000, nch(vec![clear(VGCS).on(THERE)], &[])).told(&[1]);
+    s.nch(2_000, nch(vec![call(VGCS).on(THERE)], &[(0, Some(5))])).told(&[2]);
+    s.facch(2_000, FacchDraft::of(clear(VGCS).on(THERE))).told(&[1]);
+    s.facch(2_000, facch_first(VGCS).rand(5)).told(&[2]);
+    s.facch(4_999, facch_second(VGCS, 7)).told(&[3]).has(&[(0, CHANNEL, HERE)]);
+    s.nch(5_999, second(VGCS, 7)).told(&[3]).has(&[(0, CHANNEL, HERE)]);
+}
+
+fn halves(tally: &mut Tally) {
+    let mut s = Scene::new(tally, "NCH: first then second, second then first, and by reduced reference");
+    s.nch(1_000, first(VGCS)).told(&[4]);
+    s.nch(1_001, second(VGCS, 7)).told(&[3]).has(&[(0, CHANNEL, HERE), (0, VSTK_RAND, 7), (0, RAND_GIVEN, 1), (0, FULL, 1)]);
+    s.nch(1_002, second(VGCS, 8)).told(&[4]);
+    s.nch(1_003, first(VGCS)).told(&[3]).has(&[(0, CHANNEL, HERE), (0, VSTK_RAND, 8), (0, SEGMENTED, 1), (0, SEGMENT_ID, 0)]);
+    s.nch(1_004, reduced(VGCS, &[(1, Some(9))])).told(&[4]);
+    s.nch(1_005, first(VGCS)).told(&[3]).has(&[(0, CHANNEL, HERE), (0, VSTK_RAND, 9), (0, FULL, 1)]);
+    s.nch(1_006, first(VGCS)).told(&[4]);
+    s.nch(1_007, reduced(VGCS, &[(1, Some(10))])).told(&[3]).has(&[(0, VSTK_RAND, 10), (0, FULL, 1)]);
+    s.event(1_008, Event::Joined(LAST)).told(&[]);
+
+    let mut s = Scene::new(tally, "FACCH: a first half is stored, a second before it is 8 and is not");
+    s.facch(1_000, facch_second(VGCS, 7)).told(&[8]);
+    s.facch(1_001, facch_first(VGCS)).told(&[4]);
+    s.facch(1_002, facch_second(VGCS, 8)).told(&[3]).has(&[(0, CHANNEL, HERE), (0, VSTK_RAND, 8), (0, SEGMENTED, 0)]);
+    s.facch(1_003, facch_second(VGCS, 9)).told(&[8]);
+
+    let mut s = Scene::new(tally, "5: the same half again; store and timer stay");
+    s.nch(1_000, first(VGCS)).told(&[4]);
+    s.nch(5_000, nch(vec![CallDraft { priority: 6, ..call(VGCS).on(THERE) }], &[(0, None)])).told(&[5]);
+    s.nch(5_999, second(VGCS, 7)).told(&[3]).has(&[(0, CHANNEL, HERE)]);
+    s.nch(6_000, second(VGCS, 8)).told(&[4]);
+    s.nch(10_000, second(VGCS, 9)).told(&[5]);
+    s.nch(10_001, reduced(VGCS, &[(1, Some(10))])).told(&[5]);
+    s.event(10_999, Event::Tick).told(&[]);
+    s.event(11_000, Event::Tick).says(1, 0, &[]);
+    s.facch(11_000, facch_first(VGCS)).told(&[4]);
+    s.facch(14_000, FacchDraft::of(call(VGCS).on(THERE))).told(&[5]);
+    s.event(14_999, Event::Tick).told(&[]);
+    s.event(15_000, Event::Tick).says(1, 0, &[]);
+
+    let mut s = Scene::new(tally, "entries are taken in order, calls then reduced ones, as the earlier ones left the store");
+    let mut message = nch(vec![call(VGCS).on(HERE)], &[(0, None), (1, Some(7))]);
+    message.six.as_mut().unwrap().reduced.push((u64::from(VGCS / 2), 1));
+    s.nch(1_000, message).told(&[4, 3]).has(&[(0, 3, u64::from(VGCS)), (1, 3, u64::from(VGCS)), (1, VSTK_RAND, 7)]);
+    let mut message = nch(vec![clear(OTHER), clear(STRANGER)], &[]);
+    message.six = reduced(VBS, &[]).six;
+    s.nch(1_000, message).told(&[6, 0, 7]).has(&[(0, 3, u64::from(OTHER)), (1, 3, u64::from(STRANGER)), (2, 3, u64::from(VBS))]);
+    s.nch(1_001, nch(vec![call(VGCS).on(HERE), call(VGCS).on(THERE)], &[(0, None), (0, None)])).told(&[4, 5]);
+    s.nch(1_002, nch(vec![call(VGCS), call(VGCS)], &[(1, Some(1)), (1, Some(2))]))
+        .told(&[3, 4])
+        .has(&[(0, CHANNEL, HERE), (0, VSTK_RAND, 1)]);
+    s.nch(1_003, first(VGCS)).told(&[3]).has(&[(0, VSTK_RAND, 2)]);
+    s.nch(1_004, nch(vec![clear(VBS).on(HERE), clear(VGCS)], &[])).told(&[1, 6]);
+}
+
+fn references(tally: &mut Tally) {
+    // Each of the bits beyond the key, one at a time.
+    let others = [
+        CallDraft { acknowledged: 1, ..call(VGCS) },
+        CallDraft { priority: 0, ..call(VGCS) },
+        CallDraft { priority: 3, ..call(VGCS) },
+        CallDraft { priority: 5, ..call(VGCS) },
+        CallDraft { cipher: 2, ..call(VGCS) },
+        CallDraft { cipher: 1, ..call(VGCS) },
+        CallDraft { cipher: 7, ..call(VGCS) },
+        CallDraft { cipher: 11, ..call(VGCS) },
+    ];
+    for other in others {
+        let mut s = Scene::new(tally, "two full references must agree in all 36 bits, or the newcomer gets 7 and the store stays");
+        s.nch(1_000, first(VGCS)).told(&[4]);
+        s.nch(5_000, nch(vec![other.clone()], &[(1, Some(7))])).told(&[7]);
+        s.nch(5_999, second(VGCS, 8)).told(&[3]);
+        s.nch(6_000, second(VGCS, 9)).told(&[4]);
+        s.nch(6_001, nch(vec![other.clone().on(THERE)], &[(0, None)])).told(&[7]);
+        s.event(10_999, Event::Tick).told(&[]);
+        s.event(11_000, Event::Tick).says(1, 0, &[]);
+        s.facch(11_000, facch_first(VGCS)).told(&[4]);
+        s.facch(11_001, FacchDraft::of(other.clone()).rand(7)).told(&[7]);
+        s.facch(14_999, facch_second(VGCS, 8)).told(&[3]);
+        // Only opposite halves are held against each other, and only full references.
+        s.nch(15_000, first(VGCS)).told(&[4]);
+        s.nch(15_000, nch(vec![other.clone().on(THERE)], &[(0, None)])).told(&[5]);
+        s.nch(15_000, reduced(VGCS, &[(1, Some(7))])).told(&[3]);
+        s.nch(15_000, reduced(VGCS, &[(1, Some(8))])).told(&[4]);
+        s.nch(15_000, nch(vec![other.clone().on(THERE)], &[(0, None)])).told(&[3]).has(&[(0, CHANNEL, THERE), (0, VSTK_RAND, 8)]);
+    }
+}
+
+fn joined_records(tally: &mut Tally) {
+    let all7 = SevenDraft { marks: vec![1], uplink: Some(1), amr: Some((None, Some(9))), sms: Some((1, 0)) };
+    let none7 = SevenDraft { marks: vec![], uplink: Some(0), amr: Some((Some(5), None)), sms: Some((0, 1)) };
+    let from_first: &[(u32, u32, u64)] = &[
+        (0, EMERGENCY, 1),
+        (0, UPLINK_GIVEN, 1),
+        (0, UPLINK_ACCESS, 1),
+        (0, AMR, 1),
+        (0, FR_AMR_GIVEN, 0),
+        (0, HR_AMR_GIVEN, 1),
+        (0, HR_AMR_CONFIG, 9),
+        (0, SMS, 1),
+        (0, SMS_CONFIDENTIALITY, 1),
+        (0, SMS_PRIVACY, 0),
+        (0, SEGMENTED, 1),
+        (0, SEGMENT_ID, 0),
+    ];
+    for second_comes_first in [false, true] {
+        let mut s = Scene::new(tally, "NCH: everything from the first half, VSTK_RAND from the second");
+        let first = NchDraft { seven: Some(all7.clone()), ..first(VGCS) };
+        let second = NchDraft { seven: Some(none7.clone()), ..second(VGCS, 7) };
+        let (one, two) = if second_comes_first { (second, first) } else { (first, second) };
+        s.nch(1_000, one).told(&[4]);
+        s.nch(1_001, two).told(&[3]).has(from_first).has(&[(0, VSTK_RAND, 7), (0, COUNTED, 0), (0, CELL_GLOBAL_COUNT, 0)]);
+
+        // The count: (first's, second's, joined).
+        for (of_first, of_second, joined) in [
+            (None, None, None),
+            (Some(1), None, Some(1)),
+            (None, Some(2), Some(2)),
+            (Some(1), Some(2), Some(2)),
+            (Some(3), Some(0), Some(0)),
+        ] {
+            let mut s = Scene::new(tally, "NCH: the count from the second if there, else the first, else none");
+            let counted = |count: Option<u64>, draft| if let Some(count) = count { with_count(count, draft) } else { draft };
+            let first = counted(of_first, self::first(VGCS));
+            let second = counted(of_second, self::second(VGCS, 7));
+            let (one, two) = if second_comes_first { (second, first) } else { (first, second) };
+            s.nch(1_000, one).told(&[4]);
+            s.nch(1_001, two).told(&[3]);
+            s.has(&[(0, COUNTED, u64::from(joined.is_some())), (0, CELL_GLOBAL_COUNT, joined.unwrap_or(0)), (0, B22_COUNT, 0)]);
+        }
+    }
+    for (of_first, of_second, joined) in [
+        (None, None, None),
+        (Some((1, 1)), None, Some((1, 1))),
+        (None, Some((2, 1)), Some((2, 1))),
+        (Some((1, 1)), Some((2, 0)), Some((2, 0))),
+        (Some((1, 0)), Some((0, 1)), Some((0, 1))),
+    ] {
+        let mut s = Scene::new(tally, "FACCH: the count with its B22");
+        let counted =
+            |count: Option<(u64, u64)>, draft: FacchDraft| if let Some((count, b22)) = count { draft.count(count, b22) } else { draft };
+        let mut first = counted(of_first, facch_first(VGCS));
+        let mut second = counted(of_second, facch_second(VGCS, 7));
+        first.seven = Some((1, 1, None));
+        second.seven = Some((0, 0, Some(1)));
+        s.facch(1_000, first).told(&[4]);
+        s.facch(1_001, second).told(&[3]).has(&[(0, EMERGENCY, 1), (0, UPLINK_GIVEN, 1), (0, UPLINK_ACCESS, 1), (0, VSTK_RAND, 7)]);
+        let (count, b22) = joined.unwrap_or((0, 0));
+        s.has(&[(0, COUNTED, u64::from(joined.is_some())), (0, CELL_GLOBAL_COUNT, count), (0, B22_COUNT, b22)]);
+    }
+    let mut s = Scene::new(tally, "uplink of the second half alone is not taken over");
+    let mut second = facch_second(VGCS, 7);
+    second.seven = Some((1, 1, None));
+    s.facch(1_000, facch_first(VGCS)).told(&[4]);
+    s.facch(1_001, second).told(&[3]).has(&[(0, EMERGENCY, 0), (0, UPLINK_GIVEN, 0), (0, UPLINK_ACCESS, 0)]);
+}
+
+fn records(tally: &mut Tally) {
+    let mut s = Scene::new(tally, "marks belong to described calls, random entries to ciphered ones");
+    let mut message = nch(vec![call(VGCS).on(HERE), clear(OTHER).on(THERE)], &[(0, None)]);
+    message.seven = Some(SevenDraft { marks: vec![0, 1], ..SevenDraft::default() });
+    s.nch(1_000, message).told(&[4, 1]).has(&[(1, EMERGENCY, 1), (1, SEGMENTED, 0), (1, CHANNEL, THERE)]);
+    let mut message = nch(vec![clear(VBS), clear(OTHER).on(THERE)], &[]);
+    message.seven = Some(SevenDraft { marks: vec![1], ..SevenDraft::default() });
+    s.nch(1_001, message).told(&[6, 1]).has(&[(1, EMERGENCY, 1)]);
+    let mut message = nch(vec![clear(OTHER).on(HERE), clear(VBS).on(THERE)], &[]);
+    message.seven = Some(SevenDraft { marks: vec![1], ..SevenDraft::default() });
+    s.nch(1_002, message).told(&[1, 1]).has(&[(0, EMERGENCY, 1), (1, EMERGENCY, 0)]);
+    s.nch(1_003, nch(vec![clear(VBS), call(OTHER).on(HERE)], &[(0, Some(7))])).told(&[6, 2]).has(&[(1, VSTK_RAND, 7)]);
+
+    let mut s = Scene::new(tally, "a record holds the message's count, uplink, AMR and SMS parts");
+    let mut message = with_count(3, nch(vec![clear(OTHER).on(HERE)], &[]));
+    message.seven = Some(SevenDraft { marks: vec![], uplink: Some(1), amr: Some((Some(0), Some(15))), sms: Some((1, 1)) });
+    s.nch(1_000, message).told(&[1]).has(&[
+        (0, COUNTED, 1),
+        (0, CELL_GLOBAL_COUNT, 3),
+        (0, B22_COUNT, 0),
+        (0, UPLINK_GIVEN, 1),
+        (0, UPLINK_ACCESS, 1),
+        (0, AMR, 1),
+        (0, FR_AMR_GIVEN, 1),
+        (0, HR_AMR_GIVEN, 1),
+        (0, HR_AMR_CONFIG, 15),
+        (0, SMS, 1),
+        (0, SMS_CONFIDENTIALITY, 1),
+        (0, SMS_PRIVACY, 1),
+    ]);
+    let mut message = FacchDraft::of(clear(OTHER).on(HOPPING)).count(2, 1);
+    message.seven = Some((0, 1, Some(0)));
+    s.facch(1_001, message).told(&[1]).has(&[
+        (0, COUNTED, 1),
+        (0, CELL_GLOBAL_COUNT, 2),
+        (0, B22_COUNT, 1),
+        (0, UPLINK_GIVEN, 1),
+        (0, UPLINK_ACCESS, 0),
+        (0, EMERGENCY, 1),
+        (0, AMR, 0),
+        (0, SMS, 0),
+        (0, SHORT_LIST, 1),
+        (0, FREQUENCIES, 0x0123_4567_89AB_CDEF),
+    ]);
+}
+
+fn reading(tally: &mut Tally) {
+    let mut s = Scene::new(tally, "what is not there reads as 0, and an answer stays until the next accepted event");
+    s.nch(1_000, nch(vec![clear(VGCS).on(HERE), clear(STRANGER)], &[])).told(&[1, 0]);
+    s.has(&[(0, 2, 2), (9, 2, 2), (u32::MAX, 2, 2), (2, 3, 0), (9, 4, 0), (u32::MAX, 3, 0), (0, 35, 0), (0, u32::MAX, 0), (1, CHANNEL, 0)]);
+    s.event(1_000, Event::Nch(vec![0x2B; 19])).refuses(1).has(&[(0, 2, 2), (0, CHANNEL, HERE)]);
+    s.event(1_001, Event::Tick).told(&[]).has(&[(0, 2, 0), (0, 3, 0), (0, 4, 0), (0, CHANNEL, 0)]);
+}
+
+/// docs/STATE.md on octets that no setup left: each row of its table that reads more than one number alike.
+fn strange_octets(tally: &mut Tally) {
+    // VGCS is the second of the keys: its place on the NCH is 2. Kinds stand from 216, records from 720.
+    const KIND: usize = 216 + 2;
+    const RECORD: usize = 720 + 56 * 2;
+    for kind in [3, 127, 128, 255] {
+        let mut s = Scene::new(tally, "a kind above 2 is the opposite of whatever half comes");
+        s.nch(1_000, second(VGCS, 7)).told(&[4]).with_octets(&[(KIND, kind)]);
+        s.nch(1_001, first(VGCS)).told(&[3]).has(&[(0, CHANNEL, HERE), (0, VSTK_RAND, 7)]);
+        s.nch(1_002, first(VGCS)).told(&[4]).with_octets(&[(KIND, kind)]);
+        s.nch(1_003, second(VGCS, 8)).told(&[3]).has(&[(0, CHANNEL, HERE), (0, VSTK_RAND, 8)]);
+        s.nch(1_004, first(VGCS)).told(&[4]).with_octets(&[(KIND, kind)]);
+        s.nch(1_005, nch(vec![call(VGCS).on(THERE)], &[(0, None)])).told(&[3]).has(&[(0, CHANNEL, THERE)]);
+        s.nch(1_006, second(VGCS, 9)).told(&[4]).with_octets(&[(KIND, kind)]);
+        s.nch(1_007, nch(vec![CallDraft { priority: 6, ..call(VGCS) }], &[(1, Some(7))])).told(&[7]);
+        s.event(6_006, Event::Tick).says(1, 0, &[]);
+        s.nch(6_007, second(VGCS, 9)).told(&[4]).with_octets(&[(KIND, kind)]);
+        s.event(6_008, Event::Reselected).says(0, 1, &[]);
+        s.facch(6_009, facch_first(VGCS)).told(&[4]).with_octets(&[(KIND + 1, kind)]);
+        s.facch(6_010, facch_first(VGCS)).told(&[3]);
+    }
+    let mut s = Scene::new(tally, "a second half held on the FACCH, as no event leaves it");
+    s.facch(1_000, facch_first(VGCS)).told(&[4]).with_octets(&[(KIND + 1, 2)]);
+    s.facch(1_001, facch_second(VGCS, 9)).told(&[5]);
+    s.facch(1_002, FacchDraft::of(call(VGCS).on(THERE))).told(&[3]).has(&[(0, CHANNEL, THERE)]);
+
+    let mut s = Scene::new(tally, "kind 0 is an empty place, whatever stands there");
+    s.nch(1_000, first(VGCS)).told(&[4]).with_octets(&[(KIND, 0)]);
+    s.event(1_001, Event::Reselected).told(&[]);
+    s.nch(1_002, second(VGCS, 7)).told(&[4]);
+
+    for flag in [2, 128, 255] {
+        let mut s = Scene::new(tally, "a flag is yes unless it is 0");
+        s.nch(1_000, first(VGCS)).told(&[4]);
+        // Full reference, VGCS, described; emergency; a count of 2 with B22.
+        let flags = [24, 25, 27, 33, 34, 35].map(|place| (RECORD + place, flag));
+        s.with_octets(&flags).with_octets(&[(RECORD + 47, 2)]);
+        s.nch(1_001, second(VGCS, 7)).told(&[3]);
+        s.has(&[(0, FULL, 1), (0, 10, 1), (0, 12, 1), (0, EMERGENCY, 1), (0, COUNTED, 1), (0, B22_COUNT, 1), (0, CELL_GLOBAL_COUNT, 2)]);
+        s.with_octets(&[(6_336 + 16 + 24, flag), (6_336 + 16 + 33, 0)]).has(&[(0, FULL, 1), (0, EMERGENCY, 0)]);
+    }
+
+    for (octet, nln, dropped) in [(4, 3, 0), (5, 3, 1), (255, 0, 1), (3, 3, 0)] {
+        let mut s = Scene::new(tally, "NLN 4 is none; a number above 4 is one that no message has");
+        s.nch(1_000, first(VGCS)).told(&[4]).with_octets(&[(12, octet)]);
+        s.nch(1_001, with_nln(nln, empty())).says(0, dropped, &[]);
+    }
+
+    let mut s = Scene::new(tally, "a key that stands twice counts at its first place");
+    let key = VGCS.to_le_bytes();
+    let octets: Vec<(usize, u8)> = (0..4).map(|i| (16 + 4 * 3 + i, key[i])).collect();
+    s.nch(1_000, first(LAST)).told(&[4]).with_octets(&octets);
+    s.nch(1_001, second(VGCS, 7)).told(&[4]);
+    s.nch(1_002, first(LAST)).told(&[0]);
+    // What is held at the later place is under another key.
+    s.event(1_003, Event::Joined(VGCS)).says(0, 1, &[]);
+    s.nch(1_004, first(VGCS)).told(&[3]);
+
+    let mut s = Scene::new(tally, "any count is read as it stands, of nine entries at most; a record only where 1 to 3 was told");
+    s.nch(1_000, nch(vec![clear(VGCS).on(HERE)], &[])).told(&[1]);
+    for count in [9, 10, 256, u32::MAX] {
+        let octets: Vec<(usize, u8)> = (0..4).map(|i| (6_328 + i, count.to_le_bytes()[i])).collect();
+        s.with_octets(&octets).with_octets(&[(6_336 + 72 * 8, 5), (6_336 + 72 * 8 + 8, 200)]);
+        s.has(&[(0, 2, u64::from(count)), (0, CHANNEL, HERE), (8, 3, 5), (8, 4, 200), (9, 3, 0), (9, 4, 0)]);
+    }
+    for told in [0, 4, 8, 9, 255] {
+        s.with_octets(&[(6_336 + 8, told)]).has(&[(0, 4, u64::from(told)), (0, CHANNEL, 0), (0, FULL, 0)]);
+    }
+
+    let mut s = Scene::new(tally, "times of any number are times");
+    s.nch(1_000, first(VGCS)).told(&[4]).with_octets(&[(4, 255), (5, 255), (6, 255), (7, 255)]);
+    s.event(1_000 + (1 << 31) - 1, Event::Tick).told(&[]);
+    s.event(998, Event::Tick).told(&[]);
+    s.event(999, Event::Tick).says(1, 0, &[]);
+    s.nch(1_000, first(VGCS)).told(&[4]).with_octets(&[(4, 0), (5, 0), (6, 0), (7, 0)]);
+    s.event(1_000, Event::Tick).says(1, 0, &[]);
+
+    let mut s = Scene::new(tally, "unused octets are not looked at and stay");
+    let unused = (13..16).chain(316..320).chain(6_332..6_336).chain(6_345..6_352);
+    let octets: Vec<(usize, u8)> = unused.map(|place| (place, 0xEE)).collect();
+    s.with_octets(&octets);
+    s.nch(1_000, first(VGCS)).told(&[4]);
+    s.nch(1_001, second(VGCS, 7)).told(&[3]);
+    let stay = octets.iter().all(|&(place, octet)| s.pair.mirror.octets[place] == octet);
+    s.tally.check(stay, || "  scene: the second program wrote an unused octet".to_string());
+}

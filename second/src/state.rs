@@ -1,0 +1,275 @@
+//! The lent state as docs/STATE.md lays it out: decoding any octets, and what each call leaves in them.
+
+use crate::bits::*;
+use crate::receiver::*;
+use std::collections::BTreeMap;
+
+pub const STATE_LENGTH: usize = 6984;
+const NLN: usize = 12;
+const KEYS: usize = 16;
+const KINDS: usize = 216;
+const TICKS: usize = 320;
+const RECORDS: usize = 720;
+const EXPIRED: usize = 6320;
+const DROPPED: usize = 6324;
+const COUNT: usize = 6328;
+const ENTRIES: usize = 6336;
+
+pub const MOST_ENTRIES: u64 = 9;
+const ENTRY_OCTETS: usize = 72;
+const RECORD_OCTETS: usize = 56;
+const UNUSED_KEY: u32 = u32::MAX;
+const NO_NLN: u8 = 4;
+
+/// The header's parts of a record run from 5 on, in the order in which the octets of a record stand.
+pub const FIRST_RECORD_PART: usize = 5;
+pub const RECORD_NUMBERS: usize = 30;
+/// Four wide numbers, then twenty flags, then six small numbers.
+fn width(number: usize) -> usize {
+    match number {
+        0 | 1 => 4,
+        2 | 3 => 8,
+        _ => 1,
+    }
+}
+
+fn is_flag(number: usize) -> bool {
+    (4..24).contains(&number)
+}
+
+fn get(octets: &[u8], at: usize, width: usize) -> u64 {
+    octets[at..at + width].iter().rev().fold(0, |number, &octet| number << 8 | u64::from(octet))
+}
+
+fn get_u32(octets: &[u8], at: usize) -> u32 {
+    get(octets, at, 4) as u32
+}
+
+fn put(octets: &mut [u8], at: usize, width: usize, number: u64) {
+    octets[at..at + width].copy_from_slice(&number.to_le_bytes()[..width]);
+}
+
+/// A record's numbers in the header's order of parts.
+pub fn numbers_of(r: &Record) -> [u64; RECORD_NUMBERS] {
+    let flags = [
+        r.full,
+        r.vgcs,
+        r.acknowledged,
+        r.described,
+        r.hops,
+        r.short_list,
+        r.segmented,
+        r.segment_id,
+        r.rand_given,
+        r.emergency,
+        r.counted,
+        r.b22_count,
+        r.uplink_given,
+        r.uplink_access,
+        r.amr,
+        r.fr_amr_given,
+        r.hr_amr_given,
+        r.sms,
+        r.sms_confidentiality,
+        r.sms_privacy,
+    ];
+    let mut numbers = [0; RECORD_NUMBERS];
+    numbers[..4].copy_from_slice(&[r.reference, r.channel, r.frequencies, r.vstk_rand]);
+    for (number, flag) in numbers[4..24].iter_mut().zip(flags) {
+        *number = u64::from(flag);
+    }
+    numbers[24..].copy_from_slice(&[
+        r.priority,
+        r.cipher_key_number,
+        r.allocation_octets,
+        r.cell_global_count,
+        r.fr_amr_config,
+        r.hr_amr_config,
+    ]);
+    numbers
+}
+
+fn record_of(n: &[u64; RECORD_NUMBERS]) -> Record {
+    Record {
+        reference: n[0],
+        channel: n[1],
+        frequencies: n[2],
+        vstk_rand: n[3],
+        full: n[4] != 0,
+        vgcs: n[5] != 0,
+        acknowledged: n[6] != 0,
+        described: n[7] != 0,
+        hops: n[8] != 0,
+        short_list: n[9] != 0,
+        segmented: n[10] != 0,
+        segment_id: n[11] != 0,
+        rand_given: n[12] != 0,
+        emergency: n[13] != 0,
+        counted: n[14] != 0,
+        b22_count: n[15] != 0,
+        uplink_given: n[16] != 0,
+        uplink_access: n[17] != 0,
+        amr: n[18] != 0,
+        fr_amr_given: n[19] != 0,
+        hr_amr_given: n[20] != 0,
+        sms: n[21] != 0,
+        sms_confidentiality: n[22] != 0,
+        sms_privacy: n[23] != 0,
+        priority: n[24],
+        cipher_key_number: n[25],
+        allocation_octets: n[26],
+        cell_global_count: n[27],
+        fr_amr_config: n[28],
+        hr_amr_config: n[29],
+    }
+}
+
+fn get_number(octets: &[u8], at: usize, number: usize) -> u64 {
+    let start = at + (0..number).map(width).sum::<usize>();
+    let value = get(octets, start, width(number));
+    if is_flag(number) {
+        u64::from(value != 0)
+    } else {
+        value
+    }
+}
+
+fn get_record(octets: &[u8], at: usize) -> Record {
+    let mut numbers = [0; RECORD_NUMBERS];
+    for (number, value) in numbers.iter_mut().enumerate() {
+        *value = get_number(octets, at, number);
+    }
+    record_of(&numbers)
+}
+
+/// All 56 octets, the unused ones at the end as zeros.
+fn put_record(octets: &mut [u8], at: usize, record: &Record) {
+    octets[at..at + RECORD_OCTETS].fill(0);
+    let mut place = at;
+    for (number, value) in numbers_of(record).into_iter().enumerate() {
+        put(octets, place, width(number), value);
+        place += width(number);
+    }
+}
+
+fn place_number(place: Place) -> usize {
+    2 * place.0 + usize::from(place.1 == Channel::Facch)
+}
+
+/// Decoding is total: any octets are a receiver.
+pub fn decode(octets: &[u8]) -> Receiver {
+    let mut halves = BTreeMap::new();
+    for subscription in 0..MOST_KEYS {
+        for channel in [Channel::Nch, Channel::Facch] {
+            let place = place_number((subscription, channel));
+            let segment = match octets[KINDS + place] {
+                0 => continue,
+                1 => Segment::First,
+                2 => Segment::Second,
+                _ => Segment::Opposite,
+            };
+            let tick = get_u32(octets, TICKS + 4 * place);
+            let record = get_record(octets, RECORDS + RECORD_OCTETS * place);
+            halves.insert((subscription, channel), Half { segment, tick, record });
+        }
+    }
+    Receiver {
+        tick: get_u32(octets, 0),
+        t3206: get_u32(octets, 4),
+        t3208: get_u32(octets, 8),
+        nln: Some(octets[NLN]).filter(|&nln| nln != NO_NLN),
+        keys: (0..MOST_KEYS).map(|i| get_u32(octets, KEYS + 4 * i)).collect(),
+        halves,
+        touched: Vec::new(),
+    }
+}
+
+/// The second program's receiver together with the octets that the archive must leave in the lent state.
+pub struct Mirror {
+    pub octets: Vec<u8>,
+    pub receiver: Receiver,
+}
+
+impl Mirror {
+    pub fn of(octets: &[u8]) -> Mirror {
+        Mirror { octets: octets.to_vec(), receiver: decode(octets) }
+    }
+
+    /// An accepted setup writes every octet; a refused one none.
+    pub fn setup(&mut self, keys: &[u32], tick: u32, t3206: u32, t3208: u32) -> Result<(), Refusal> {
+        self.receiver = Receiver::setup(keys, tick, t3206, t3208)?;
+        self.octets.fill(0);
+        put(&mut self.octets, 0, 4, u64::from(tick));
+        put(&mut self.octets, 4, 4, u64::from(t3206));
+        put(&mut self.octets, 8, 4, u64::from(t3208));
+        self.octets[NLN] = NO_NLN;
+        for i in 0..MOST_KEYS {
+            let key = keys.get(i).copied().unwrap_or(UNUSED_KEY);
+            put(&mut self.octets, KEYS + 4 * i, 4, u64::from(key));
+        }
+        Ok(())
+    }
+
+    /// An accepted event writes its tick, the NLN where the message has one, the places it filled or freed, and the answer.
+    pub fn event(&mut self, tick: u32, event: &Event) -> Result<Answer, Refusal> {
+        let nln = self.receiver.nln;
+        let answer = self.receiver.event(tick, event)?;
+        let octets = &mut self.octets;
+        put(octets, 0, 4, u64::from(tick));
+        if self.receiver.nln != nln {
+            octets[NLN] = self.receiver.nln.unwrap_or(NO_NLN);
+        }
+        for &place in &self.receiver.touched {
+            let number = place_number(place);
+            let half = self.receiver.halves.get(&place);
+            octets[KINDS + number] = match half {
+                None => 0,
+                Some(half) if half.segment == Segment::First => 1,
+                Some(_) => 2,
+            };
+            put(octets, TICKS + 4 * number, 4, half.map_or(0, |half| u64::from(half.tick)));
+            // An empty place is all zero, and so is an empty record.
+            let record = half.map_or(Record::default(), |half| half.record);
+            put_record(octets, RECORDS + RECORD_OCTETS * number, &record);
+        }
+        put(octets, EXPIRED, 4, answer.expired);
+        put(octets, DROPPED, 4, answer.dropped);
+        put(octets, COUNT, 4, answer.entries.len() as u64);
+        for (i, told) in answer.entries.iter().enumerate() {
+            let at = ENTRIES + ENTRY_OCTETS * i;
+            put(octets, at, 8, told.key);
+            put(octets, at + 8, 1, told.number);
+            if let Some(record) = &told.record {
+                put_record(octets, at + 16, record);
+            }
+        }
+        Ok(answer)
+    }
+
+    /// One number of the answer; what is not there is 0.
+    pub fn read(&self, entry: u32, part: u32) -> u64 {
+        read(&self.octets, entry, part)
+    }
+}
+
+pub fn read(octets: &[u8], entry: u32, part: u32) -> u64 {
+    let count = get(octets, COUNT, 4);
+    match part {
+        0 => return get(octets, EXPIRED, 4),
+        1 => return get(octets, DROPPED, 4),
+        2 => return count,
+        _ => {}
+    }
+    if u64::from(entry) >= count.min(MOST_ENTRIES) {
+        return 0;
+    }
+    let at = ENTRIES + ENTRY_OCTETS * entry as usize;
+    let told = u64::from(octets[at + 8]);
+    let part = part as usize;
+    match part {
+        3 => get(octets, at, 8),
+        4 => told,
+        FIRST_RECORD_PART..=34 if (1..=3).contains(&told) => get_number(octets, at + 16, part - FIRST_RECORD_PART),
+        _ => 0,
+    }
+}

@@ -1,0 +1,340 @@
+//! Event sequences at random: few keys, so that halves meet; ticks near expiry and around the wrap; states that no setup left.
+
+use crate::draft::{CallDraft, FacchDraft, NchDraft, Pool, SevenDraft, SixDraft};
+use crate::ffi;
+use crate::pair::{event_line, feed, Pair};
+use crate::receiver::*;
+use crate::rng::Rng;
+use crate::state::STATE_LENGTH;
+use crate::tally::{hex, Tally};
+
+const STEPS_OF_A_SEQUENCE: u64 = 40;
+
+/// About `count` event steps.
+pub fn run(tally: &mut Tally, rng: &mut Rng, count: u64) {
+    let mut done = 0;
+    while done < count {
+        done += match rng.below(10) {
+            0..=6 => from_setup(tally, rng),
+            7..=8 => from_any_octets(tally, rng),
+            _ => wrong_lengths(tally, rng),
+        };
+    }
+}
+
+/// A few references of which both services turn up; one at the upper end, where the key is the last.
+fn small_pool(rng: &mut Rng) -> Pool {
+    let count = 1 + rng.below(3);
+    let mut references: Vec<u64> = (0..count).map(|_| rng.below(100_000_000)).collect();
+    if rng.one_in(4) {
+        references.push(rng.pick(&[0, 99_999_999]));
+    }
+    Pool { references }
+}
+
+/// Keys of the pool, in any order; sometimes filled up to as many as there may be.
+fn keys(rng: &mut Rng, pool: &Pool) -> Vec<u32> {
+    let mut keys: Vec<u32> = Vec::new();
+    for reference in &pool.references {
+        for service in 0..2 {
+            let key = 2 * *reference as u32 + service;
+            if !rng.one_in(6) && !keys.contains(&key) {
+                keys.insert(rng.below(keys.len() as u64 + 1) as usize, key);
+            }
+        }
+    }
+    if rng.one_in(8) {
+        let most = 40 + rng.below(11) as usize;
+        while keys.len() < most {
+            let key = rng.below(200_000_000) as u32;
+            if !keys.contains(&key) {
+                keys.insert(rng.below(keys.len() as u64 + 1) as usize, key);
+            }
+        }
+    }
+    keys
+}
+
+const TIMERS: [u32; 9] = [1, 2, 3, 10, 100, 5_000, 5_000, 59_999, 60_000];
+
+fn first_tick(rng: &mut Rng) -> u32 {
+    match rng.below(4) {
+        0 => u32::MAX - rng.below(200) as u32,
+        1 => (1 << 31) - rng.below(200) as u32,
+        2 => rng.below(1000) as u32,
+        _ => rng.next() as u32,
+    }
+}
+
+/// A setup that must be refused, or may be.
+fn doubtful_setup(tally: &mut Tally, rng: &mut Rng, pair: &mut Pair, good: &[u32]) {
+    let mut keys = good.to_vec();
+    let (mut t3206, mut t3208) = (5_000, 5_000);
+    match rng.below(7) {
+        0 => t3206 = rng.pick(&[0, 60_001, u32::MAX]),
+        1 => t3208 = rng.pick(&[0, 60_001, u32::MAX]),
+        2 => {
+            let key = rng.pick(&[200_000_000, 200_000_001, 199_999_999, u32::MAX, u32::MAX - 1]);
+            keys.insert(rng.below(keys.len() as u64 + 1) as usize, key);
+        }
+        3 if !keys.is_empty() => {
+            let key = rng.pick(&keys);
+            keys.insert(rng.below(keys.len() as u64 + 1) as usize, key);
+        }
+        4 => keys = (0..49 + rng.below(4) as u32).map(|i| 7 * i).collect(),
+        5 => keys = (0..rng.pick(&[51, 100, 255, 256, 257, 306])).collect(),
+        _ => {
+            t3206 = rng.pick(&[1, 60_000]);
+            t3208 = rng.pick(&[1, 60_000]);
+        }
+    }
+    let tick = rng.next() as u32;
+    pair.setup(tally, &keys, tick, t3206, t3208);
+}
+
+fn from_setup(tally: &mut Tally, rng: &mut Rng) -> u64 {
+    let pool = small_pool(rng);
+    let keys = keys(rng, &pool);
+    let garbage = rng.octets(STATE_LENGTH);
+    let mut pair = Pair::of(&garbage, rng.next() as usize);
+    for _ in 0..rng.below(3) {
+        doubtful_setup(tally, rng, &mut pair, &keys);
+    }
+    let (t3206, t3208) = (rng.pick(&TIMERS), rng.pick(&TIMERS));
+    pair.setup(tally, &keys, first_tick(rng), t3206, t3208);
+    events(tally, rng, &mut pair, &pool, STEPS_OF_A_SEQUENCE);
+    if rng.one_in(3) {
+        doubtful_setup(tally, rng, &mut pair, &keys);
+    }
+    STEPS_OF_A_SEQUENCE
+}
+
+fn events(tally: &mut Tally, rng: &mut Rng, pair: &mut Pair, pool: &Pool, count: u64) {
+    for _ in 0..count {
+        let event = event(rng, pair, pool);
+        let tick = tick(rng, &pair.mirror.receiver);
+        pair.event(tally, tick, &event);
+    }
+}
+
+/// The next tick: usually soon, often at the moment when a half runs out, sometimes refused.
+fn tick(rng: &mut Rng, receiver: &Receiver) -> u32 {
+    let last = receiver.tick;
+    let halves: Vec<(&Place, &Half)> = receiver.halves.iter().collect();
+    match rng.below(40) {
+        0..=7 => last,
+        8..=19 => last.wrapping_add(1 + rng.below(3) as u32),
+        20..=29 if !halves.is_empty() => {
+            // A millisecond before, at and after the timer of a half that is held.
+            let (place, half) = halves[rng.below(halves.len() as u64) as usize];
+            let timer = if place.1 == Channel::Nch { receiver.t3206 } else { receiver.t3208 };
+            let tick = half.tick.wrapping_add(timer).wrapping_add(rng.below(3) as u32).wrapping_sub(1);
+            if tick.wrapping_sub(last) < 1 << 31 {
+                tick
+            } else {
+                last
+            }
+        }
+        30..=33 => last.wrapping_add(rng.below(u64::from(receiver.t3206.max(1))) as u32),
+        34 => last.wrapping_add(rng.pick(&[(1 << 31) - 1, (1 << 31) - 2, 1 << 30])),
+        35 => last.wrapping_add(1 << 31),
+        36 => last.wrapping_add((1 << 31) + rng.below(1 << 31) as u32),
+        37 => last.wrapping_sub(1 + rng.below(3) as u32),
+        _ => last.wrapping_add(rng.below(20) as u32),
+    }
+}
+
+fn event(rng: &mut Rng, pair: &Pair, pool: &Pool) -> Event {
+    let receiver = &pair.mirror.receiver;
+    if !receiver.halves.is_empty() && rng.one_in(4) {
+        return meeting(rng, receiver);
+    }
+    match rng.below(40) {
+        0..=17 => {
+            let mut draft = pool.nch(rng);
+            // Most messages repeat the last NLN or have none, or no NCH half would live long.
+            if !rng.one_in(12) {
+                draft.nln = rng.one_in(2).then_some(receiver.nln.map(u64::from).filter(|&nln| nln < 4)).flatten();
+            }
+            let mut octets = draft.octets();
+            octets.truncate(20);
+            Event::Nch(octets)
+        }
+        18..=31 => {
+            let mut octets = pool.facch(rng).octets();
+            octets.truncate(23);
+            Event::Facch(octets)
+        }
+        32 => {
+            let length = rng.below(26) as usize;
+            let octets = rng.octets(length);
+            if rng.one_in(2) {
+                Event::Nch(octets)
+            } else {
+                Event::Facch(octets)
+            }
+        }
+        33 => Event::Nch(rng.octets(20)),
+        34 | 35 => Event::Joined(match rng.below(8) {
+            0 => rng.pick(&[200_000_000, 200_000_001, u32::MAX, u32::MAX - 1]),
+            1 => rng.pick(&[0, 199_999_999]),
+            2 => rng.below(200_000_000) as u32,
+            _ => (2 * pool.reference(rng) + rng.below(2)) as u32,
+        }),
+        36 => Event::Reselected,
+        37 if rng.one_in(2) => Event::HandedOver,
+        37 => Event::Reconfigured,
+        _ => Event::Tick,
+    }
+}
+
+/// A message with a half that meets one that is held: mostly the opposite half, mostly with a reference that agrees.
+fn meeting(rng: &mut Rng, receiver: &Receiver) -> Event {
+    let which = rng.below(receiver.halves.len() as u64) as usize;
+    let ((subscription, channel), held) = receiver.halves.iter().nth(which).unwrap();
+    let key = receiver.keys[*subscription] % 200_000_000;
+    let mut call = CallDraft::plain(key, 3);
+    (call.acknowledged, call.priority) = (0, 5);
+    if held.record.full && held.record.cipher_key_number != 0 {
+        call.acknowledged = u64::from(held.record.acknowledged);
+        call.priority = held.record.priority % 8;
+        call.cipher = held.record.cipher_key_number % 16;
+    }
+    match rng.below(12) {
+        0 => call.acknowledged ^= 1,
+        1 => call.priority ^= 1 << rng.below(3),
+        2 => call.cipher = 1 + rng.below(15),
+        _ => {}
+    }
+    let second = (held.segment == Segment::First) != rng.one_in(4);
+    let reduced = second && rng.one_in(3) && *channel == Channel::Nch;
+    let (reference, service) = (call.reference, call.service);
+    let call = if second { call } else { call.on(rng.below(1 << 24)) };
+    let vstk_rand = second.then(|| rng.below(1 << 36));
+    let count = rng.one_in(2).then(|| rng.below(4));
+    match channel {
+        Channel::Nch => {
+            let mut six = SixDraft { count, reduced: Vec::new(), random: vec![(u64::from(second), vstk_rand)] };
+            let mut calls = Vec::new();
+            if reduced {
+                six.reduced.push((reference, service));
+            } else {
+                calls.push(call);
+            }
+            let seven = (!second || rng.one_in(4)).then(|| SevenDraft {
+                marks: if second { Vec::new() } else { vec![rng.below(2)] },
+                uplink: rng.one_in(2).then(|| rng.below(2)),
+                amr: rng.one_in(2).then(|| (rng.one_in(2).then(|| rng.below(16)), None)),
+                sms: rng.one_in(2).then(|| (rng.below(2), rng.below(2))),
+            });
+            let mut octets = NchDraft { nln: None, calls, six: Some(six), seven }.octets();
+            octets.truncate(20);
+            Event::Nch(octets)
+        }
+        Channel::Facch => {
+            let mut draft = FacchDraft::of(call);
+            draft.six = Some((count.map(|count| (count, rng.below(2))), vstk_rand));
+            draft.seven = rng.one_in(2).then(|| (rng.below(2), rng.below(2), None));
+            Event::Facch(draft.octets())
+        }
+    }
+}
+
+fn put(octets: &mut [u8], at: usize, number: u32) {
+    octets[at..at + 4].copy_from_slice(&number.to_le_bytes());
+}
+
+/// A state that no setup left: any octets, or octets with a meaning and strange numbers in them.
+fn from_any_octets(tally: &mut Tally, rng: &mut Rng) -> u64 {
+    let pool = small_pool(rng);
+    let mut octets = rng.octets(STATE_LENGTH);
+    let count = match rng.below(4) {
+        0 => 2,
+        _ => {
+            strange_state(rng, &pool, &mut octets);
+            8
+        }
+    };
+    let mut pair = Pair::of(&octets, rng.next() as usize);
+    events(tally, rng, &mut pair, &pool, count);
+    count
+}
+
+/// Keys of the pool, twice or in any place; halves of any kind with flags of any number; an answer of any length.
+fn strange_state(rng: &mut Rng, pool: &Pool, octets: &mut [u8]) {
+    let tick = first_tick(rng);
+    put(octets, 0, tick);
+    for timer in [4, 8] {
+        put(octets, timer, rng.pick(&[0, 1, 100, 5_000, 100_000, 1 << 31, u32::MAX]));
+    }
+    octets[12] = rng.pick(&[0, 1, 2, 3, 4, 4, 5, 6, 255]);
+    for place in 0..100 {
+        let subscription = place / 2;
+        let key = match rng.below(4) {
+            0 => u32::MAX,
+            1 => rng.next() as u32,
+            _ => (2 * pool.reference(rng) + rng.below(2)) as u32,
+        };
+        if place % 2 == 0 {
+            put(octets, 16 + 4 * subscription, key);
+        }
+        octets[216 + place] = rng.pick(&[0, 0, 1, 1, 2, 2, 3, 255]);
+        let age = rng.pick(&[0, 1, 50, 4_999, 1 << 31, u32::MAX]);
+        put(octets, 320 + 4 * place, tick.wrapping_sub(age));
+        let at = 720 + 56 * place;
+        let key = u32::from_le_bytes(octets[16 + 4 * subscription..][..4].try_into().unwrap());
+        put(octets, at, if rng.one_in(8) { rng.next() as u32 } else { key / 2 });
+        for flag in &mut octets[at + 24..at + 44] {
+            *flag = rng.pick(&[0, 0, 0, 1, 1, 2, 255]);
+        }
+        // Mostly the 36 bits that the pool's calls have, so that references agree.
+        if !rng.one_in(4) {
+            octets[at + 25] = if key % 2 == 1 { rng.pick(&[1, 2, 255]) } else { 0 };
+            octets[at + 26] = 0;
+            octets[at + 44] = 5;
+            octets[at + 45] = 3;
+        }
+    }
+    put(octets, 6328, rng.pick(&[0, 1, 2, 8, 9, 10, 255, 256, 1 << 31, u32::MAX]));
+    for entry in 0..9 {
+        octets[6336 + 72 * entry + 8] = rng.pick(&[0, 1, 2, 3, 3, 4, 8, 9, 255]);
+    }
+}
+
+/// A lent state of another length is 13, before all else, and stays as it was.
+fn wrong_lengths(tally: &mut Tally, rng: &mut Rng) -> u64 {
+    let length = match rng.below(4) {
+        0 => rng.below(STATE_LENGTH as u64) as usize,
+        1 => STATE_LENGTH + 1 + rng.below(200) as usize,
+        _ => rng.pick(&[0, 1, STATE_LENGTH - 1, STATE_LENGTH + 1]),
+    };
+    let octets = rng.octets(length);
+    let mut state = ffi::State::new(&octets, rng.next() as usize);
+    let pool = small_pool(rng);
+    let pair = Pair::of(&[0; STATE_LENGTH], 0);
+    let event = event(rng, &pair, &pool);
+    let tick = rng.next() as u32;
+    let refusal = feed(&mut state, tick, &event);
+    tally.count_refusal(refusal);
+    let untouched = state.octets() == octets;
+    let input = || format!("{} with a state of {length} octets {}", event_line(tick, &event), hex(&octets));
+    tally.same("event with a state of a wrong length (refusal, untouched)", input, &(refusal, untouched), &(13, true));
+
+    let mut keys = keys(rng, &pool);
+    if rng.one_in(2) {
+        keys.resize(51, 7);
+    }
+    let refusal = state.setup(&keys, tick, rng.pick(&[0, 5_000]), 5_000);
+    tally.count_refusal(refusal);
+    let untouched = state.octets() == octets;
+    let input = || format!("setup with a state of {length} octets");
+    tally.same("setup with a state of a wrong length (refusal, untouched)", input, &(refusal, untouched), &(13, true));
+
+    let (entry, part) = (rng.below(12) as u32, rng.below(40) as u32);
+    let reading = state.read(entry, part);
+    tally.count_refusal(reading.0);
+    let untouched = state.octets() == octets;
+    let input = || format!("read of entry {entry}, part {part} with a state of {length} octets");
+    tally.same("read of a state of a wrong length ((refusal, value), untouched)", input, &(reading, untouched), &((13, 0), true));
+    1
+}
