@@ -12,8 +12,6 @@ use mir.Val.{Val}
 use denote.Laws.{Is}
 use denote.Struct.Declared.{row}
 use Rattle.bits.specs.Field.{pick}
-use Rattle.call.specs.declared.Call.{Call}
-use Rattle.nch.specs.declared.Notification.{Notification}
 use Rattle.receiver.specs.declared.Record.{Record}
 use Rattle.receiver.specs.declared.Slot.{Slot}
 use Rattle.receiver.specs.declared.Met.{Met}
@@ -21,7 +19,6 @@ use Rattle.receiver.specs.declared.Told.{Told}
 use Rattle.receiver.specs.Model.{noRecord, emptySlot, keyOf, indexOf, classOf, agree, joinedOf, only, complete, storing, meetOf}
 use Rattle.receiver.proofs.Record as Declared
 use Rattle.receiver.proofs.Classes.{meet-whole, meet-none, meet-first, meet-second, meet-early, meet-stored}
-use Rattle.receiver.specs.Entries.{callWith}
 use Rattle.receiver.specs.Step.{slotsAfter, toldOf}
 use Rattle.lent.specs.Octets.{octetAt}
 use Rattle.lent.specs.Layout.{recordAt, kindPlace, recordPlace, slotNo, decodeOf, carries, putSlot, toldNo, putTold}
@@ -171,11 +168,6 @@ wide-value e vs ok =
       fullrate = omega (arith, ok);
       halfrate = omega (arith, ok);
     }
-
--- the key of a call is that of its entry
-pub call-key : (m : Notification) (random mark : ℕ) (c : Call) (key : ℕ) (e : Record) → e ≡ callWith m random mark c → key ≡ keyOf c → key ≡ keyOf (e .call)
-unfolding callWith
-call-key m random mark c key e q k = k ∙ ap (λ (r : Record). keyOf (r .call)) (sym q)
 
 -- ## Its key is ours, or not
 

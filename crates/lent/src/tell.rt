@@ -1,13 +1,14 @@
 // The entries of a message: each meets its place, and its answer is written.
 ghost use mathlib.Core.Path.{_≡_};
 ghost use mathlib.Core.List.{[], _∷_};
+ghost use mathlib.Core.Bool.{true, false};
+ghost use mathlib.Core.Option.{none, some};
 ghost use Prim.Native.Nat.{_+_, _*_, _<_, _≤_};
 ghost use lib.ListN.{length};
+ghost use Rattle.bits.specs.Field.{pick};
 ghost use Rattle.call.specs.Call.{ciphered};
-ghost use Rattle.nch.specs.Octets.{count};
-ghost use Rattle.nch.specs.Write.{callsOf};
-ghost use Rattle.receiver.specs.Model.{keyOf, mapAt, meetOf};
-ghost use Rattle.receiver.specs.Entries.{callWith, reducedWith, callEntry, nchEntries, facchEntry};
+ghost use Rattle.receiver.specs.Model.{keyOf, meetOf};
+ghost use Rattle.receiver.specs.Entries.{ownedOf, reducedCall, nchEntries, facchEntry};
 ghost use Rattle.lent.specs.Layout.{slotNo};
 ghost use Rattle.lent.specs.Events.{metHalf, metOctets, Telling, AllTold};
 use crate::answer::put_number;
@@ -17,10 +18,13 @@ use crate::places::index_of;
 use crate::places::store;
 use crate::records::record_at;
 use call::Call;
+use nch::Random;
 use nch::Reduced;
+use receiver::Common;
 use receiver::Record;
 use receiver::meeting;
 use receiver::messages;
+use receiver::messages::Owned;
 
 // A half, the first (1) or the second (2), that comes where another is held: the same one again, or the opposite one, with which it joins if their references agree.
 fn met_half(b: &mut [u8], ch: usize, j: usize, i: usize, half: u8, e: Record)
@@ -78,18 +82,36 @@ fn ours(b: &mut [u8], ch: usize, tick: u32, j: usize, i: usize, e: Record)
     put_number(b, j, key, 4);
 }
 
-// The j-th entry of an NCH message, a call. Its record is made only where its key is ours.
-fn tell_call(
+// A record of its parts.
+fn made(full: bool, c: Call, o: Owned, emergency: bool, common: Common) -> Record
+    ensures { λ r. ⌜ r ≡ record { full = full; call = c; segmented = o .there; segment = o .segment; given = o .given; rand = o .rand; emergency = emergency; common = common } ⌝ }
+{
+    Record {
+        full,
+        call: c,
+        segmented: o.there,
+        segment: o.segment,
+        given: o.given,
+        rand: o.rand,
+        emergency,
+        common,
+    }
+}
+
+// The j-th entry of a message: told 0 where its key is not ours; its record is made only where it is.
+fn tell_entry(
     b: &mut [u8],
+    ch: usize,
     tick: u32,
     j: usize,
-    m: nch::Notification,
+    full: bool,
     c: Call,
-    random: usize,
-    mark: usize,
+    o: Owned,
+    emergency: bool,
+    common: Common,
 )
-    requires { ⌜ (length (now b) ≡ 6984) × (j < 9) ⌝ }
-    ensures { λ _. ⌜ Telling (now (b .entry)) 0 tick j (callWith m random mark c) (now (b .exit)) ⌝ }
+    requires { ⌜ (length (now b) ≡ 6984) × ((ch < 2) × (j < 9)) ⌝ }
+    ensures { λ _. ⌜ Telling (now (b .entry)) ch tick j (record { full = full; call = c; segmented = o .there; segment = o .segment; given = o .given; rand = o .rand; emergency = emergency; common = common }) (now (b .exit)) ⌝ }
 {
     let key = meeting::key_of(c);
     let i = index_of(b, key);
@@ -97,30 +119,7 @@ fn tell_call(
         put_number(b, j, key, 0);
         return;
     }
-    ours(b, 0, tick, j, i, messages::call_entry(m, c, random, mark));
-}
-
-// An entry with its record: told 0 where its key is not ours.
-fn tell_entry(b: &mut [u8], ch: usize, tick: u32, j: usize, e: Record)
-    requires { ⌜ (length (now b) ≡ 6984) × ((ch < 2) × (j < 9)) ⌝ }
-    ensures { λ _. ⌜ Telling (now (b .entry)) ch tick j e (now (b .exit)) ⌝ }
-{
-    let call = e.call;
-    let key = meeting::key_of(call);
-    let i = index_of(b, key);
-    if 50 <= i {
-        put_number(b, j, key, 0);
-        return;
-    }
-    ours(b, ch, tick, j, i, e);
-}
-
-// The j-th entry of an NCH message, a reduced reference.
-fn tell_reduced(b: &mut [u8], tick: u32, j: usize, m: nch::Notification, r: Reduced, random: usize)
-    requires { ⌜ (length (now b) ≡ 6984) × (j < 9) ⌝ }
-    ensures { λ _. ⌜ Telling (now (b .entry)) 0 tick j (reducedWith m random r) (now (b .exit)) ⌝ }
-{
-    tell_entry(b, 0, tick, j, messages::reduced_entry(m, r, random));
+    ours(b, ch, tick, j, i, made(full, c, o, emergency, common));
 }
 
 // The one entry of a FACCH message.
@@ -128,52 +127,101 @@ pub(crate) fn tell_facch(b: &mut [u8], tick: u32, m: facch::Notification)
     requires { ⌜ length (now b) ≡ 6984 ⌝ }
     ensures { λ _. ⌜ AllTold (now (b .entry)) 1 tick (facchEntry m ∷ []) (now (b .exit)) ⌝ }
 {
-    tell_entry(b, 1, tick, 0, messages::facch_entry(m));
+    let e = messages::facch_entry(m);
+    let c = e.call;
+    let common = e.common;
+    let o = Owned {
+        there: e.segmented,
+        segment: e.segment,
+        given: e.given,
+        rand: e.rand,
+    };
+    tell_entry(b, 1, tick, 0, e.full, c, o, e.emergency, common);
 }
 
-// How many calls an NCH message has, and how many of them are ciphered.
-struct Calls {
-    count: usize,
-    ciphered: usize,
-}
-
-// The calls of an NCH message: a ciphered one takes the next random entry, one with a description the next mark.
-fn tell_calls(b: &mut [u8], tick: u32, m: nch::Notification) -> Calls
-    requires { ⌜ length (now b) ≡ 6984 ⌝ }
-    ensures { λ r. ⌜ (r .count ≡ length (callsOf m)) × ((r .ciphered ≡ count ciphered (callsOf m)) × AllTold (now (b .entry)) 0 tick (mapAt (callEntry m) 0 (callsOf m)) (now (b .exit))) ⌝ }
+// What a reduced reference says of its call.
+fn reduced_call(r: Reduced) -> Call
+    ensures { λ c. ⌜ c ≡ reducedCall r ⌝ }
 {
-    let mut random: usize = 0;
-    let mut mark: usize = 0;
-    let mut i: usize = 0;
-    while i < 4 && i < m.callcount {
-        let c = m.calls[i];
-        tell_call(b, tick, i, m, c, random, mark);
-        random += (1 <= c.cipher) as usize;
-        mark += c.described as usize;
-        i += 1;
+    let mut c = call::no_call();
+    c.reference = r.reference;
+    c.vgcs = r.vgcs;
+    c
+}
+
+// A ciphered call owns a random entry, and so does each reduced reference.
+fn owns_random(full: bool, c: Call) -> bool
+    ensures { λ r. ⌜ r ≡ pick full (ciphered c) true ⌝ }
+{
+    if full {
+        return 1 <= c.cipher;
     }
-    Calls {
-        count: i,
-        ciphered: random,
+    true
+}
+
+// The next random entry, for an entry that owns one, if there is one.
+fn owned(owns: bool, there: bool, one: Random) -> Owned
+    ensures { λ r. ⌜ r ≡ ownedOf (pick owns (pick there (some one) none) none) ⌝ }
+{
+    if !owns {
+        return messages::owns_none();
+    }
+    if !there {
+        return messages::owns_none();
+    }
+    Owned {
+        there: true,
+        segment: one.segment,
+        given: one.given,
+        rand: one.rand,
     }
 }
 
-// All entries of an NCH message, calls then reduced references, and how many they are.
+// The next emergency mark, for a call that owns one, if there is one.
+fn marked(owns: bool, there: bool, mark: bool) -> bool
+    ensures { λ r. ⌜ r ≡ pick owns (pick there mark false) false ⌝ }
+{
+    if !owns {
+        return false;
+    }
+    if !there {
+        return false;
+    }
+    mark
+}
+
+// All entries of an NCH message, calls then reduced references, and how many they are. The arrays are indexed only here, since every function that indexes one copies it first.
 pub(crate) fn tell_nch(b: &mut [u8], tick: u32, m: nch::Notification) -> u32
     requires { ⌜ length (now b) ≡ 6984 ⌝ }
     ensures { λ r. ⌜ (r ≡ length (nchEntries m)) × AllTold (now (b .entry)) 0 tick (nchEntries m) (now (b .exit)) ⌝ }
 {
-    let calls = tell_calls(b, tick, m);
-    // Most messages have no reduced reference: nothing of Release 6 is copied for them.
-    if m.release6.reducedcount == 0 {
-        return calls.count as u32;
-    }
     let six = m.release6;
-    let mut j: usize = 0;
-    while j < 5 && j < six.reducedcount {
-        let r = six.reduced[j];
-        tell_reduced(b, tick, calls.count + j, m, r, calls.ciphered + j);
-        j += 1;
+    let seven = m.release7;
+    let calls = m.calls;
+    let reduced = six.reduced;
+    let randoms = six.randoms;
+    let marks = seven.marks;
+    let common = messages::nch_common(m);
+    let n = messages::least(m.callcount, 4);
+    let count = n + messages::least(m.release6.reducedcount, 5);
+    let mut random: usize = 0;
+    let mut mark: usize = 0;
+    let mut i: usize = 0;
+    while i < count {
+        let mut c = call::no_call();
+        if i < n {
+            c = calls[i];
+        } else {
+            let r = reduced[i - n];
+            c = reduced_call(r);
+        }
+        let owns = owns_random(i < n, c);
+        let o = owned(owns, random < m.release6.randomcount, randoms[random]);
+        let emergency = marked(c.described, mark < m.release7.markcount, marks[mark % 4]);
+        tell_entry(b, 0, tick, i, i < n, c, o, emergency, common);
+        random += owns as usize;
+        mark += c.described as usize;
+        i += 1;
     }
-    (calls.count + j) as u32
+    count as u32
 }

@@ -59,7 +59,7 @@ map-at-more : {A B : Type 0} (f : ℕ → A → B) (k : ℕ) (l : List A) (a : A
 map-at-more f k [] a = ap (λ j. f j a ∷ []) (omega arith)
 map-at-more f k (x ∷ l) a = ap (λ r. f k x ∷ r) (map-at-more f (suc k) l a ∙ ap (λ j. mapAt f (suc k) l ++ (f j a ∷ [])) (omega arith))
 
-pub length-map-at : {A B : Type 0} (f : ℕ → A → B) (k : ℕ) (l : List A) → length (mapAt f k l) ≡ length l
+length-map-at : {A B : Type 0} (f : ℕ → A → B) (k : ℕ) (l : List A) → length (mapAt f k l) ≡ length l
 length-map-at f k [] = refl
 length-map-at f k (x ∷ l) = ap suc (length-map-at f (suc k) l)
 
@@ -69,10 +69,10 @@ map-same (a ∷ l) = ap (λ r. a ∷ r) (map-same l)
 
 -- the list l with one more entry, behind those of pre, in n places
 module _ {A B : Type 0} (f : ℕ → A → B) (z : B) (n : ℕ) (pre : List B) (l : List A) (d : A) (i : ℕ) (h : i < length l) where
-  pub placed : length (pre ++ mapAt f 0 (take i l)) ≡ length pre + i
+  placed : length (pre ++ mapAt f 0 (take i l)) ≡ length pre + i
   placed = length-append pre (mapAt f 0 (take i l)) ∙ ap (λ k. length pre + k) (length-map-at f 0 (take i l) ∙ length-take-le i l (omega arith))
 
-  pub one-more : mapAt f 0 (take (i + 1) l) ≡ mapAt f 0 (take i l) ++ (f i (getD l i d) ∷ [])
+  one-more : mapAt f 0 (take (i + 1) l) ≡ mapAt f 0 (take i l) ++ (f i (getD l i d) ∷ [])
   one-more =
       ap (λ j. mapAt f 0 (take j l)) (add-one i) ∙ ap (mapAt f 0) (take-suc l i d h) ∙ map-at-more f 0 (take i l) (getD l i d)
       ∙ ap (λ j. mapAt f 0 (take i l) ++ (f j (getD l i d) ∷ [])) (ap (λ k. 0 + k) (length-take-le i l (omega arith)) ∙ omega arith)

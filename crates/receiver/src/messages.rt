@@ -55,7 +55,7 @@ pub fn facch_entry(m: facch::Notification) -> Record
     }
 }
 
-fn nch_common(m: nch::Notification) -> Common
+pub fn nch_common(m: nch::Notification) -> Common
     ensures { λ r. ⌜ r ≡ nchCommon m ⌝ }
 {
     Common {
@@ -76,14 +76,14 @@ fn nch_common(m: nch::Notification) -> Common
 }
 
 // The random entry that an entry owns, and all zero where it owns none.
-struct Owned {
-    there: bool,
-    segment: bool,
-    given: bool,
-    rand: u64,
+pub struct Owned {
+    pub there: bool,
+    pub segment: bool,
+    pub given: bool,
+    pub rand: u64,
 }
 
-fn owns_none() -> Owned
+pub fn owns_none() -> Owned
     ensures { λ r. ⌜ r ≡ ownedOf none ⌝ }
 {
     Owned {
@@ -179,7 +179,7 @@ pub fn reduced_entry(m: nch::Notification, r: Reduced, random: usize) -> Record
 }
 
 // The smaller of two numbers.
-fn least(a: usize, b: usize) -> usize
+pub fn least(a: usize, b: usize) -> usize
     ensures { λ r. ⌜ r ≡ min a b ⌝ }
 {
     if b < a { b } else { a }

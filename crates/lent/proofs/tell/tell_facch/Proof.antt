@@ -18,9 +18,9 @@ same-length c = search needs
 
 returns : tie.Need-returns
 returns c =
-    let a = c .before .before .before .before .before .before .args in
-    rw (sym (c .before .before .before .facch-entry .ensures))
-    (all-next (a .b .now) 1 (a .tick) [] (c .before .before .before .facch-entry .result) (a .b .now) _ (lit< tt) (lit< tt) (all-none (a .b .now) 1 (a .tick)) (c .before .before .tell-entry .ensures))
+    let a = c .before .before .before .before .before .before .before .before .args in
+    rw (sym (c .before .before .before .before .before .before .facch-entry .ensures))
+    (all-next (a .b .now) 1 (a .tick) [] (c .before .before .before .before .before .before .facch-entry .result) (a .b .now) _ (lit< tt) (lit< tt) (all-none (a .b .now) 1 (a .tick)) (c .before .before .tell-entry .ensures))
 
 pub tell-facch-spec : {M : Type 1} → statement M
 tell-facch-spec = tie.close (tie.spec facch-entry-requires tell-entry-requires same-length returns)

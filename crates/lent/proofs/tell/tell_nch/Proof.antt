@@ -1,28 +1,22 @@
 -- `lent::tell::tell_nch` meets its contract. Assumes nothing.
-use mathlib.Core.List.{List}
-use mathlib.Core.Logic.{⊎-elim}
-use mathlib.Core.Path.{_≡_, sym, _∙_}
-use Prim.Native.Nat.{_≤_, _-_, min}
-use Prim.Native.Nat.{ℕ}
-use native.Mathlib.Nat.{add-zero}
+use mathlib.Core.Path.{_≡_, refl, sym, ap₂, _∙_}
+use mathlib.Core.Logic.{⊎-elim, inl, inr}
+use Prim.Native.Nat.{_+_, _≤_, _<_, _-_, min}
 use native.Mathlib.Omega.{arith}
 use lib.ListN.{length, length-map}
-use borrow.Author.Tests.{ltb-true, ltb-false}
-use Rattle.nch.specs.Write.{callsOf}
-use Rattle.receiver.specs.Model.{mapAt}
-use Rattle.receiver.specs.Entries.{callEntry}
-use Rattle.receiver.proofs.MessageEntries.{entriesTo, few-calls}
-use Rattle.lent.specs.Events.{AllTold}
+use borrow.Author.Needs.{needs}
+use Rattle.receiver.specs.Entries.{nchEntries}
+use Rattle.csn1.proofs.Writing.{byte-lt}
 use Rattle.lent.proofs.Tellings.{all-length}
-use Rattle.lent.proofs.Messages.{reduceds-none, reduceds-next, reduceds-all}
+use Rattle.lent.proofs.Messages.{entries-count, Told-to, none-told, few-owned, all-told, turn}
 use Rattle.lent.proofs.tell.tell_nch.Statement.{statement}
 use Rattle.lent.proofs.tell.tell_nch.Tie as tie
 
 abbrev Inv-loop : tie.InvT-loop
-Inv-loop b₀ tick m calls six j₀ b j = (j ≤ min (m .release6 .reducedcount) 5) × ((l : List ℕ) → AllTold l 0 tick (mapAt (callEntry m) 0 (callsOf m)) b₀ → AllTold l 0 tick (entriesTo m j) b)
+Inv-loop b₀ tick m calls reduced randoms marks common n count random₀ mark₀ i₀ b random mark i = (i ≤ count) × Told-to b₀ tick m random mark i b
 
 abbrev μ-loop : tie.MeasureT-loop
-μ-loop b₀ tick m calls six j₀ b j = 5 - j
+μ-loop b₀ tick m calls reduced randoms marks common n count random₀ mark₀ i₀ b random mark i = count - i
 
 four : (c : tie.Start Inv-loop μ-loop) → length (c .args .m .calls) ≡ 4
 four c = sym (length-map (c .args .m .calls) _) ∙ c .good .1 .1 .0 .1 .1 .1 .1 .1 .0 .1 .0 .1
@@ -30,82 +24,128 @@ four c = sym (length-map (c .args .m .calls) _) ∙ c .good .1 .1 .0 .1 .1 .1 .1
 five : (c : tie.Start Inv-loop μ-loop) → length (c .args .m .release6 .reduced) ≡ 5
 five c = sym (length-map (c .args .m .release6 .reduced) _) ∙ c .good .1 .1 .0 .1 .1 .1 .1 .1 .1 .0 .1 .1 .1 .1 .1 .1 .0 .1 .0 .1
 
-few : (c : tie.After-tell-calls Inv-loop μ-loop) → (c .tell-calls .result .count ≤ 4) × (c .tell-calls .result .ciphered ≤ 4)
-few c =
-    let f = few-calls (c .before .before .before .args .m) (four (c .before .before .before)) in
-    let e = c .tell-calls .ensures in
-    (omega (arith, f .0, e .0), omega (arith, f .1, e .1 .0))
+nine : (c : tie.Start Inv-loop μ-loop) → length (c .args .m .release6 .randoms) ≡ 9
+nine c = sym (length-map (c .args .m .release6 .randoms) _) ∙ c .good .1 .1 .0 .1 .1 .1 .1 .1 .1 .0 .1 .1 .1 .1 .1 .1 .1 .1 .0 .1 .0 .1
 
-tell-calls-requires : tie.Need-tell-calls-requires Inv-loop μ-loop
-tell-calls-requires c κs = c .before .before .pre
+slots : (c : tie.Start Inv-loop μ-loop) → length (c .args .m .release7 .marks) ≡ 4
+slots c = sym (length-map (c .args .m .release7 .marks) _) ∙ c .good .1 .1 .0 .1 .1 .1 .1 .1 .1 .1 .0 .1 .1 .1 .1 .0 .1 .0 .1
 
-cast-result : tie.Need-cast-result Inv-loop μ-loop
-cast-result c = omega (arith, few (c .before .before .before .before .before))
+-- the calls are four at most, all entries nine
+few : (c : tie.After-least2 Inv-loop μ-loop) → (c .before .least .result ≤ 4) × (c .least2 .result ≤ 5)
+few c = (omega (arith, c .before .least .ensures), omega (arith, c .least2 .ensures))
 
-same-length : tie.Need-same-length Inv-loop μ-loop
-same-length c = all-length _ _ _ _ _ (c .before .before .before .before .before .tell-calls .ensures .1 .1)
+nch-common-requires : tie.Need-nch-common-requires Inv-loop μ-loop
+nch-common-requires c κs = search needs
 
-returns : tie.Need-returns Inv-loop μ-loop
-returns c =
-    let s = c .before .before .before .before .before .before .before .before in
-    let a = s .args in
-    let n = c .before .before .before .before .before .tell-calls in
-    let all = reduceds-all (a .b .now) (a .tick) (a .m) (four s) (five s) (n .result .count) (n .ensures .0) 0 _ (reduceds-none (a .b .now) (a .tick) (a .m) _ (n .ensures .1 .1)) (omega (arith, c .before .if1 .taken)) in
-    (sym (add-zero (n .result .count)) ∙ all .0, all .1)
+least-requires : tie.Need-least-requires Inv-loop μ-loop
+least-requires c κs = search needs
+
+least-requires-2 : tie.Need-least-requires-2 Inv-loop μ-loop
+least-requires-2 c κs = search needs
+
+add-count : tie.Need-add-count Inv-loop μ-loop
+add-count c = omega (arith, few c)
 
 loop-holds : tie.Need-loop-holds Inv-loop μ-loop
-loop-holds c = (omega arith, λ l p. reduceds-none l (c .before .before .before .before .before .before .before .before .args .tick) (c .before .before .before .before .before .before .before .before .args .m) _ p)
+loop-holds c = (omega arith, none-told _ _ _)
+
+no-call-requires : tie.Need-no-call-requires Inv-loop μ-loop
+no-call-requires c κs = search needs
+
+mul-c : tie.Need-mul-c Inv-loop μ-loop
+mul-c c = omega (arith, few (c .before .before .before .before), c .if1 .taken)
+
+array-copy-out-c : tie.Need-array-copy-out-c Inv-loop μ-loop
+array-copy-out-c c = omega (arith, few (c .before .before .before .before), c .if1 .taken)
 
 mul-r : tie.Need-mul-r Inv-loop μ-loop
-mul-r c = omega arith
+mul-r c = omega (arith, few (c .before .before .before .before), c .before .before .loop-test .taken)
 
-element-copy-out-r : tie.Need-element-copy-out-r Inv-loop μ-loop
-element-copy-out-r c = omega arith
+array-copy-out-r : tie.Need-array-copy-out-r Inv-loop μ-loop
+array-copy-out-r c = omega (arith, few (c .before .before .before .before), c .before .before .loop-test .taken, c .if1 .left)
 
-add-tell-reduced : tie.Need-add-tell-reduced Inv-loop μ-loop
-add-tell-reduced c = omega (arith, few (c .before .before .before .before .before .before .before .before .before .before .before))
+reduced-call-requires : tie.Need-reduced-call-requires Inv-loop μ-loop
+reduced-call-requires c κs = search needs
 
-add-tell-reduced-2 : tie.Need-add-tell-reduced-2 Inv-loop μ-loop
-add-tell-reduced-2 c = omega (arith, few (c .before .before .before .before .before .before .before .before .before .before .before .before))
+owns-random-requires : tie.Need-owns-random-requires Inv-loop μ-loop
+owns-random-requires c κs = search needs
 
-tell-reduced-requires : tie.Need-tell-reduced-requires Inv-loop μ-loop
-tell-reduced-requires c κs = (all-length _ _ _ _ _ (c .before .before .before .before .before .before .loop .inv .1 _ (c .before .before .before .before .before .before .before .before .before .before .before .before .tell-calls .ensures .1 .1)) ∙ c .before .before .before .before .before .before .before .before .before .before .before .before .before .before .before .pre, omega (arith, few (c .before .before .before .before .before .before .before .before .before .before .before .before), c .before .before .before .before .before .loop-test .taken))
+mul-owned : tie.Need-mul-owned Inv-loop μ-loop
+mul-owned c =
+    let a = c .before .before .before .before .before .before .before .before .before .before .before .before .before .before .before .before .args in
+    let l = c .before .before .before .before .before .loop in
+    omega (arith, few (c .before .before .before .before .before .before), c .before .before .before .before .loop-test .taken, few-owned (a .b .now) (a .tick) (a .m) (l .random) (l .mark) (l .i) (l .b) (l .inv .1))
 
-add-j : tie.Need-add-j Inv-loop μ-loop
-add-j c = omega arith
+array-copy-out-owned : tie.Need-array-copy-out-owned Inv-loop μ-loop
+array-copy-out-owned c =
+    let a = c .before .before .before .before .before .before .before .before .before .before .before .before .before .before .before .before .args in
+    let l = c .before .before .before .before .before .loop in
+    omega (arith, few (c .before .before .before .before .before .before), c .before .before .before .before .loop-test .taken, few-owned (a .b .now) (a .tick) (a .m) (l .random) (l .mark) (l .i) (l .b) (l .inv .1))
+
+owned-requires : tie.Need-owned-requires Inv-loop μ-loop
+owned-requires c κs = search needs
+
+array-read-marked : tie.Need-array-read-marked Inv-loop μ-loop
+array-read-marked c = omega arith
+
+marked-requires : tie.Need-marked-requires Inv-loop μ-loop
+marked-requires c κs = search needs
+
+tell-entry-requires : tie.Need-tell-entry-requires Inv-loop μ-loop
+tell-entry-requires c κs = (all-length _ _ _ _ _ (c .before .before .before .before .before .before .before .before .before .before .loop .inv .1 .told) ∙ c .before .before .before .before .before .before .before .before .before .before .before .before .before .before .before .before .before .before .before .before .before .pre, (omega arith, omega (arith, few (c .before .before .before .before .before .before .before .before .before .before .before), c .before .before .before .before .before .before .before .before .before .loop-test .taken)))
+
+cast-random : tie.Need-cast-random Inv-loop μ-loop
+cast-random c = tt
+
+add-random : tie.Need-add-random Inv-loop μ-loop
+add-random c =
+    let a = c .before .before .before .before .before .before .before .before .before .before .before .before .before .before .before .before .before .before .before .before .before .before .before .before .args in
+    let l = c .before .before .before .before .before .before .before .before .before .before .before .before .before .loop in
+    omega (arith, few (c .before .before .before .before .before .before .before .before .before .before .before .before .before .before), l .inv .0, few-owned (a .b .now) (a .tick) (a .m) (l .random) (l .mark) (l .i) (l .b) (l .inv .1), byte-lt (c .before .before .before .before .before .before .before .before .before .owns-random .result))
+
+cast-mark : tie.Need-cast-mark Inv-loop μ-loop
+cast-mark c = tt
+
+add-mark : tie.Need-add-mark Inv-loop μ-loop
+add-mark c =
+    let a = c .before .before .before .before .before .before .before .before .before .before .before .before .before .before .before .before .before .before .before .before .before .before .before .before .before .args in
+    let l = c .before .before .before .before .before .before .before .before .before .before .before .before .before .before .loop in
+    omega (arith, few (c .before .before .before .before .before .before .before .before .before .before .before .before .before .before .before), l .inv .0, few-owned (a .b .now) (a .tick) (a .m) (l .random) (l .mark) (l .i) (l .b) (l .inv .1), byte-lt (c .before .before .before .before .before .before .before .before .before .before .before .if1 .c .described))
+
+add-i : tie.Need-add-i Inv-loop μ-loop
+add-i c = omega (arith, few (c .before .before .before .before .before .before .before .before .before .before .before .before .before .before .before), c .before .before .before .before .before .before .before .before .before .before .before .before .before .loop-test .taken)
 
 loop-less : tie.Need-loop-less Inv-loop μ-loop
-loop-less c = omega arith
+loop-less c = omega (arith, c .before .before .before .before .before .before .before .before .before .before .before .before .before .loop-test .taken)
 
 loop-again : tie.Need-loop-again Inv-loop μ-loop
 loop-again c =
-    let s = c .before .before .before .before .before .before .before .before .before .before .before .before .before .before .before .before .before .before in
+    let s = c .before .before .before .before .before .before .before .before .before .before .before .before .before .before .before .before .before .before .before .before .before .before .before .before .before in
     let a = s .args in
-    let n = c .before .before .before .before .before .before .before .before .before .before .before .before .before .before .before .tell-calls in
-    let l = c .before .before .before .before .before .before .before .before .before .loop in
-    let h = c .before .before .before .before .before .before .before .before .loop-test .taken in
-    let k = ltb-true (l .j) (a .m .release6 .reducedcount) (c .before .before .before .before .before .before .before .if2 .taken) in
-    (omega (arith, h, k), λ x p. reduceds-next x (a .tick) (a .m) (four s) (five s) (n .result .count) (n .ensures .0) (l .j) (l .b) (l .inv .1 x p) h k (n .result .ciphered) (n .ensures .1 .0) _ (c .before .before .tell-reduced .ensures))
+    let l = c .before .before .before .before .before .before .before .before .before .before .before .before .before .before .loop in
+    let n = c .before .before .before .before .before .before .before .before .before .before .before .before .before .before .before .before .least in
+    let h : l .i < n .result + min (a .m .release6 .reducedcount) 5 = omega (arith, c .before .before .before .before .before .before .before .before .before .before .before .before .before .loop-test .taken, c .before .before .before .before .before .before .before .before .before .before .before .before .before .before .before .least2 .ensures) in (
+      omega (arith, c .before .before .before .before .before .before .before .before .before .before .before .before .before .loop-test .taken),
+      turn (a .b .now) (a .tick) (a .m) (l .random) (l .mark) (l .i) (l .b) (l .inv .1) (four s) (five s) (nine s) (slots s) (n .result) (n .ensures) h (c .before .before .before .before .before .before .before .before .before .before .before .if1 .c) _ _ _ _ _ _ refl
+          (c .before .before .before .before .before .before .before .before .before .before .owns-random .ensures) (c .before .before .before .before .before .before .before .owned .ensures) (c .before .before .before .before .before .marked .ensures) (c .before .before .before .before .before .before .before .before .before .before .before .before .before .before .before .before .before .nch-common .ensures) (c .before .before .before .tell-entry .ensures)
+          (⊎-elim (λ w. inl (w .0 .taken, w .2)) (λ w. inr (w .0 .left, w .3 ∙ w .2 .ensures)) (c .before .before .before .before .before .before .before .before .before .before .before .if1 .came)),
+    )
 
-add-result : tie.Need-add-result Inv-loop μ-loop
-add-result c = omega (arith, few (c .before .before .before .before .before .before .before .before), c .before .before .loop .inv .0)
+cast-result : tie.Need-cast-result Inv-loop μ-loop
+cast-result c = omega (arith, few (c .before .before))
 
-cast-result-2 : tie.Need-cast-result-2 Inv-loop μ-loop
-cast-result-2 c = omega (arith, few (c .before .before .before .before .before .before .before .before), c .before .before .loop .inv .0)
+same-length : tie.Need-same-length Inv-loop μ-loop
+same-length c = all-length _ _ _ _ _ (c .before .loop .inv .1 .told)
 
-same-length-2 : tie.Need-same-length-2 Inv-loop μ-loop
-same-length-2 c = all-length _ _ _ _ _ (c .before .before .loop .inv .1 _ (c .before .before .before .before .before .before .before .before .tell-calls .ensures .1 .1))
-
-returns-2 : tie.Need-returns-2 Inv-loop μ-loop
-returns-2 c =
-    let s = c .before .before .before .before .before .before .before .before .before .before .before in
+returns : tie.Need-returns Inv-loop μ-loop
+returns c =
+    let s = c .before .before .before .before .before .before .before .before .before .before .before .before in
     let a = s .args in
-    let n = c .before .before .before .before .before .before .before .before .tell-calls in
-    let l = c .before .before .loop in
-    let e : l .j ≡ min (a .m .release6 .reducedcount) 5 =
-    ⊎-elim (λ w. omega (arith, l .inv .0, ltb-false (l .j) (a .m .release6 .reducedcount) (w .1 .left))) (λ w. omega (arith, l .inv .0, w .left)) (c .before .loop-test .came)
+    let l = c .before .loop in
+    let n : c .before .before .before .least .result + c .before .before .least2 .result ≡ length (nchEntries (a .m)) =
+    ap₂ (λ x y. x + y) (c .before .before .before .least .ensures) (c .before .before .least2 .ensures) ∙ sym (entries-count (a .m) (four s) (five s))
     in
-    reduceds-all (a .b .now) (a .tick) (a .m) (four s) (five s) (n .result .count) (n .ensures .0) (l .j) (l .b) (l .inv .1 (a .b .now) (n .ensures .1 .1)) e
+    (n, all-told (a .b .now) (a .tick) (a .m) (l .random) (l .mark) (l .i) (l .b) (l .inv .1) (omega (arith, n, l .inv .0, c .loop-test .left)))
 
 pub tell-nch-spec : {M : Type 1} → statement M
 tell-nch-spec =
@@ -113,20 +153,31 @@ tell-nch-spec =
     (tie.spec
     Inv-loop
     μ-loop
-    tell-calls-requires
-    cast-result
-    same-length
-    returns
+    nch-common-requires
+    least-requires
+    least-requires-2
+    add-count
     loop-holds
+    no-call-requires
+    mul-c
+    array-copy-out-c
     mul-r
-    element-copy-out-r
-    add-tell-reduced
-    add-tell-reduced-2
-    tell-reduced-requires
-    add-j
+    array-copy-out-r
+    reduced-call-requires
+    owns-random-requires
+    mul-owned
+    array-copy-out-owned
+    owned-requires
+    array-read-marked
+    marked-requires
+    tell-entry-requires
+    cast-random
+    add-random
+    cast-mark
+    add-mark
+    add-i
     loop-less
     loop-again
-    add-result
-    cast-result-2
-    same-length-2
-    returns-2)
+    cast-result
+    same-length
+    returns)
