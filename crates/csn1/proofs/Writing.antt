@@ -50,11 +50,6 @@ there-back false a = refl
 
 -- ## Bits and numbers in front of more
 
--- one bit
-pub put-bit : (s : List ℕ) (p b : ℕ) → b < 2 → putBits s p (b ∷ []) ≡ setField s p 1 b
-unfolding numBits
-put-bit s p b h = ap (λ (x : ℕ). putBits s p (x ∷ [])) (sym (mod-eq-of-lt h)) ∙ put-num s p 1 b
-
 -- a number and more
 pub put-first : (s : List ℕ) (p w v : ℕ) (bs : List ℕ) → putBits s p (numBits w v ++ bs) ≡ putBits (setField s p w v) (p + w) bs
 put-first s p w v bs = put-join s p (numBits w v) bs ∙ ap₂ (λ (t : List ℕ) (k : ℕ). putBits t (p + k) bs) (put-num s p w v) (length-numBits w v)

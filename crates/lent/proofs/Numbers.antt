@@ -38,11 +38,6 @@ length-octets (suc w) x = ap suc (length-octets w (x / 256))
 
 -- ## Runs of stores
 
--- one octet is a run of one
-pub set-stored : (l : List ℕ) (at v : ℕ) → set l at v ≡ stored l at (v ∷ [])
-unfolding stored
-set-stored l at v = refl
-
 pub stored-none : (l : List ℕ) (at : ℕ) → stored l at [] ≡ l
 unfolding stored
 stored-none l at = refl
@@ -153,12 +148,9 @@ le-alone w x l at fits lt =
     (λ i h. stored-in l at (octets w x) i (omega arith) (omega arith) ∙ rw (append-nil (octets w x), zero-add i))
     ∙ back w x [] lt
 
--- numbers that a run of stores lies before or behind
+-- numbers that a run of stores lies behind
 pub le-before : (w : ℕ) (l : List ℕ) (at : ℕ) (vs : List ℕ) (j : ℕ) → j + w ≤ at → leAt w (stored l at vs) j ≡ leAt w l j
 le-before w l at vs j h = le-ext w (stored l at vs) l j j (λ n k. stored-before l at vs (j + n) (omega arith))
-
-pub le-after : (w : ℕ) (l : List ℕ) (at : ℕ) (vs : List ℕ) (j : ℕ) → at + length vs ≤ j → leAt w (stored l at vs) j ≡ leAt w l j
-le-after w l at vs j h = le-ext w (stored l at vs) l j j (λ n k. stored-after l at vs (j + n) (omega arith))
 
 pub le-set : (w : ℕ) (l : List ℕ) (at v j : ℕ) → (j ≤ at → j + w ≤ at) → leAt w (set l at v) j ≡ leAt w l j
 le-set w l at v j h = le-ext w (set l at v) l j j (λ n k. getD-set-other l at (j + n) v 0 (λ e. omega (arith, h (omega arith))))

@@ -17,10 +17,10 @@ use Rattle.receiver.specs.Store.{withSlots}
 use Rattle.receiver.proofs.Dropping.{by-test}
 use Rattle.receiver.proofs.Loops.{partAt, part-set, part-keep, part-all}
 use Rattle.lent.specs.Octets.{table}
-use Rattle.lent.specs.Layout.{slotNo, decodeOf, putSlot, toldNo}
+use Rattle.lent.specs.Layout.{slotNo, decodeOf, putSlot}
 use Rattle.lent.specs.Events.{timerNo, goes, sweptAt, sweptRun, sweptOctets}
 use Rattle.lent.proofs.Numbers.{le-ext}
-use Rattle.lent.proofs.Decoding.{told-like, slot-of, slots-length, slot-empty, length-put, put-elsewhere, slot-put-other, decode-clear}
+use Rattle.lent.proofs.Decoding.{slot-of, slots-length, slot-empty, length-put, put-elsewhere, slot-put-other, decode-clear}
 
 -- ## One place
 
@@ -34,7 +34,7 @@ module _ (now : ℕ) (rule : Rule) where
   unfolding sweptAt
   swept-gone l i p = rw p refl
 
-  swept-kept : (l : List ℕ) (i : ℕ) → goes l now rule i ≡ false → sweptAt now rule l i ≡ l
+  pub swept-kept : (l : List ℕ) (i : ℕ) → goes l now rule i ≡ false → sweptAt now rule l i ≡ l
   unfolding sweptAt
   swept-kept l i p = rw p refl
 
@@ -50,8 +50,8 @@ module _ (now : ℕ) (rule : Rule) where
   unfolding takenOf
   taken-empty l i e = rw (slot-empty l i e)
 
-  pub at-idle : (l : List ℕ) (i : ℕ) → getD l (216 + i) 0 ≡ 0 → sweptAt now rule l i ≡ l
-  at-idle l i e = swept-kept l i (rw (ran-empty now l i e) (taken-empty l i e))
+  pub goes-empty : (l : List ℕ) (i : ℕ) → getD l (216 + i) 0 ≡ 0 → goes l now rule i ≡ false
+  goes-empty l i e = rw (ran-empty now l i e) (taken-empty l i e)
 
   -- ## A run of places
 
@@ -59,10 +59,6 @@ module _ (now : ℕ) (rule : Rule) where
   unfolding sweptRun
   length-run from zero l = refl
   length-run from (suc n) l = length-at (sweptRun now rule from n l) (from + n) ∙ length-run from n l
-
-  pub run-next : (from n : ℕ) (l : List ℕ) → sweptRun now rule from (suc n) l ≡ sweptAt now rule (sweptRun now rule from n l) (from + n)
-  unfolding sweptRun
-  run-next from n l = refl
 
   pub run-then : (from m n : ℕ) (l : List ℕ) → sweptRun now rule from (m + n) l ≡ sweptRun now rule (from + m) n (sweptRun now rule from m l)
   unfolding sweptRun
@@ -98,14 +94,6 @@ module _ (now : ℕ) (rule : Rule) where
       (slot-put-other (sweptRun now rule from n l) (from + n) k emptySlot (omega arith) lt (λ e. omega (arith, o (omega arith)))) refl
       ∙ run-slot from n l k m (omega arith) lt (λ x. omega (arith, o x))
 
-  pub run-slot-before : (from n : ℕ) (l : List ℕ) (k : ℕ) → length l ≡ 6984 → from + n ≤ 100 → k < 100 → k < from
-      → slotNo (sweptRun now rule from n l) k ≡ slotNo l k
-  run-slot-before from n l k m h lt o = run-slot from n l k m h lt (λ x. omega arith)
-
-  pub run-slot-after : (from n : ℕ) (l : List ℕ) (k : ℕ) → length l ≡ 6984 → from + n ≤ 100 → k < 100 → from + n ≤ k
-      → slotNo (sweptRun now rule from n l) k ≡ slotNo l k
-  run-slot-after from n l k m h lt o = run-slot from n l k m h lt (λ x. o)
-
   -- their kinds
   pub run-kind : (from n : ℕ) (l : List ℕ) (k : ℕ) → from + n ≤ 100 → k < 100 → (from ≤ k → from + n ≤ k)
       → getD (sweptRun now rule from n l) (216 + k) 0 ≡ getD l (216 + k) 0
@@ -117,11 +105,12 @@ module _ (now : ℕ) (rule : Rule) where
       (λ x. omega arith) (λ x. omega arith)) refl
       ∙ run-kind from n l k (omega arith) lt (λ x. omega (arith, o x))
 
-  pub run-idle : (from n : ℕ) (l : List ℕ) → ((k : ℕ) → k < n → getD l (216 + (from + k)) 0 ≡ 0) → sweptRun now rule from n l ≡ l
+  -- nothing goes
+  pub run-still : (from n : ℕ) (l : List ℕ) → ((k : ℕ) → k < n → goes l now rule (from + k) ≡ false) → sweptRun now rule from n l ≡ l
   unfolding sweptRun
-  run-idle from zero l e = refl
-  run-idle from (suc n) l e =
-      ap (λ (x : List ℕ). sweptAt now rule x (from + n)) (run-idle from n l (λ k h. e k (omega arith))) ∙ at-idle l (from + n) (e n (omega arith))
+  run-still from zero l e = refl
+  run-still from (suc n) l e =
+      ap (λ (x : List ℕ). sweptAt now rule x (from + n)) (run-still from n l (λ k h. e k (omega arith))) ∙ swept-kept l (from + n) (e n (omega arith))
 
 -- ## What is read after the whole sweep
 
@@ -192,10 +181,6 @@ swept-decode l now rule m =
     run-decode now rule l m 100 (lit≤ tt)
     ∙ ap (withSlots (decodeOf l)) (part-all (keeps now rule l m) 0 100 (decodeOf l .slots) (omega (arith, slots-length l)))
 
-pub swept-told : (l : List ℕ) (now : ℕ) (rule : Rule) (j : ℕ) → toldNo (sweptOctets now rule l) j ≡ toldNo l j
-swept-told l now rule j =
-    told-like l (sweptOctets now rule l) j (λ k a b. run-elsewhere now rule 0 100 l (lit≤ tt) k (λ x. omega arith) (λ x. omega arith))
-
 -- ## What is counted
 
 -- how many of n places from a place on pass a test
@@ -248,7 +233,7 @@ count-ext t u from (suc n) e =
     ap₂ (λ (x : ℕ) (b : Bool). x + asBit b) (count-ext t u from n (λ k h. e k (omega arith))) (e n (omega arith))
 
 -- in a table
-count-table : {A : Type 0} (f : ℕ → A → Bool) (g : ℕ → A) (k n : ℕ) → countAt f k (table g k n) ≡ countRun (λ i. f i (g i)) k n
+pub count-table : {A : Type 0} (f : ℕ → A → Bool) (g : ℕ → A) (k n : ℕ) → countAt f k (table g k n) ≡ countRun (λ i. f i (g i)) k n
 unfolding table
 count-table f g k zero = sym (count-zero (λ i. f i (g i)) k)
 count-table f g k (suc n) =
@@ -264,18 +249,14 @@ pub count-dropped : (l : List ℕ) (now : ℕ) (rule : Rule)
 unfolding droppedOf decodeOf
 count-dropped l now rule = count-table (λ i s. takenOf now (timerNo l i) rule i s) (slotNo l) 0 100
 
-pub count-run : (l : List ℕ) (now : ℕ) (rule : Rule)
-    → (expiredOf (decodeOf l) now (decodeOf l .slots) ≡ countRun (λ i. ranOutOf now (timerNo l i) (slotNo l i)) 0 100)
-    × (droppedOf (decodeOf l) now rule ≡ countRun (λ i. takenOf now (timerNo l i) rule i (slotNo l i)) 0 100)
-count-run l now rule = (count-expired l now, count-dropped l now rule)
+-- where nothing goes, nothing is counted
+neither : (b c : Bool) → pick b true c ≡ false → (b ≡ false) × (c ≡ false)
+neither true c e = (cc, cc)
+neither false c e = (refl, e)
 
--- places whose kinds are 0 are not counted
-pub idle-expired : (l : List ℕ) (now from n : ℕ) → ((k : ℕ) → k < n → getD l (216 + (from + k)) 0 ≡ 0)
-    → countRun (λ i. ranOutOf now (timerNo l i) (slotNo l i)) from n ≡ 0
-idle-expired l now from n e =
-    count-none (λ i. ranOutOf now (timerNo l i) (slotNo l i)) from n (λ k h. ran-empty now l (from + k) (e k h))
+module _ (l : List ℕ) (now : ℕ) (rule : Rule) (from n : ℕ) (still : (k : ℕ) → k < n → goes l now rule (from + k) ≡ false) where
+  pub still-expired : countRun (λ i. ranOutOf now (timerNo l i) (slotNo l i)) from n ≡ 0
+  still-expired = count-none (λ i. ranOutOf now (timerNo l i) (slotNo l i)) from n (λ k h. neither (ranOutOf now (timerNo l (from + k)) (slotNo l (from + k))) (takenOf now (timerNo l (from + k)) rule (from + k) (slotNo l (from + k))) (still k h) .0)
 
-pub idle-dropped : (l : List ℕ) (now : ℕ) (rule : Rule) (from n : ℕ) → ((k : ℕ) → k < n → getD l (216 + (from + k)) 0 ≡ 0)
-    → countRun (λ i. takenOf now (timerNo l i) rule i (slotNo l i)) from n ≡ 0
-idle-dropped l now rule from n e =
-    count-none (λ i. takenOf now (timerNo l i) rule i (slotNo l i)) from n (λ k h. taken-empty now rule l (from + k) (e k h))
+  pub still-dropped : countRun (λ i. takenOf now (timerNo l i) rule i (slotNo l i)) from n ≡ 0
+  still-dropped = count-none (λ i. takenOf now (timerNo l i) rule i (slotNo l i)) from n (λ k h. neither (ranOutOf now (timerNo l (from + k)) (slotNo l (from + k))) (takenOf now (timerNo l (from + k)) rule (from + k) (slotNo l (from + k))) (still k h) .1)

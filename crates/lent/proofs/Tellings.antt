@@ -2,15 +2,15 @@
 use mathlib.Core.Path.{_≡_, refl, ap, ap₂, sym, _∙_}
 use mathlib.Core.Bool.{Bool, true, false}
 use mathlib.Core.List.{List, [], _∷_, _++_}
-use Prim.Native.Nat.{ℕ, zero, suc, _+_, _*_, _≤_, _<_}
+use Prim.Native.Nat.{ℕ, suc, _+_, _*_, _≤_, _<_}
 use native.Mathlib.Nat.{add-zero, zero-add, add-suc, suc-add}
 use native.Mathlib.Omega.{arith}
 use borrow.Author.Tests.{lt-ltb, le-ltb, ltb-true, ltb-false, eqb-true, eqb-false}
 use lib.Dec.{eqb, ltb, lit<, lit≤}
-use lib.ListN.{length, getD, set, length-append, List·getD-append, List·getD-eq-default}
+use lib.ListN.{length, getD, set, length-append, List·getD-append}
 use lib.Seq.{getD-at}
 use Rattle.bits.specs.Field.{both, pick}
-use Rattle.csn1.specs.Told.{asBit, padded}
+use Rattle.csn1.specs.Told.{asBit}
 use Rattle.receiver.specs.declared.Record.{Record}
 use Rattle.receiver.specs.declared.Slot.{Slot}
 use Rattle.receiver.specs.declared.Receiver.{Receiver}
@@ -20,10 +20,9 @@ use Rattle.receiver.specs.Model.{noRecord, emptySlot, keyOf, indexOf, isClear, 
 use Rattle.receiver.specs.Store.{withSlots}
 use Rattle.receiver.specs.Step.{noTold, slotsAfter, toldOf, allAfter, allTold}
 use Rattle.receiver.proofs.Dropping.{by-test}
-use Rattle.lent.specs.Octets.{table}
 use Rattle.lent.specs.Layout.{slotNo, decodeOf, putSlot, carries, toldNo, putTold}
 use Rattle.lent.specs.Events.{keysIn, afterMeet, tellOctets, Telling, allOctets, AllTold}
-use Rattle.lent.proofs.Numbers.{le-below, table-list}
+use Rattle.lent.proofs.Numbers.{le-below}
 use Rattle.lent.proofs.Wide.{Octs, Wide, wide-none, wide-at, wide-join}
 use Rattle.lent.proofs.Decoding.{slot-of, slot-empty, slot-held, keep-same, length-put, decode-put, told-put, length-told, decode-told, told-same, told-other}
 
@@ -311,36 +310,3 @@ module _ (l : List ℕ) (ch now : ℕ) (es : List Record) (e : Record) (left lef
 
 pub all-length : (l : List ℕ) (ch now : ℕ) (es : List Record) (left : List ℕ) → AllTold l ch now es left → length left ≡ length l
 all-length l ch now es left p = ap length (p .octets) ∙ length-all l ch now 0 es
-
-pub all-keys : (l : List ℕ) (ch now : ℕ) (es : List Record) (left : List ℕ) → AllTold l ch now es left → keysIn left ≡ keysIn l
-all-keys l ch now es left p = ap (λ (r : Receiver). r .keys) (p .places)
-
--- ## The answer's entries
-
-module _ {A : Type 0} (z : A) where
-  length-padded : (n : ℕ) (l : List A) → length (padded z n l) ≡ n
-  length-padded zero l = refl
-  length-padded (suc n) [] = ap suc (length-padded n [])
-  length-padded (suc n) (x ∷ l) = ap suc (length-padded n l)
-
-  getD-padded : (n : ℕ) (l : List A) (i : ℕ) → i < n → getD (padded z n l) i z ≡ getD l i z
-  getD-padded zero l i h = absurd (omega arith)
-  getD-padded (suc n) [] zero h = refl
-  getD-padded (suc n) [] (suc i) h = getD-padded n [] i (omega arith)
-  getD-padded (suc n) (x ∷ l) zero h = refl
-  getD-padded (suc n) (x ∷ l) (suc i) h = getD-padded n l i (omega arith)
-
--- the nine entries that are read, where the count is that of the entries
-pub told-table : (l : List ℕ) (ch now : ℕ) (es : List Record) (left : List ℕ) → AllTold l ch now es left
-    → table (λ j. pick (ltb j (length es)) (toldNo left j) noTold) 0 9 ≡ padded noTold 9 (allTold (keysIn l) ch now (decodeOf l .slots) es)
-told-table l ch now es left p =
-    let ts = allTold (keysIn l) ch now (decodeOf l .slots) es in
-    let n = length-all-told (keysIn l) ch now (decodeOf l .slots) es in
-    table-list (λ j. pick (ltb j (length es)) (toldNo left j) noTold) noTold 0 9 (padded noTold 9 ts) (length-padded noTold 9 ts)
-    (λ i h.
-    ap (λ (k : ℕ). pick (ltb k (length es)) (toldNo left k) noTold) (zero-add i)
-    ∙ by-test (ltb i (length es))
-    (λ t. rw t (p .told i (ltb-true i (length es) t) ∙ sym (getD-padded noTold 9 ts i h)))
-    (λ t.
-    let u : length es ≤ i = ltb-false i (length es) t in
-    rw t (sym (getD-padded noTold 9 ts i h ∙ List·getD-eq-default ts noTold (omega arith)))))

@@ -1,7 +1,7 @@
 -- Events in place: the octets that each leaves, exactly, and what they are read as. Assumes nothing.
 use mathlib.Core.Path.{_≡_}
 use mathlib.Core.List.{List, [], _∷_, _++_}
-use mathlib.Core.Bool.{Bool, true}
+use mathlib.Core.Bool.{Bool, true, false}
 use Prim.Native.Nat.{ℕ, zero, suc, _+_, _*_, _<_}
 use lib.ListN.{length, getD}
 use lib.Dec.{ltb, eqb}
@@ -25,6 +25,10 @@ use Rattle.lent.specs.Layout.{stateLength, slotNo, keyNo, decodeOf, putS
 
 abbrev pub timerNo : List ℕ → ℕ → ℕ
 timerNo l i = timerAt (leAt 4 l 4) (leAt 4 l 8) i
+
+-- no half at n places from a place on has run out
+abbrev pub Running : ℕ → List ℕ → ℕ → ℕ → Type 0
+Running now l from n = (k : ℕ) → k < n → ranOutOf now (timerNo l (from + k)) (slotNo l (from + k)) ≡ false
 
 abbrev pub goes : List ℕ → ℕ → Rule → ℕ → Bool
 goes l now rule i = pick (ranOutOf now (timerNo l i) (slotNo l i)) true (takenOf now (timerNo l i) rule i (slotNo l i))

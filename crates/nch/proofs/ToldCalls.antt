@@ -8,7 +8,7 @@ use lib.Dec.{leb}
 use Rattle.bits.specs.Field.{fetched}
 use Rattle.bits.specs.declared.Got.the-variants.{Bits}
 use Rattle.csn1.specs.declared.Refusal.{Refusal}
-use Rattle.csn1.specs.Format.{Res, ok, bad, noRefusal, list}
+use Rattle.csn1.specs.Format.{ok, bad, noRefusal, list}
 use Rattle.csn1.specs.Promises.{Lawful}
 use Rattle.csn1.specs.Told.{readAt, asBit, padded}
 use Rattle.csn1.proofs.Promises.{lawful}
@@ -20,9 +20,7 @@ use Rattle.call.specs.declared.CallAt.{CallAt}
 use Rattle.call.specs.Call.{CallValue, callGrammar, groupCall, callOf, noCall}
 use Rattle.call.specs.Told.{callAtOf}
 use Rattle.nch.specs.Octets.{count, cipheredValue, describedValue}
-use Rattle.nch.specs.Parts.{callsAtOf, listedOf}
-use Rattle.nch.specs.declared.calls.CallsAt.{CallsAt}
-use Rattle.nch.specs.declared.calls.Listed.{Listed}
+use Rattle.nch.specs.Parts.{listedOf}
 use Rattle.nch.proofs.Places.{count-le}
 use Rattle.nch.proofs.Counting.{count-more}
 
@@ -114,11 +112,3 @@ module _ (s : List ℕ) (start : ℕ) where
         let describes : described ≡ count describedValue (i .entries .acc) = i .describes in
         let told : record { refusal = r; count = n; ciphered = ciphered; described = described; calls = calls; at = at + 1 } ≡ listedOf (ok (i .entries .acc) (at + 1)) = cc in
         told ∙ sym (ap listedOf (entries-end groupCall callOf noCall 4 s start calls n at (i .entries) f e z))
-
--- without the two numbers
-abbrev pub bare : Listed → CallsAt
-bare l = record { refusal = l .refusal; count = l .count; calls = l .calls; at = l .at }
-
-pub bare-told : (x : Res (List CallValue)) → bare (listedOf x) ≡ callsAtOf x
-bare-told (ok l q) = refl
-bare-told (bad r) = refl

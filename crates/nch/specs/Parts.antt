@@ -9,7 +9,6 @@ use Rattle.csn1.specs.Told.{isThere, orZero, isOne, padded}
 use Rattle.call.specs.Call.{CallValue, callOf, noCall}
 use Rattle.nch.specs.Octets.{Release6Value, AmrValue, Release7Value, count, cipheredValue, describedValue}
 use Rattle.nch.specs.Told.{reducedOf, noReduced, randomOf, noRandom, noRelease6, release6Of, fullRate, halfRate, confidentiality, privacy, noRelease7, release7Of}
-use Rattle.nch.specs.declared.calls.CallsAt.{CallsAt}
 use Rattle.nch.specs.declared.calls.Listed.{Listed}
 use Rattle.nch.specs.declared.additions6.ReducedsAt.{ReducedsAt}
 use Rattle.nch.specs.declared.additions6.RandomsAt.{RandomsAt}
@@ -20,10 +19,6 @@ use Rattle.nch.specs.declared.additions7.SmsAt.{SmsAt}
 use Rattle.nch.specs.declared.additions7.Release7At.{Release7At}
 
 -- ## Lists: how many were read, and the first of them in their places
-
-abbrev pub callsAtOf : Res (List CallValue) → CallsAt
-callsAtOf (bad r) = record { refusal = r; count = 0; calls = padded noCall 4 []; at = 0 }
-callsAtOf (ok l q) = record { refusal = noRefusal; count = length l; calls = padded noCall 4 (map callOf l); at = q }
 
 -- the calls with how many are ciphered, and how many described
 abbrev pub listedOf : Res (List CallValue) → Listed

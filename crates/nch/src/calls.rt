@@ -6,21 +6,14 @@ ghost use Prim.Native.Nat.{_+_, _<_};
 ghost use Rattle.csn1.specs.Told.{readAt, asBit};
 ghost use Rattle.call.specs.Call.{groupCall, ciphered};
 ghost use Rattle.nch.specs.Octets.{count};
-ghost use Rattle.nch.specs.Parts.{callsAtOf, listedOf};
+ghost use Rattle.nch.specs.Parts.{listedOf};
 ghost use Rattle.nch.specs.Write.{isDescribed};
 use bits::Got;
 use call::Call;
 use call::Description;
 use csn1::Refusal;
 
-pub struct CallsAt {
-    pub refusal: Refusal,
-    pub count: usize,
-    pub calls: [Call; 4],
-    pub at: usize,
-}
-
-// The same, with how many of the calls are ciphered, and how many described.
+// The calls of a message with how many they are, how many of them are ciphered, and how many described.
 pub struct Listed {
     pub refusal: Refusal,
     pub count: usize,
@@ -106,21 +99,6 @@ pub fn read_listed(s: &[u8], from: usize) -> Listed
         ciphered = counted(ciphered, 1 <= c.call.cipher);
         described = counted(described, c.call.described);
         at = c.at;
-    }
-}
-
-// The same without the two numbers.
-pub fn read_calls(s: &[u8], from: usize) -> CallsAt
-    ensures { λ r. ⌜ r ≡ callsAtOf (readAt (list groupCall) (now (s .entry)) from) ⌝ }
-{
-    let l = read_listed(s, from);
-    let refusal = l.refusal;
-    let calls = l.calls;
-    CallsAt {
-        refusal,
-        count: l.count,
-        calls,
-        at: l.at,
     }
 }
 

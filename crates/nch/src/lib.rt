@@ -6,7 +6,7 @@ use call::Call;
 use csn1::Refusal;
 
 mod additions6;
-mod additions7;
+pub mod additions7;
 pub mod calls;
 
 // A Reduced GCR: the reference and service flag of a call that another message carries whole.

@@ -9,7 +9,7 @@ use native.Mathlib.Nat.{add-zero, add-suc, suc-add, add-comm, mul-suc}
 use native.Mathlib.Omega.{arith}
 use lib.Dec.{leb}
 use lib.ListN.{length, getD, take, drop, set, replicate, length-append, drop-of-length-le}
-use lib.Seq.{sets, take-at, sets-eq, length-take-le, take-suc, take-all, take-suc-set, drop-cons}
+use lib.Seq.{sets, sets-eq, length-take-le, take-suc, take-all, take-suc-set, drop-cons}
 use borrow.Author.Tests.{le-leb, lt-leb, leb-true}
 use Rattle.csn1.specs.Told.{padded}
 use Rattle.csn1.proofs.Writing.{both-true}
@@ -116,11 +116,6 @@ stored-whole l vs n =
     sets-eq vs l 0 (omega arith)
     ∙ ap (λ (x : List ℕ). vs ++ x) (drop-of-length-le l {i = 0 + length vs} (omega arith)) ∙ append-nil vs
 
--- a run is what the array starts with
-pub stored-start : (l vs : List ℕ) (n : ℕ) → length vs ≡ n → n ≤ length l → take n (stored l 0 vs) ≡ vs
-unfolding stored
-stored-start l vs n e h = rw (sets-eq vs l 0 (omega arith)) (take-at vs (drop (0 + length vs) l) n e)
-
 -- ## The parts of a list, run behind run
 
 pub each-none : {A : Type 0} (f : A → List ℕ) (l : List ℕ) (at : ℕ) → l ≡ stored l at (each f [])
@@ -168,10 +163,6 @@ within-none : (l : List ℕ) → within l [] ≡ true
 unfolding within
 within-none [] = refl
 within-none (a ∷ l) = refl
-
-within-all : (ns most : List ℕ) → (ns ≡ []) ⊎ (most ≡ []) → within ns most ≡ true
-unfolding within
-within-all ns most d = ⊎-elim (λ e. rw e) (λ e. rw e (within-none ns)) d
 
 pub within-end : (ns most : List ℕ) (n i : ℕ) → (n ≡ length ns) ⊎ (n ≡ length most) → n ≤ i
     → within ns most ≡ within (drop i ns) (drop i most) → true ≡ within ns most

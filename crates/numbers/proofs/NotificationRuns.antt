@@ -1,15 +1,14 @@
 -- The numbers of NT/N Rest Octets, run behind run. Assumes nothing.
-use mathlib.Core.Path.{_≡_, refl, ap, ap₂, sym, _∙_}
-use mathlib.Core.List.{List, [], _∷_, _++_, map}
+use mathlib.Core.Path.{_≡_, refl, ap, sym, _∙_}
+use mathlib.Core.List.{List, [], _∷_, _++_, map, append-assoc}
 use mathlib.Core.Bool.{Bool, false}
-use Prim.Native.Nat.{ℕ, _+_, _*_, _≤_, _<_}
+use Prim.Native.Nat.{ℕ, _+_, _*_, _<_}
 use native.Mathlib.Omega.{arith}
 use lib.ListN.{length, getD, take, set, length-append}
-use Rattle.csn1.specs.Told.{asBit, isOne, padded}
+use Rattle.csn1.specs.Told.{asBit, isOne}
 use Rattle.nch.specs.declared.Release6.{Release6}
 use Rattle.nch.specs.declared.Release7.{Release7}
 use Rattle.nch.specs.declared.Notification.{Notification}
-use Rattle.nch.specs.declared.Reading.{Reading}
 use Rattle.nch.specs.Octets.{Release6Value, Release7Value, Value, readOctets}
 use Rattle.nch.specs.Told.{readOf, readingOf, release6Of, release7Of, reducedOf, randomOf, noReduced, noRandom, Shaped}
 use Rattle.csn1.specs.Format.{Res, ok, bad}
@@ -19,7 +18,7 @@ use mathlib.Core.Option.{Option, none, some}
 use Rattle.numbers.specs.Runs.{stored, each}
 use Rattle.numbers.specs.CallNumbers.{callNumbers}
 use Rattle.numbers.specs.NotificationNumbers.{reducedNumbers, randomNumbers, markNumbers, release6Numbers, partsNumbers, release7Numbers, numbersOf, readNumbers}
-use Rattle.numbers.proofs.Filling.{more, stored-whole, stored-start, stored-one, each-next, length-each}
+use Rattle.numbers.proofs.Filling.{more, stored-one, each-next, length-each}
 use Rattle.numbers.proofs.Lengths.{length-call, length-reduced, length-random, length-mark, length-parts}
 
 -- one more mark
@@ -34,27 +33,20 @@ mark-next xs l l′ at i v h e o =
 
 -- ## Release 6
 
-length-head6 : (r : Release6) (a : List ℕ) → a ≡ asBit (r .there) ∷ asBit (r .counted) ∷ r .cellcount ∷ r .reducedcount ∷ [] → length a ≡ 4
-length-head6 r a e = rw e
-
--- from place 47 on: four numbers, the reduced references, how many random entries, these
-pub release6-runs : (r : Release6) (l l1 l2 l4 head : List ℕ) → length (r .reduced) ≡ 5
-    → head ≡ asBit (r .there) ∷ asBit (r .counted) ∷ r .cellcount ∷ r .reducedcount ∷ []
-    → l1 ≡ stored l 47 head
-    → l2 ≡ stored l1 51 (each reducedNumbers (r .reduced))
-    → l4 ≡ stored (set l2 61 (r .randomcount)) 62 (each randomNumbers (r .randoms))
-    → l4 ≡ stored l 47 (release6Numbers r)
+-- from place 47 on: three numbers, how many reduced references, these, how many random entries, these
+pub release6-runs : (r : Release6) (l l1 l2 l3 : List ℕ) → length (r .reduced) ≡ 5
+    → l1 ≡ stored l 47 (asBit (r .there) ∷ asBit (r .counted) ∷ r .cellcount ∷ [])
+    → l2 ≡ stored l1 50 (r .reducedcount ∷ each reducedNumbers (r .reduced))
+    → l3 ≡ stored l2 61 (r .randomcount ∷ each randomNumbers (r .randoms))
+    → l3 ≡ stored l 47 (release6Numbers r)
 unfolding release6Numbers
-release6-runs r l l1 l2 l4 head n p e f g =
-    let x : length head ≡ 4 = length-head6 r head p in
+release6-runs r l l1 l2 l3 n e f g =
+    let head : List ℕ = asBit (r .there) ∷ asBit (r .counted) ∷ r .cellcount ∷ [] in
+    let reduceds : List ℕ = r .reducedcount ∷ each reducedNumbers (r .reduced) in
     let y : length (each reducedNumbers (r .reduced)) ≡ 10 = length-each reducedNumbers 2 length-reduced (r .reduced) ∙ rw n in
-    let u : length (head ++ each reducedNumbers (r .reduced)) ≡ 14 = length-append head (each reducedNumbers (r .reduced)) ∙ omega arith in
-    let w : length (head ++ each reducedNumbers (r .reduced) ++ (r .randomcount ∷ [])) ≡ 15 =
-    length-append (head ++ each reducedNumbers (r .reduced)) (r .randomcount ∷ []) ∙ omega arith in
-    let a = more 4 l l1 l2 47 head (each reducedNumbers (r .reduced)) e x f in
-    let b = more 14 l l2 (set l2 61 (r .randomcount)) 47 (head ++ each reducedNumbers (r .reduced)) (r .randomcount ∷ []) a u (stored-one l2 61 (r .randomcount)) in
-    more 15 l (set l2 61 (r .randomcount)) l4 47 (head ++ each reducedNumbers (r .reduced) ++ (r .randomcount ∷ [])) (each randomNumbers (r .randoms)) b w g
-    ∙ ap (λ (h : List ℕ). stored l 47 (h ++ each reducedNumbers (r .reduced) ++ (r .randomcount ∷ []) ++ each randomNumbers (r .randoms))) p
+    let a = more 3 l l1 l2 47 head reduceds e refl f in
+    more 14 l l2 l3 47 (head ++ reduceds) (r .randomcount ∷ each randomNumbers (r .randoms)) a (length-append head reduceds ∙ omega arith) g
+    ∙ ap (stored l 47) (sym (append-assoc (head ++ reduceds) (r .randomcount ∷ []) (each randomNumbers (r .randoms))))
 
 pub length-release6 : (r : Release6) → length (r .reduced) ≡ 5 → length (r .randoms) ≡ 9 → length (release6Numbers r) ≡ 42
 unfolding release6Numbers
@@ -102,32 +94,30 @@ module _ (m : Notification) (s : Shaped m) where
       let d = length-release7 (m .release7) (s .marks) in
       simp length-append (omega arith)
 
-  -- three numbers, the calls, the releases, and the bits used
-  pub all-runs : (used : ℕ) (l l1 l2 l3 l4 head : List ℕ)
-      → head ≡ asBit (m .numbered) ∷ m .nln ∷ m .callcount ∷ []
-      → l1 ≡ stored l 0 head
-      → l2 ≡ stored l1 3 (each callNumbers (m .calls))
+  -- two numbers, how many calls, these, the releases, and the bits used
+  pub all-runs : (used : ℕ) (l l1 l2 l3 l4 : List ℕ)
+      → l1 ≡ stored l 0 (asBit (m .numbered) ∷ m .nln ∷ [])
+      → l2 ≡ stored l1 2 (m .callcount ∷ each callNumbers (m .calls))
       → l3 ≡ stored l2 47 (release6Numbers (m .release6))
       → l4 ≡ stored l3 89 (release7Numbers (m .release7))
       → set l4 105 used ≡ stored l 0 (numbersOf m ++ (used ∷ []))
   unfolding numbersOf
-  all-runs used l l1 l2 l3 l4 head p e f g h =
-      let c = each callNumbers (m .calls) in
+  all-runs used l l1 l2 l3 l4 e f g h =
+      let head : List ℕ = asBit (m .numbered) ∷ m .nln ∷ [] in
+      let c : List ℕ = m .callcount ∷ each callNumbers (m .calls) in
       let six = release6Numbers (m .release6) in
       let seven = release7Numbers (m .release7) in
-      let x : length head ≡ 3 = rw p refl in
       let y : length (head ++ c) ≡ 47 = length-append head c ∙ omega (arith, length-calls) in
       let z : length (head ++ c ++ six) ≡ 89 = length-append (head ++ c) six ∙ omega (arith, length-release6 (m .release6) (s .reduced) (s .randoms)) in
       let w : length (head ++ c ++ six ++ seven) ≡ 105 = length-append (head ++ c ++ six) seven ∙ omega (arith, length-release7 (m .release7) (s .marks)) in
-      let a = more 3 l l1 l2 0 head c e x f in
+      let a = more 2 l l1 l2 0 head c e refl f in
       let b = more 47 l l2 l3 0 (head ++ c) six a y g in
       let d = more 89 l l3 l4 0 (head ++ c ++ six) seven b z h in
       more 105 l l4 (set l4 105 used) 0 (head ++ c ++ six ++ seven) (used ∷ []) d w (stored-one l4 105 used)
-      ∙ ap (λ (q : List ℕ). stored l 0 (q ++ c ++ six ++ seven ++ (used ∷ []))) p
 
 -- ## What `read` leaves
 
-shaped6 : (v : Option Release6Value) → (length (release6Of v .reduced) ≡ 5) × (length (release6Of v .randoms) ≡ 9)
+pub shaped6 : (v : Option Release6Value) → (length (release6Of v .reduced) ≡ 5) × (length (release6Of v .randoms) ≡ 9)
 shaped6 none = (refl, refl)
 shaped6 (some v) = (length-padded noReduced 5 (map reducedOf (v .1 .0)), length-padded noRandom 9 (map randomOf (v .1 .1)))
 
@@ -146,29 +136,8 @@ shaped (ok v q) =
       marks = shaped7 (v .1 .1 .1);
     }
 
-length-read : (s : List ℕ) → length (readNumbers s) ≡ 106
+pub length-read : (s : List ℕ) → length (readNumbers s) ≡ 106
 unfolding readNumbers
 length-read s =
     length-append (numbersOf (readOf s .«record»)) (readOf s .used ∷ [])
     ∙ ap (λ (k : ℕ). k + 1) (length-all (readOf s .«record») (shaped (readOctets s)))
-
-module _ (s : List ℕ) (r : Reading) (e : r ≡ readOf s) where
-  told : (l all : List ℕ) → all ≡ stored l 0 (numbersOf (r .«record») ++ (r .used ∷ [])) → all ≡ stored l 0 (readNumbers s)
-  unfolding readNumbers
-  told l all f = f ∙ ap (λ (x : Reading). stored l 0 (numbersOf (x .«record») ++ (x .used ∷ []))) e
-
-  -- where the array has the places: the numbers, and zeros behind them
-  pub read-there : (l all o : List ℕ) → 106 ≤ length l
-      → all ≡ stored l 0 (numbersOf (r .«record») ++ (r .used ∷ []))
-      → length all ≡ length l
-      → o ≡ padded 0 (length all) (take 106 all)
-      → (r .refusal .number ≡ readOf s .refusal .number) × (o ≡ padded 0 (length l) (readNumbers s))
-  read-there l all o h f n g =
-      (rw e, g ∙ ap₂ (padded 0) n (ap (take 106) (told l all f) ∙ stored-start l (readNumbers s) 106 (length-read s) h))
-
-  -- else as many of them as it has
-  pub read-most : (n : ℕ) (l all o : List ℕ) → length l ≡ 106
-      → all ≡ stored l 0 (numbersOf (r .«record») ++ (r .used ∷ []))
-      → o ≡ padded 0 n all
-      → (r .refusal .number ≡ readOf s .refusal .number) × (o ≡ padded 0 n (readNumbers s))
-  read-most n l all o z f g = (rw e, g ∙ ap (padded 0 n) (told l all f ∙ stored-whole l (readNumbers s) (length-read s ∙ sym z)))

@@ -4,4 +4,5 @@ pub mod Runs
 pub mod CallNumbers
 pub mod FacchNumbers
 pub mod NotificationNumbers
+pub mod Passing
 pub mod Promises

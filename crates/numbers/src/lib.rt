@@ -4,3 +4,4 @@ pub mod fill;
 mod limits;
 pub mod on_facch;
 pub mod on_nch;
+mod reading;

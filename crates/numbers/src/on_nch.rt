@@ -11,63 +11,12 @@ ghost use Rattle.numbers.specs.NotificationNumbers.{reducedNumbers, rand
 use crate::calls;
 use crate::fill;
 use crate::limits;
-use call::Call;
+use crate::reading;
 use nch::Notification;
 use nch::Random;
 use nch::Reduced;
 use nch::Release6;
 use nch::Release7;
-
-fn put_calls(numbers: &mut [u64], at: usize, items: [Call; 4])
-    requires { ⌜ at + 44 ≤ length (now numbers) ⌝ }
-    ensures { λ _. ⌜ now (numbers .exit) ≡ stored (now (numbers .entry)) at (each callNumbers items) ⌝ }
-{
-    let mut i: usize = 0;
-    while i < 4 {
-        let c = items[i];
-        let one = calls::numbers_of(c);
-        fill::run(&one, &mut *numbers, at + 11 * i);
-        i += 1;
-    }
-}
-
-fn reduced_numbers(r: Reduced) -> [u64; 2]
-    ensures { λ a. ⌜ a ≡ reducedNumbers r ⌝ }
-{
-    [r.reference as u64, r.vgcs as u64]
-}
-
-fn put_reduceds(numbers: &mut [u64], at: usize, items: [Reduced; 5])
-    requires { ⌜ at + 10 ≤ length (now numbers) ⌝ }
-    ensures { λ _. ⌜ now (numbers .exit) ≡ stored (now (numbers .entry)) at (each reducedNumbers items) ⌝ }
-{
-    let mut i: usize = 0;
-    while i < 5 {
-        let r = items[i];
-        let one = reduced_numbers(r);
-        fill::run(&one, &mut *numbers, at + 2 * i);
-        i += 1;
-    }
-}
-
-fn random_numbers(r: Random) -> [u64; 3]
-    ensures { λ a. ⌜ a ≡ randomNumbers r ⌝ }
-{
-    [r.segment as u64, r.given as u64, r.rand]
-}
-
-fn put_randoms(numbers: &mut [u64], at: usize, items: [Random; 9])
-    requires { ⌜ at + 27 ≤ length (now numbers) ⌝ }
-    ensures { λ _. ⌜ now (numbers .exit) ≡ stored (now (numbers .entry)) at (each randomNumbers items) ⌝ }
-{
-    let mut i: usize = 0;
-    while i < 9 {
-        let r = items[i];
-        let one = random_numbers(r);
-        fill::run(&one, &mut *numbers, at + 3 * i);
-        i += 1;
-    }
-}
 
 fn put_marks(numbers: &mut [u64], at: usize, items: [bool; 4])
     requires { ⌜ at + 4 ≤ length (now numbers) ⌝ }
@@ -78,24 +27,6 @@ fn put_marks(numbers: &mut [u64], at: usize, items: [bool; 4])
         numbers[at + i] = items[i] as u64;
         i += 1;
     }
-}
-
-fn put_release6(numbers: &mut [u64], r: Release6)
-    requires { ⌜ 89 ≤ length (now numbers) ⌝ }
-    ensures { λ _. ⌜ now (numbers .exit) ≡ stored (now (numbers .entry)) 47 (release6Numbers r) ⌝ }
-{
-    let head = [
-        r.there as u64,
-        r.counted as u64,
-        r.cellcount as u64,
-        r.reducedcount as u64,
-    ];
-    fill::run(&head, &mut *numbers, 47);
-    let reduced = r.reduced;
-    put_reduceds(&mut *numbers, 51, reduced);
-    numbers[61] = r.randomcount as u64;
-    let randoms = r.randoms;
-    put_randoms(&mut *numbers, 62, randoms);
 }
 
 fn parts_numbers(r: Release7) -> [u64; 10]
@@ -115,7 +46,7 @@ fn parts_numbers(r: Release7) -> [u64; 10]
     ]
 }
 
-fn put_release7(numbers: &mut [u64], r: Release7)
+pub(crate) fn put_release7(numbers: &mut [u64], r: Release7)
     requires { ⌜ 105 ≤ length (now numbers) ⌝ }
     ensures { λ _. ⌜ now (numbers .exit) ≡ stored (now (numbers .entry)) 89 (release7Numbers r) ⌝ }
 {
@@ -127,38 +58,18 @@ fn put_release7(numbers: &mut [u64], r: Release7)
     fill::run(&parts, &mut *numbers, 95);
 }
 
-// The record's 105 numbers and behind them the bits used.
-fn put_all(numbers: &mut [u64], m: Notification, used: usize)
-    requires { ⌜ 106 ≤ length (now numbers) ⌝ }
-    ensures { λ _. ⌜ now (numbers .exit) ≡ stored (now (numbers .entry)) 0 (numbersOf m ++ (used ∷ [])) ⌝ }
-{
-    let head = [m.numbered as u64, m.nln as u64, m.callcount as u64];
-    fill::run(&head, &mut *numbers, 0);
-    let calls = m.calls;
-    put_calls(&mut *numbers, 3, calls);
-    let six = m.release6;
-    put_release6(&mut *numbers, six);
-    let seven = m.release7;
-    put_release7(&mut *numbers, seven);
-    numbers[105] = used as u64;
-}
-
 // Reads any octets, into as many places as there are.
 pub fn read(octets: &[u8], numbers: &mut [u64]) -> u8
     ensures { λ r. ⌜ (r ≡ readOf (now (octets .entry)) .refusal .number)
         × (now (numbers .exit) ≡ padded 0 (length (now (numbers .entry))) (readNumbers (now (octets .entry)))) ⌝ }
 {
-    let r = nch::read(octets);
-    let m = r.record;
     if 106 <= numbers.len() {
-        put_all(&mut *numbers, m, r.used);
-        fill::clear(&mut *numbers, 106);
-        return r.refusal.number;
+        return reading::read_wide(octets, &mut *numbers);
     }
     let mut all = [0u64; 106];
-    put_all(&mut all, m, r.used);
+    let number = reading::read_wide(octets, &mut all);
     fill::store(&all, &mut *numbers);
-    r.refusal.number
+    number
 }
 
 fn reduced_at(numbers: &[u64], at: usize) -> Reduced

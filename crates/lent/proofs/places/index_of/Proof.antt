@@ -1,5 +1,5 @@
 -- `lent::places::index_of` meets its contract. Assumes nothing.
-use mathlib.Core.Path.{_≡_, ap, _∙_}
+use mathlib.Core.Path.{ap, _∙_}
 use native.Mathlib.Omega.{arith}
 use Rattle.receiver.specs.Model.{indexOf}
 use Rattle.lent.specs.Layout.{decodeOf}

@@ -1,0 +1,71 @@
+-- `lent::sweep::four_run` meets its contract. Assumes nothing.
+use Rattle.lent.proofs.Runs.{running-empty, running-four}
+use mathlib.Core.Path.{sym, _∙_}
+use borrow.Author.Tests.{not-false}
+use native.Mathlib.Omega.{arith}
+use Rattle.lent.proofs.sweep.four_run.Statement.{statement}
+use Rattle.lent.proofs.sweep.four_run.Tie as tie
+
+add-u32-at : tie.Need-add-u32-at
+add-u32-at c = omega arith
+
+u32-at-requires : tie.Need-u32-at-requires
+u32-at-requires c κs = omega arith
+
+returns : tie.Need-returns
+returns c = λ e. running-empty (c .before .before .before .args .tick) (c .before .before .before .args .b .now) 4 (c .before .before .before .args .from) 4 (omega arith) (sym (c .before .u32-at .ensures) ∙ c .if1 .taken)
+
+runs-requires : tie.Need-runs-requires
+runs-requires c κs = omega arith
+
+returns-2 : tie.Need-returns-2
+returns-2 c = λ e k h. cc
+
+add-runs : tie.Need-add-runs
+add-runs c = omega arith
+
+runs-requires-2 : tie.Need-runs-requires-2
+runs-requires-2 c κs = omega arith
+
+returns-3 : tie.Need-returns-3
+returns-3 c = λ e k h. cc
+
+add-runs-2 : tie.Need-add-runs-2
+add-runs-2 c = omega arith
+
+runs-requires-3 : tie.Need-runs-requires-3
+runs-requires-3 c κs = omega arith
+
+returns-4 : tie.Need-returns-4
+returns-4 c = λ e k h. cc
+
+add-runs-3 : tie.Need-add-runs-3
+add-runs-3 c = omega arith
+
+runs-requires-4 : tie.Need-runs-requires-4
+runs-requires-4 c κs = omega arith
+
+returns-5 : tie.Need-returns-5
+returns-5 c =
+    λ e.
+    let a = c .before .before .before .before .before .before .before .before .before .before .args in
+    running-four (a .tick) (a .b .now) (a .from) (c .before .before .before .before .before .before .runs .ensures (not-false _ (c .before .before .before .before .before .if2 .left))) (c .before .before .before .before .runs2 .ensures (not-false _ (c .before .before .before .if3 .left))) (c .before .before .runs3 .ensures (not-false _ (c .before .if4 .left))) (c .runs4 .ensures e)
+
+pub four-run-spec : {M : Type 1} → statement M
+four-run-spec =
+    tie.close
+    (tie.spec
+    add-u32-at
+    u32-at-requires
+    returns
+    runs-requires
+    returns-2
+    add-runs
+    runs-requires-2
+    returns-3
+    add-runs-2
+    runs-requires-3
+    returns-4
+    add-runs-3
+    runs-requires-4
+    returns-5)
