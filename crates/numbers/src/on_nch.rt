@@ -1,13 +1,10 @@
 // NT/N Rest Octets as numbers.
 ghost use mathlib.Core.Path.{_≡_};
-ghost use mathlib.Core.List.{_∷_, [], _++_};
 ghost use Prim.Native.Nat.{_+_, _≤_};
 ghost use lib.ListN.{length};
 ghost use Rattle.csn1.specs.Told.{padded};
 ghost use Rattle.nch.specs.Told.{readOf};
-ghost use Rattle.numbers.specs.Runs.{stored, each};
-ghost use Rattle.numbers.specs.CallNumbers.{callNumbers};
-ghost use Rattle.numbers.specs.NotificationNumbers.{reducedNumbers, randomNumbers, markNumbers, release6Numbers, partsNumbers, release7Numbers, numbersOf, readNumbers, reducedFrom, randomFrom, reducedsFrom, randomsFrom, release6From, release7From, recordFrom, writeCode, afterWrite, ReducedFits, Fits};
+ghost use Rattle.numbers.specs.NotificationNumbers.{readNumbers, reducedFrom, randomFrom, reducedsFrom, randomsFrom, release6From, release7From, recordFrom, writeCode, afterWrite, ReducedFits, Fits};
 use crate::calls;
 use crate::fill;
 use crate::limits;
@@ -17,46 +14,6 @@ use nch::Random;
 use nch::Reduced;
 use nch::Release6;
 use nch::Release7;
-
-fn put_marks(numbers: &mut [u64], at: usize, items: [bool; 4])
-    requires { ⌜ at + 4 ≤ length (now numbers) ⌝ }
-    ensures { λ _. ⌜ now (numbers .exit) ≡ stored (now (numbers .entry)) at (each markNumbers items) ⌝ }
-{
-    let mut i: usize = 0;
-    while i < 4 {
-        numbers[at + i] = items[i] as u64;
-        i += 1;
-    }
-}
-
-fn parts_numbers(r: Release7) -> [u64; 10]
-    ensures { λ a. ⌜ a ≡ partsNumbers r ⌝ }
-{
-    [
-        r.uplinked as u64,
-        r.uplink as u64,
-        r.amr as u64,
-        r.fullrated as u64,
-        r.fullrate as u64,
-        r.halfrated as u64,
-        r.halfrate as u64,
-        r.sms as u64,
-        r.confidential as u64,
-        r.private as u64,
-    ]
-}
-
-pub(crate) fn put_release7(numbers: &mut [u64], r: Release7)
-    requires { ⌜ 105 ≤ length (now numbers) ⌝ }
-    ensures { λ _. ⌜ now (numbers .exit) ≡ stored (now (numbers .entry)) 89 (release7Numbers r) ⌝ }
-{
-    let head = [r.there as u64, r.markcount as u64];
-    fill::run(&head, &mut *numbers, 89);
-    let marks = r.marks;
-    put_marks(&mut *numbers, 91, marks);
-    let parts = parts_numbers(r);
-    fill::run(&parts, &mut *numbers, 95);
-}
 
 // Reads any octets, into as many places as there are.
 pub fn read(octets: &[u8], numbers: &mut [u64]) -> u8

@@ -1,8 +1,7 @@
 // NT/N Rest Octets read straight into an array of zeros: no record is made, so that only what is there takes time.
 ghost use mathlib.Core.Path.{_≡_};
-ghost use mathlib.Core.List.{[], _∷_, _++_};
 ghost use mathlib.Core.Option.{some};
-ghost use Prim.Native.Nat.{_≤_};
+ghost use Prim.Native.Nat.{_+_, _≤_};
 ghost use lib.ListN.{length};
 ghost use Rattle.csn1.specs.Format.{ok, bad, _then_, list, release};
 ghost use Rattle.csn1.specs.Grammar.{format};
@@ -11,13 +10,14 @@ ghost use Rattle.call.specs.Call.{groupCall};
 ghost use Rattle.nch.specs.Octets.{reduced, random, release6};
 ghost use Rattle.nch.specs.Parts.{listedOf, reducedsAtOf, randomsAtOf, release6AtOf};
 ghost use Rattle.nch.specs.Told.{readOf};
-ghost use Rattle.numbers.specs.NotificationNumbers.{release6Numbers, readNumbers};
+ghost use Rattle.numbers.specs.Runs.{stored, each};
+ghost use Rattle.numbers.specs.NotificationNumbers.{markNumbers, release6Numbers, partsNumbers, release7Numbers, readNumbers};
 ghost use Rattle.numbers.specs.Passing.{Zeros, Filled, callsRun, reducedsRun, randomsRun, callsPassed, reducedsPassed, randomsPassed, release6Passed};
 use crate::calls;
 use crate::fill;
-use crate::on_nch::put_release7;
 use bits::Got;
 use csn1::Refusal;
+use nch::Release7;
 
 // What the reader of the calls passes on: why not, how many are ciphered and how many described, and the place behind them.
 pub struct CallsPassed {
@@ -235,6 +235,48 @@ fn fill_release6(s: &[u8], at: usize, numbers: &mut [u64]) -> Release6Passed
         };
     }
     fill_parts6(s, l.at, &mut *numbers)
+}
+
+// Emergency_Ind of each mark's place.
+fn put_marks(numbers: &mut [u64], at: usize, items: [bool; 4])
+    requires { ⌜ at + 4 ≤ length (now numbers) ⌝ }
+    ensures { λ _. ⌜ now (numbers .exit) ≡ stored (now (numbers .entry)) at (each markNumbers items) ⌝ }
+{
+    let mut i: usize = 0;
+    while i < 4 {
+        numbers[at + i] = items[i] as u64;
+        i += 1;
+    }
+}
+
+fn parts_numbers(r: Release7) -> [u64; 10]
+    ensures { λ a. ⌜ a ≡ partsNumbers r ⌝ }
+{
+    [
+        r.uplinked as u64,
+        r.uplink as u64,
+        r.amr as u64,
+        r.fullrated as u64,
+        r.fullrate as u64,
+        r.halfrated as u64,
+        r.halfrate as u64,
+        r.sms as u64,
+        r.confidential as u64,
+        r.private as u64,
+    ]
+}
+
+// Release 7, in the places from 89 on.
+fn put_release7(numbers: &mut [u64], r: Release7)
+    requires { ⌜ 105 ≤ length (now numbers) ⌝ }
+    ensures { λ _. ⌜ now (numbers .exit) ≡ stored (now (numbers .entry)) 89 (release7Numbers r) ⌝ }
+{
+    let head = [r.there as u64, r.markcount as u64];
+    fill::run(&head, &mut *numbers, 89);
+    let marks = r.marks;
+    put_marks(&mut *numbers, 91, marks);
+    let parts = parts_numbers(r);
+    fill::run(&parts, &mut *numbers, 95);
 }
 
 // The whole message. In twenty octets the NLN is always there; refusals 6 and 7 come behind all parts.

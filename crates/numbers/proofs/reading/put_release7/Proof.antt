@@ -1,12 +1,12 @@
--- `numbers::on_nch::put_release7` meets its contract. Assumes nothing.
+-- `numbers::reading::put_release7` meets its contract. Assumes nothing.
 use denote.Ref.{now}
 use Rattle.csn1.proofs.Writing.{flag-byte}
 use mathlib.Core.Path.{_≡_, sym, _∙_}
 use lib.ListN.{length, length-map}
 use Rattle.numbers.proofs.NotificationRuns.{release7-runs}
 use native.Mathlib.Omega.{arith}
-use Rattle.numbers.proofs.on_nch.put_release7.Statement.{statement}
-use Rattle.numbers.proofs.on_nch.put_release7.Tie as tie
+use Rattle.numbers.proofs.reading.put_release7.Statement.{statement}
+use Rattle.numbers.proofs.reading.put_release7.Tie as tie
 
 cast-t6 : tie.Need-cast-t6
 cast-t6 c = omega arith

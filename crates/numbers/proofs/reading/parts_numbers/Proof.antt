@@ -1,9 +1,9 @@
--- `numbers::on_nch::parts_numbers` meets its contract. Assumes nothing.
+-- `numbers::reading::parts_numbers` meets its contract. Assumes nothing.
 use Rattle.numbers.specs.NotificationNumbers.{partsNumbers}
 use Rattle.csn1.proofs.Writing.{flag-byte}
 use native.Mathlib.Omega.{arith}
-use Rattle.numbers.proofs.on_nch.parts_numbers.Statement.{statement}
-use Rattle.numbers.proofs.on_nch.parts_numbers.Tie as tie
+use Rattle.numbers.proofs.reading.parts_numbers.Statement.{statement}
+use Rattle.numbers.proofs.reading.parts_numbers.Tie as tie
 
 cast-t2 : tie.Need-cast-t2
 cast-t2 c = omega arith

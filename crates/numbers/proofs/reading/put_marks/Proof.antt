@@ -1,4 +1,4 @@
--- `numbers::on_nch::put_marks` meets its contract. Assumes nothing.
+-- `numbers::reading::put_marks` meets its contract. Assumes nothing.
 use denote.Ref.{now}
 use mathlib.Core.Path.{_≡_, refl, ap, _∙_}
 use mathlib.Core.Bool.{Bool, false}
@@ -12,8 +12,8 @@ use Rattle.numbers.proofs.Filling.{each-none}
 use Rattle.numbers.proofs.NotificationRuns.{mark-next}
 use Rattle.csn1.proofs.Writing.{flag-byte}
 use native.Mathlib.Omega.{arith}
-use Rattle.numbers.proofs.on_nch.put_marks.Statement.{statement}
-use Rattle.numbers.proofs.on_nch.put_marks.Tie as tie
+use Rattle.numbers.proofs.reading.put_marks.Statement.{statement}
+use Rattle.numbers.proofs.reading.put_marks.Tie as tie
 
 abbrev Inv-loop : tie.InvT-loop
 Inv-loop numbers₀ at items i₀ numbers i = (i ≤ 4) × ((length numbers ≡ length numbers₀) × (numbers ≡ stored numbers₀ at (each markNumbers (take i items))))
