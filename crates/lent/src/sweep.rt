@@ -247,12 +247,6 @@ fn expire(b: &mut [u8], tick: u32) -> Lost
     ensures { λ r. ⌜ (r .expired ≡ expiredOf (decodeOf (now (b .entry))) tick (decodeOf (now (b .entry)) .slots))
         × ((r .dropped ≡ droppedOf (decodeOf (now (b .entry))) tick Keep) × (now (b .exit) ≡ sweptOctets tick Keep (now (b .entry)))) ⌝ }
 {
-    if idle(b) {
-        return Lost {
-            expired: 0,
-            dropped: 0,
-        };
-    }
     if all_run(b, tick) {
         return Lost {
             expired: 0,
@@ -262,8 +256,8 @@ fn expire(b: &mut [u8], tick: u32) -> Lost
     sweep_all(b, tick, Rule::Keep)
 }
 
-// What ran out goes, then what the rule takes.
-fn expire_and_take(b: &mut [u8], tick: u32, rule: Rule) -> Lost
+// The sweep of an event. The rule is taken apart here, so that the usual one, which takes nothing, is passed on to nobody.
+pub(crate) fn sweep(b: &mut [u8], tick: u32, rule: Rule) -> Lost
     requires { ⌜ length (now b) ≡ 6984 ⌝ }
     ensures { λ r. ⌜ (r .expired ≡ expiredOf (decodeOf (now (b .entry))) tick (decodeOf (now (b .entry)) .slots))
         × ((r .dropped ≡ droppedOf (decodeOf (now (b .entry))) tick rule) × (now (b .exit) ≡ sweptOctets tick rule (now (b .entry)))) ⌝ }
@@ -274,18 +268,9 @@ fn expire_and_take(b: &mut [u8], tick: u32, rule: Rule) -> Lost
             dropped: 0,
         };
     }
-    sweep_all(b, tick, rule)
-}
-
-// The sweep of an event. The rule is taken apart here, so that the usual one, which takes nothing, is passed on by nobody.
-pub(crate) fn sweep(b: &mut [u8], tick: u32, rule: Rule) -> Lost
-    requires { ⌜ length (now b) ≡ 6984 ⌝ }
-    ensures { λ r. ⌜ (r .expired ≡ expiredOf (decodeOf (now (b .entry))) tick (decodeOf (now (b .entry)) .slots))
-        × ((r .dropped ≡ droppedOf (decodeOf (now (b .entry))) tick rule) × (now (b .exit) ≡ sweptOctets tick rule (now (b .entry)))) ⌝ }
-{
     match rule {
         Rule::Keep => expire(b, tick),
-        Rule::Others(i) => expire_and_take(b, tick, Rule::Others(i)),
-        Rule::Side(ch) => expire_and_take(b, tick, Rule::Side(ch)),
+        Rule::Others(i) => sweep_all(b, tick, Rule::Others(i)),
+        Rule::Side(ch) => sweep_all(b, tick, Rule::Side(ch)),
     }
 }

@@ -1,13 +1,12 @@
 -- `lent::sweep::expire` meets its contract. Assumes nothing.
-use Rattle.lent.proofs.Runs.{swept-idle, swept-running}
 use borrow.Author.Needs.{needs}
-use Rattle.receiver.specs.declared.Rule.the-variants.{Keep}
+use Rattle.lent.proofs.Runs.{swept-running}
 use native.Mathlib.Omega.{arith}
 use Rattle.lent.proofs.sweep.expire.Statement.{statement}
 use Rattle.lent.proofs.sweep.expire.Tie as tie
 
-idle-requires : tie.Need-idle-requires
-idle-requires c κs = omega arith
+all-run-requires : tie.Need-all-run-requires
+all-run-requires c κs = omega arith
 
 same-length : tie.Need-same-length
 same-length c = omega arith
@@ -15,38 +14,18 @@ same-length c = omega arith
 returns : tie.Need-returns
 returns c =
     let a = c .before .before .before .before .args in
-    swept-idle (a .tick) Keep (a .b .now) (c .before .idle .ensures (c .if1 .taken))
+    swept-running (a .tick) (a .b .now) (c .before .all-run .ensures (c .if1 .taken))
 
-all-run-requires : tie.Need-all-run-requires
-all-run-requires c κs = omega arith
+sweep-all-requires : tie.Need-sweep-all-requires
+sweep-all-requires c κs = omega arith
 
 same-length-2 : tie.Need-same-length-2
 same-length-2 c = omega arith
 
 returns-2 : tie.Need-returns-2
-returns-2 c =
-    let a = c .before .before .before .before .before .before .before .args in
-    swept-running (a .tick) (a .b .now) (c .before .all-run .ensures (c .if2 .taken))
-
-sweep-all-requires : tie.Need-sweep-all-requires
-sweep-all-requires c κs = omega arith
-
-same-length-3 : tie.Need-same-length-3
-same-length-3 c = omega arith
-
-returns-3 : tie.Need-returns-3
-returns-3 c = search needs
+returns-2 c = search needs
 
 pub expire-spec : {M : Type 1} → statement M
 expire-spec =
     tie.close
-    (tie.spec
-    idle-requires
-    same-length
-    returns
-    all-run-requires
-    same-length-2
-    returns-2
-    sweep-all-requires
-    same-length-3
-    returns-3)
+    (tie.spec all-run-requires same-length returns sweep-all-requires same-length-2 returns-2)
