@@ -51,7 +51,7 @@ if [ $# = 0 ]; then
     unset ASTERNHAKEN_LIB # it may name another archive
     make lib || { failed=1; finish; }
     set -- target/lib
-    [ ! -e target/native/libasternhaken.a ] || set -- target/lib target/native
+    [ "$(uname -m)" = x86_64 ] || set -- target/lib target/native
 fi
 
 # ---- The header alone ----
@@ -92,7 +92,8 @@ wrong_lines() {
         head -c 5000 /dev/zero | tr '\0' 1
         printf '\nti\0ck 1\ntick 1'
     } | $run "$tmp/control_room" > "$tmp/shown" 2> "$tmp/wrong"
-    [ $? = 1 ] || return 1
+    status=$?
+    [ $status = 1 ] || { echo "status $status"; cat "$tmp/wrong"; return 1; }
     diff - "$tmp/wrong" <<'END' || return 1
 line 1: no setup was accepted yet
 line 2: a setup is TICK T3206 T3208 CALL..

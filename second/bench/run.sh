@@ -9,7 +9,7 @@
 # ASTERNHAKEN_LIB is the folder of libasternhaken.a, ASTERNHAKEN_INCLUDE that of asternhaken.h; ASTERNHAKEN_BENCH is where to build.
 #
 # The toolchain's archives are for x86-64. On another processor such an archive runs under an emulator, where a time says nothing: no times are then printed, and the
-# tables count instructions. There, the archive in target/native stands in for it, which native.sh made for this processor of the very same module; that one is timed.
+# tables count instructions. There, the archive in target/native stands in for it, which tools/native-archive made for this processor of the very same module; that one is timed.
 set -eu
 here=$(cd "$(dirname "$0")" && pwd)
 top=$here/../..
@@ -103,7 +103,7 @@ sizes()
     echo
     if [ -n "$archive" ]; then
         size -t "$archive" | awk 'END { print "- the archive, all of it: text " $1 ", data " $2 ", bss " $3 }'
-        echo "- what it asks of others (\`nm -u\`):$(nm -u "$archive" | awk '$1 == "U" { printf " %s", $2 }')"
+        echo "- what it asks of others (\`nm -u\`):$(nm -u "$archive" | awk '$1 == "U" && !seen[$2]++ { printf " %s", $2 }')"
     fi
     size "$build/plain-gcc.o" | awk -v gcc="$gcc_named" 'END { print "- plain by " gcc ", without the GCC elements and the writers: text " $1 }'
     size "$build/plain-clang.o" | awk 'END { print "- plain by clang -O3, likewise: text " $1 }'
