@@ -4,6 +4,7 @@ pub mod Decoding
 pub mod Finding
 pub mod Sweeps
 pub mod Runs
+pub mod NoneOut
 pub mod Tellings
 pub mod Fresh
 pub mod Outcomes

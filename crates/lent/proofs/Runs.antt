@@ -2,22 +2,20 @@
 use mathlib.Core.Path.{_≡_, refl, ap, ap₂, sym, _∙_}
 use mathlib.Core.Bool.{Bool, true, false, not}
 use mathlib.Core.List.{List}
-use Prim.Native.Nat.{ℕ, zero, suc, _+_, _-_, _*_, _≤_, _<_}
+use Prim.Native.Nat.{ℕ, _+_, _*_, _≤_, _<_}
 use native.Mathlib.Nat.{add-zero, zero-add, add-assoc}
 use native.Mathlib.Numerals.{add-one}
 use native.Mathlib.Omega.{arith}
-use lib.Dec.{leb, ltb}
+use lib.Dec.{leb}
 use lib.ListN.{length, getD}
-use borrow.Author.Tests.{ne-eqb, lt-leb, ltb-true, ltb-false}
+use borrow.Author.Tests.{ne-eqb}
 use Rattle.bits.specs.Field.{both}
 use Rattle.csn1.specs.Told.{asBit}
 use Rattle.receiver.specs.declared.Rule.{Rule}
-use Rattle.receiver.specs.declared.Rule.the-variants.{Keep}
-use Rattle.receiver.specs.Model.{emptySlot, isHeld, wrapSub, spares, ranOutOf, takenOf, countAt, expiredOf, droppedOf}
-use Rattle.receiver.proofs.Dropping.{by-test}
+use Rattle.receiver.specs.Model.{emptySlot, wrapSub, spares, ranOutOf, takenOf, countAt, expiredOf, droppedOf}
 use Rattle.lent.specs.Octets.{leAt, table}
 use Rattle.lent.specs.Layout.{slotNo, decodeOf, putSlot}
-use Rattle.lent.specs.Events.{timerNo, Running, goes, sweptAt, sweptRun, sweptOctets}
+use Rattle.lent.specs.Events.{timerNo, goes, sweptAt, sweptRun, sweptOctets}
 use Rattle.lent.proofs.Numbers.{zero-le}
 use Rattle.lent.proofs.Decoding.{slot-held}
 use Rattle.lent.proofs.Sweeps.{ran-empty, taken-empty, swept-kept, goes-empty, length-run, run-then, run-timer, run-slot, run-still, countRun, count-zero, count-next, count-then, count-most, count-ext, count-table, count-expired, count-dropped, still-expired, still-dropped}
@@ -46,7 +44,7 @@ module _ (now : ℕ) (rule : Rule) (l : List ℕ) (i x d : ℕ) where
       (rw (ran-empty now l i e) (sym (add-zero x)), (rw (taken-empty now rule l i e) (sym (add-zero d)), sym (swept-kept now rule l i (goes-empty now rule l i e))))
 
   module _ (held : getD l (216 + i) 0 ≡ 0 → ⊥) where
-    ran-held : ranAt now l i ≡ leb (timerNo l i) (wrapSub now (leAt 4 l (320 + 4 * i)))
+    pub ran-held : ranAt now l i ≡ leb (timerNo l i) (wrapSub now (leAt 4 l (320 + 4 * i)))
     unfolding ranOutOf
     ran-held = rw (slot-held l i held, ne-eqb _ _ held)
 
@@ -214,74 +212,3 @@ module _ (now : ℕ) (rule : Rule) (l : List ℕ) where
 
   pub swept-idle : ((k : ℕ) → k < 100 → getD l (216 + k) 0 ≡ 0) → Swept 0 0 l
   swept-idle z = swept-said l 0 0 (places-empty now rule 0 100 l 0 0 (λ k q. rw (zero-add k) (z k q)))
-
--- ## Places and octets of which something holds, span after span
-
-span-join : (P : ℕ → Type 0) (at m n : ℕ) → ((k : ℕ) → k < m → P (at + k)) → ((k : ℕ) → k < n → P (at + m + k)) → (k : ℕ) → k < m + n → P (at + k)
-span-join P at m n p q k h =
-    by-test (ltb k m) (λ t. p k (ltb-true k m t))
-    (λ t.
-    let g : m ≤ k = ltb-false k m t in
-    let e : at + m + (k - m) ≡ at + k = omega arith in
-    rw e at (q (k - m) (omega arith)))
-
-abbrev pub Zeros : List ℕ → ℕ → ℕ → Type 0
-Zeros l at n = (k : ℕ) → k < n → getD l (at + k) 0 ≡ 0
-
-zeros-join : (l : List ℕ) (at m n : ℕ) → Zeros l at m → Zeros l (at + m) n → Zeros l at (m + n)
-zeros-join l at m n p q = span-join (λ j. getD l j 0 ≡ 0) at m n p q
-
--- 32 of them, by four numbers
-pub quiet-32 : (l : List ℕ) (at : ℕ) → leAt 8 l at ≡ 0 → leAt 8 l (at + 8) ≡ 0 → leAt 8 l (at + 16) ≡ 0 → leAt 8 l (at + 24) ≡ 0 → Zeros l at 32
-quiet-32 l at p q r s =
-    zeros-join l at 24 8 (zeros-join l at 16 8 (zeros-join l at 8 8 (zero-le 8 l at p) (zero-le 8 l (at + 8) q)) (zero-le 8 l (at + 16) r))
-    (zero-le 8 l (at + 24) s)
-
--- the kinds, by three times 32 and a number of four
-pub quiet-100 : (l : List ℕ) → Zeros l 216 32 → Zeros l 248 32 → Zeros l 280 32 → leAt 4 l 312 ≡ 0 → Zeros l 216 100
-quiet-100 l p q r s = zeros-join l 216 96 4 (zeros-join l 216 64 32 (zeros-join l 216 32 32 p q) r) (zero-le 4 l 312 s)
-
--- ## No half has run out
-
-module _ (now : ℕ) (l : List ℕ) where
-  pub runs-empty : (i : ℕ) → getD l (216 + i) 0 ≡ 0 → ranAt now l i ≡ false
-  runs-empty i e = ran-empty now l i e
-
-  -- by the numbers of the code's test
-  pub runs-held : (i timer since age : ℕ) → (getD l (216 + i) 0 ≡ 0 → ⊥) → timer ≡ timerNo l i → since ≡ leAt 4 l (320 + 4 * i) → age ≡ wrapSub now since
-      → age < timer → ranAt now l i ≡ false
-  runs-held i timer since age held p q r h = ran-held now Keep l i 0 0 held ∙ age-said now l i timer since age p q r ∙ lt-leb timer age h
-
-  -- n places whose kinds are one number 0
-  pub running-empty : (w from n : ℕ) → n ≤ w → leAt w l (216 + from) ≡ 0 → Running now l from n
-  running-empty w from n h e k q = ran-empty now l (from + k) (ap (λ j. getD l j 0) (sym (add-assoc 216 from k)) ∙ zero-le w l (216 + from) e k (omega arith))
-
-  pub running-quiet : (from n : ℕ) → Zeros l (216 + from) n → Running now l from n
-  running-quiet from n z k q = ran-empty now l (from + k) (ap (λ j. getD l j 0) (sym (add-assoc 216 from k)) ∙ z k q)
-
-  pub running-none : (from : ℕ) → Running now l from 0
-  running-none from k h = absurd (omega arith)
-
-  pub running-more : (from m n : ℕ) → Running now l from m → Running now l (from + m) n → Running now l from (m + n)
-  running-more from m n p q = span-join (λ j. ranAt now l j ≡ false) from m n p q
-
-  pub running-four : (from : ℕ) → ranAt now l from ≡ false → ranAt now l (from + 1) ≡ false → ranAt now l (from + 2) ≡ false → ranAt now l (from + 3) ≡ false
-      → Running now l from 4
-  running-four from p q r s zero h = rw (add-zero from) p
-  running-four from p q r s (suc zero) h = q
-  running-four from p q r s (suc (suc zero)) h = r
-  running-four from p q r s (suc (suc (suc zero))) h = s
-  running-four from p q r s (suc (suc (suc (suc k)))) h = absurd (omega arith)
-
-  never : (a b : Bool) → both a (both b false) ≡ false
-  never true true = refl
-  never true false = refl
-  never false b = refl
-
-  taken-keep : (i : ℕ) → takenAt now Keep l i ≡ false
-  unfolding takenOf
-  taken-keep i = never (isHeld (slotNo l i)) (not (ranAt now l i))
-
-  -- a rule that takes nothing then leaves all
-  pub swept-running : Running now l 0 100 → Swept now Keep l 0 0 l
-  swept-running e = swept-said now Keep l l 0 0 (places-still now Keep 0 100 l 0 0 (λ k q. rw (e k q) (taken-keep (0 + k))))

@@ -1,6 +1,7 @@
 // The receiver's state as lent octets, and its events in place on them (docs/STATE.md has the layout).
 mod answer;
 pub mod events;
+mod looking;
 mod octets;
 pub mod parts;
 mod places;

@@ -1,6 +1,6 @@
 -- `lent::sweep::expire` meets its contract. Assumes nothing.
 use borrow.Author.Needs.{needs}
-use Rattle.lent.proofs.Runs.{swept-running}
+use Rattle.lent.proofs.NoneOut.{swept-running}
 use native.Mathlib.Omega.{arith}
 use Rattle.lent.proofs.sweep.expire.Statement.{statement}
 use Rattle.lent.proofs.sweep.expire.Tie as tie

@@ -1,10 +1,10 @@
--- `lent::sweep::four_run` meets its contract. Assumes nothing.
-use Rattle.lent.proofs.Runs.{running-empty, running-four}
+-- `lent::looking::four_run` meets its contract. Assumes nothing.
+use Rattle.lent.proofs.NoneOut.{running-empty, running-four}
 use mathlib.Core.Path.{sym, _∙_}
 use borrow.Author.Tests.{not-false}
 use native.Mathlib.Omega.{arith}
-use Rattle.lent.proofs.sweep.four_run.Statement.{statement}
-use Rattle.lent.proofs.sweep.four_run.Tie as tie
+use Rattle.lent.proofs.looking.four_run.Statement.{statement}
+use Rattle.lent.proofs.looking.four_run.Tie as tie
 
 add-u32-at : tie.Need-add-u32-at
 add-u32-at c = omega arith
@@ -13,7 +13,7 @@ u32-at-requires : tie.Need-u32-at-requires
 u32-at-requires c κs = omega arith
 
 returns : tie.Need-returns
-returns c = λ e. running-empty (c .before .before .before .args .tick) (c .before .before .before .args .b .now) 4 (c .before .before .before .args .from) 4 (omega arith) (sym (c .before .u32-at .ensures) ∙ c .if1 .taken)
+returns c = λ e. running-empty (c .before .before .before .args .tick) (c .before .before .before .args .b .now) (c .before .before .before .args .from) 4 (sym (c .before .u32-at .ensures) ∙ c .if1 .taken)
 
 runs-requires : tie.Need-runs-requires
 runs-requires c κs = omega arith

@@ -1,10 +1,10 @@
--- `lent::sweep::idle` meets its contract. Assumes nothing.
+-- `lent::looking::idle` meets its contract. Assumes nothing.
 use mathlib.Core.Path.{sym, _∙_}
 use native.Mathlib.Omega.{arith}
 use borrow.Author.Tests.{eqb-true, not-false}
-use Rattle.lent.proofs.Runs.{quiet-100}
-use Rattle.lent.proofs.sweep.idle.Statement.{statement}
-use Rattle.lent.proofs.sweep.idle.Tie as tie
+use Rattle.lent.proofs.NoneOut.{quiet-100}
+use Rattle.lent.proofs.looking.idle.Statement.{statement}
+use Rattle.lent.proofs.looking.idle.Tie as tie
 
 quiet-requires : tie.Need-quiet-requires
 quiet-requires c κs = omega arith

@@ -1,12 +1,12 @@
--- `lent::sweep::many_run` meets its contract. Assumes nothing.
-use Rattle.lent.proofs.Runs.{running-none, running-quiet, running-more}
+-- `lent::looking::many_run` meets its contract. Assumes nothing.
+use Rattle.lent.proofs.NoneOut.{running-none, running-quiet, running-more}
 use mathlib.Core.Path.{_≡_}
 use Prim.Native.Nat.{_-_, _%_, _≤_}
 use borrow.Author.Tests.{not-false}
 use Rattle.lent.specs.Events.{Running}
 use native.Mathlib.Omega.{arith}
-use Rattle.lent.proofs.sweep.many_run.Statement.{statement}
-use Rattle.lent.proofs.sweep.many_run.Tie as tie
+use Rattle.lent.proofs.looking.many_run.Statement.{statement}
+use Rattle.lent.proofs.looking.many_run.Tie as tie
 
 abbrev Inv-loop : tie.InvT-loop
 Inv-loop b tick from k₀ k = (k ≤ 32) × ((k % 8 ≡ 0) × Running tick b from k)

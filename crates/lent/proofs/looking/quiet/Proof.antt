@@ -1,10 +1,10 @@
--- `lent::sweep::quiet` meets its contract. Assumes nothing.
+-- `lent::looking::quiet` meets its contract. Assumes nothing.
 use mathlib.Core.Path.{_≡_, sym, _∙_}
 use native.Mathlib.Omega.{arith}
 use borrow.Author.Tests.{eqb-true}
-use Rattle.lent.proofs.Runs.{quiet-32}
-use Rattle.lent.proofs.sweep.quiet.Statement.{statement}
-use Rattle.lent.proofs.sweep.quiet.Tie as tie
+use Rattle.lent.proofs.NoneOut.{quiet-32}
+use Rattle.lent.proofs.looking.quiet.Statement.{statement}
+use Rattle.lent.proofs.looking.quiet.Tie as tie
 
 u64-at-requires : tie.Need-u64-at-requires
 u64-at-requires c κs = omega arith

@@ -1,13 +1,13 @@
--- `lent::sweep::all_run` meets its contract. Assumes nothing.
-use Rattle.lent.proofs.Runs.{running-none, running-more}
+-- `lent::looking::all_run` meets its contract. Assumes nothing.
+use Rattle.lent.proofs.NoneOut.{running-none, running-more}
 use mathlib.Core.Path.{_≡_}
 use Prim.Native.Nat.{_+_, _-_, _%_, _≤_}
 use native.Mathlib.Nat.{zero-add}
 use borrow.Author.Tests.{not-false}
 use Rattle.lent.specs.Events.{Running}
 use native.Mathlib.Omega.{arith}
-use Rattle.lent.proofs.sweep.all_run.Statement.{statement}
-use Rattle.lent.proofs.sweep.all_run.Tie as tie
+use Rattle.lent.proofs.looking.all_run.Statement.{statement}
+use Rattle.lent.proofs.looking.all_run.Tie as tie
 
 abbrev Inv-loop : tie.InvT-loop
 Inv-loop b tick i₀ i = (i ≤ 96) × ((i % 32 ≡ 0) × Running tick b 0 i)

@@ -1,11 +1,12 @@
--- `lent::sweep::runs` meets its contract. Assumes nothing.
-use Rattle.lent.proofs.Runs.{runs-empty, runs-held}
+-- `lent::looking::runs` meets its contract. Assumes nothing.
+use Rattle.lent.proofs.NoneOut.{runs-held}
+use Rattle.lent.proofs.Sweeps.{ran-empty}
 use mathlib.Core.Path.{ap₂, _∙_}
 use borrow.Author.Tests.{ltb-true}
 use Rattle.receiver.specs.Model.{timerAt}
 use native.Mathlib.Omega.{arith}
-use Rattle.lent.proofs.sweep.runs.Statement.{statement}
-use Rattle.lent.proofs.sweep.runs.Tie as tie
+use Rattle.lent.proofs.looking.runs.Statement.{statement}
+use Rattle.lent.proofs.looking.runs.Tie as tie
 
 add-if1 : tie.Need-add-if1
 add-if1 c = omega arith
@@ -14,7 +15,7 @@ shared-slice-read-if1 : tie.Need-shared-slice-read-if1
 shared-slice-read-if1 c = omega arith
 
 returns : tie.Need-returns
-returns c = λ e. runs-empty (c .before .before .before .args .tick) (c .before .before .before .args .b .now) (c .before .before .before .args .i) (c .if1 .taken)
+returns c = λ e. ran-empty (c .before .before .before .args .tick) (c .before .before .before .args .b .now) (c .before .before .before .args .i) (c .if1 .taken)
 
 u32-at-requires : tie.Need-u32-at-requires
 u32-at-requires c κs = omega arith

@@ -1,10 +1,10 @@
--- `lent::sweep::eight_run` meets its contract. Assumes nothing.
-use Rattle.lent.proofs.Runs.{running-empty, running-more}
+-- `lent::looking::eight_run` meets its contract. Assumes nothing.
+use Rattle.lent.proofs.NoneOut.{running-empty, running-more}
 use mathlib.Core.Path.{sym, _∙_}
 use borrow.Author.Tests.{not-false}
 use native.Mathlib.Omega.{arith}
-use Rattle.lent.proofs.sweep.eight_run.Statement.{statement}
-use Rattle.lent.proofs.sweep.eight_run.Tie as tie
+use Rattle.lent.proofs.looking.eight_run.Statement.{statement}
+use Rattle.lent.proofs.looking.eight_run.Tie as tie
 
 add-u64-at : tie.Need-add-u64-at
 add-u64-at c = omega arith
@@ -13,7 +13,7 @@ u64-at-requires : tie.Need-u64-at-requires
 u64-at-requires c κs = omega arith
 
 returns : tie.Need-returns
-returns c = λ e. running-empty (c .before .before .before .args .tick) (c .before .before .before .args .b .now) 8 (c .before .before .before .args .from) 8 (omega arith) (sym (c .before .u64-at .ensures) ∙ c .if1 .taken)
+returns c = λ e. running-empty (c .before .before .before .args .tick) (c .before .before .before .args .b .now) (c .before .before .before .args .from) 8 (sym (c .before .u64-at .ensures) ∙ c .if1 .taken)
 
 four-run-requires : tie.Need-four-run-requires
 four-run-requires c κs = omega arith
