@@ -19,7 +19,7 @@ both-false : (b : Bool) → both b false ≡ false
 both-false true = refl
 both-false false = refl
 
-both-true : (a b : Bool) → both a b ≡ true → (a ≡ true) × (b ≡ true)
+pub both-true : (a b : Bool) → both a b ≡ true → (a ≡ true) × (b ≡ true)
 both-true true b e = (refl, e)
 both-true false b e = (cc, cc)
 

@@ -15,7 +15,8 @@ use Rattle.bits.specs.Field.{both, pick, afterPut}
 use Rattle.csn1.specs.Format.{numBits, putBits, rowBits, whenBits}
 use Rattle.csn1.specs.Grammar.{format}
 use Rattle.csn1.specs.Told.{there, asBit}
-use Rattle.csn1.proofs.Writing.{both-true, flag-lt, flag-byte, put-none, put-last, put-then, put-length, num-join, led-join, row-led, glued, glued-lt}
+use Rattle.bits.proofs.Answers.{both-true}
+use Rattle.csn1.proofs.Writing.{flag-lt, flag-byte, put-none, put-last, put-then, put-length, num-join, led-join, row-led, glued, glued-lt}
 use Rattle.call.specs.declared.Call.{Call}
 use Rattle.call.specs.declared.Description.{Description}
 use Rattle.call.specs.Call.{groupCall, description, frequencies, callValue, descriptionValue, frequenciesOf}

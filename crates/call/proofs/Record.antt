@@ -13,7 +13,8 @@ use Rattle.bits.specs.Field.{both, pick}
 use Rattle.csn1.specs.Format.{rowFits, optFits, whenFits}
 use Rattle.csn1.specs.Grammar.{format}
 use Rattle.csn1.specs.Told.{isThere, there, isOne, asBit}
-use Rattle.csn1.proofs.Writing.{fits-length, both-true, bit-back, flag-back, flag-lt, there-back}
+use Rattle.bits.proofs.Answers.{both-true}
+use Rattle.csn1.proofs.Writing.{fits-length, bit-back, flag-back, flag-lt, there-back}
 use Rattle.call.specs.declared.Call.{Call}
 use Rattle.call.specs.declared.Description.{Description}
 use Rattle.call.specs.Call.{CallValue, DescriptionValue, groupCall, description, frequencies, callOf, callValue, descriptionOf, descriptionValue, withFrequencies, noCall, noDescription, oneToEight, hoppingBit}

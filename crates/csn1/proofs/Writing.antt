@@ -18,10 +18,6 @@ use Rattle.csn1.proofs.Holding.{put-join, put-num, length-numBits}
 
 -- ## Tests, bits and flags
 
-pub both-true : (a b : Bool) → both a b ≡ true → (a ≡ true) × (b ≡ true)
-both-true true b e = (refl, e)
-both-true false b e = (cc, cc)
-
 pub bit-back : (b : ℕ) → b < 2 → asBit (isOne b) ≡ b
 bit-back zero h = refl
 bit-back (suc zero) h = refl

@@ -7,7 +7,7 @@ use borrow.Author.Tests.{eq-eqb, ne-eqb, le-leb, eqb-true, eqb-false, leb-true, 
 use Prim.Native.Nat.{ℕ, _+_, _*_, _/_, _%_, _≤_, _<_}
 use lib.ListN.{length}
 use lib.Dec.{leb, eqb}
-use Rattle.gcc.specs.Octet.{pick}
+use Rattle.bits.specs.Field.{pick}
 use Rattle.gcc.specs.Numeral.{spell, worth}
 use Rattle.gcc.specs.CallReference.{numberOf, priorityOf, bare, refused, told, readOf, writeNumber, writeTo}
 use Rattle.gcc.specs.Promises as promises

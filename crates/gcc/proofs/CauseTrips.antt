@@ -10,13 +10,15 @@ use Prim.Native.Nat.{ℕ, zero, suc, _+_, _-_, _≤_, _<_, zero-le, suc-le-suc}
 use lib.Dec.{leb, eqb}
 use lib.ListN.{length, take, drop, replicate, length-drop, take-append-drop}
 use lib.Seq.{length-take-le, take-append-seam, drop-append-seam}
-use Rattle.gcc.specs.Octet.{pick, both, within}
+use Rattle.bits.specs.Field.{pick, both}
+use Rattle.gcc.specs.Octet.{within}
 use Rattle.gcc.specs.Numeral.{Spells}
 use Rattle.gcc.specs.Cause.{parse, led, places, causeOf, refused, told, readOf, form, partsOf, diagnosticsOf, right, writeNumber, writeTo}
 use Rattle.gcc.specs.Promises as promises
 use Rattle.gcc.specs.declared.cause.Cause.{Cause}
 use Rattle.gcc.specs.declared.cause.Reading.{Reading}
-use Rattle.gcc.proofs.Tests.{both-true, passed}
+use Rattle.bits.proofs.Answers.{both-true}
+use Rattle.gcc.proofs.Tests.{passed}
 use Rattle.gcc.proofs.Lists.{within-each}
 use Rattle.gcc.proofs.Causes.{marked-or-plain}
 

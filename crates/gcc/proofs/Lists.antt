@@ -9,8 +9,9 @@ use Prim.Native.Nat.{ℕ, zero, suc, _+_, _-_, _≤_, _<_}
 use lib.ListN.{length, getD, set, take, drop, length-drop, length-append}
 use lib.Seq.{drop-cons, drop-length, take-all, take-length, take-at, paste, paste-suc}
 use lib.Dec.{leb}
-use Rattle.gcc.specs.Octet.{both, within, copied}
-use Rattle.gcc.proofs.Tests.{both-true}
+use Rattle.bits.specs.Field.{both}
+use Rattle.gcc.specs.Octet.{within, copied}
+use Rattle.bits.proofs.Answers.{both-true}
 
 -- an octet in the range leaves the question to the octets behind it
 pub within-next : (lo hi i : ℕ) (s : List ℕ) → i < length s → lo ≤ getD s i 0 → getD s i 0 ≤ hi → within lo hi (drop i s) ≡ within lo hi (drop (i + 1) s)

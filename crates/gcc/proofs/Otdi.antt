@@ -6,7 +6,8 @@ use borrow.Author.Tests.{eq-eqb, le-leb, eqb-true, leb-true}
 use Prim.Native.Nat.{ℕ, _^_, _<_}
 use lib.ListN.{length}
 use lib.Dec.{leb, eqb}
-use Rattle.gcc.specs.Octet.{pick, within}
+use Rattle.bits.specs.Field.{pick}
+use Rattle.gcc.specs.Octet.{within}
 use Rattle.gcc.specs.Numeral.{spell, worth}
 use Rattle.gcc.specs.Digits.{refused, told, readOf, writeNumber, writeTo}
 use Rattle.gcc.specs.Promises as promises

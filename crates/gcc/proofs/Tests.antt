@@ -7,15 +7,8 @@ use native.Mathlib.Omega.{arith}
 use borrow.Author.Tests.{eqb-true}
 use Prim.Native.Nat.{ℕ, zero, suc, _<_}
 use lib.Dec.{eqb}
-use Rattle.gcc.specs.Octet.{pick, both}
-
--- both parts of a test that passes
-pub both-true : (a b : Bool) → both a b ≡ true → (a ≡ true) × (b ≡ true)
-both-true true b e = (refl, e)
-both-true false b e = (e, absurd (never e))
-  where
-    never : false ≡ true → ⊥
-    never e = let z : _≡_ {A = ℕ} 0 1 = cc in omega arith
+use Rattle.bits.specs.Field.{pick, both}
+use Rattle.bits.proofs.Answers.{both-true}
 
 -- a choice that is numbered 0, where the other is not
 pub passed : {A : Type 0} (number : A → ℕ) (b : Bool) (x y : A) → 0 < number y → number (pick b x y) ≡ 0 → (b ≡ true) × (number x ≡ 0)

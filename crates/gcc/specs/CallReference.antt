@@ -5,7 +5,8 @@ use Prim.Native.Nat.{ℕ, _+_, _*_, _/_, _%_}
 use Prim.Native.String.{String}
 use lib.ListN.{length}
 use lib.Dec.{leb, eqb}
-use Rattle.gcc.specs.Octet.{pick, named}
+use Rattle.bits.specs.Field.{pick}
+use Rattle.gcc.specs.Octet.{named}
 use Rattle.gcc.specs.Numeral.{worth, spell}
 use Rattle.gcc.specs.declared.«call_reference».Priority.{Priority}
 use Rattle.gcc.specs.declared.«call_reference».Priority.the-variants.{Absent, Reserved, Level4, Level3, Level2, Level1, Level0, LevelB, LevelA}

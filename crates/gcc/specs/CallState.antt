@@ -4,7 +4,8 @@ use mathlib.Core.Bool.{Bool}
 use Prim.Native.Nat.{ℕ}
 use Prim.Native.String.{String}
 use lib.Dec.{leb, ltb}
-use Rattle.gcc.specs.Octet.{pick, named}
+use Rattle.bits.specs.Field.{pick}
+use Rattle.gcc.specs.Octet.{named}
 use Rattle.gcc.specs.declared.«call_state».State.{State}
 use Rattle.gcc.specs.declared.«call_state».State.the-variants.{U0, U1, U2sl, U3, U4, U5, U0p, U2wr, U2r, U2ws, U2sr, U2nc, Reserved}
 use Rattle.gcc.specs.declared.«call_state».Reading.{Reading}

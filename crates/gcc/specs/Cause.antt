@@ -6,7 +6,8 @@ use Prim.Native.Nat.{ℕ, suc, _+_, _-_}
 use Prim.Native.String.{String}
 use lib.ListN.{length, getD, take, drop, replicate}
 use lib.Dec.{leb, eqb}
-use Rattle.gcc.specs.Octet.{pick, both, within}
+use Rattle.bits.specs.Field.{pick, both}
+use Rattle.gcc.specs.Octet.{within}
 use Rattle.gcc.specs.declared.cause.Meaning.{Meaning}
 use Rattle.gcc.specs.declared.cause.Meaning.the-variants.{Nothing, Specific, Unspecific}
 use Rattle.gcc.specs.declared.cause.Cause.{Cause}

@@ -3,7 +3,8 @@ use mathlib.Core.List.{List}
 use Prim.Native.Nat.{ℕ}
 use lib.ListN.{length, replicate}
 use lib.Dec.{leb, eqb}
-use Rattle.gcc.specs.Octet.{pick, within}
+use Rattle.bits.specs.Field.{pick}
+use Rattle.gcc.specs.Octet.{within}
 use Rattle.gcc.specs.Numeral.{worth, spell}
 use Rattle.gcc.specs.declared.digits.Reading.{Reading}
 

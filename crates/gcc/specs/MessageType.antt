@@ -4,7 +4,8 @@ use mathlib.Core.Bool.{Bool, false}
 use Prim.Native.Nat.{ℕ, _+_, _*_, _/_, _%_}
 use Prim.Native.String.{String}
 use lib.Dec.{eqb}
-use Rattle.gcc.specs.Octet.{pick, bit, unit, named}
+use Rattle.bits.specs.Field.{pick}
+use Rattle.gcc.specs.Octet.{bit, unit, named}
 use Rattle.gcc.specs.declared.«message_type».Kind.{Kind}
 use Rattle.gcc.specs.declared.«message_type».Kind.the-variants.{ImmediateSetup, Setup, Connect, Termination, TerminationRequest, TerminationReject, Status, GetStatus, SetParameter, ImmediateSetup2, Nothing}
 use Rattle.gcc.specs.declared.«message_type».Reading.{Reading}

@@ -1,17 +1,10 @@
--- What the elements share: a choice by a test, bits as 44.068 numbers them, and the meaning that a table gives a number. Assumes nothing.
+-- What the elements share: bits as 44.068 numbers them, and the meaning that a table gives a number. Assumes nothing.
 use mathlib.Core.List.{List, [], _∷_, _++_}
 use mathlib.Core.Bool.{Bool, true, false}
 use Prim.Native.Nat.{ℕ, _+_, _-_, _/_, _%_, _^_}
 use lib.ListN.{length, take, drop}
 use lib.Dec.{leb, eqb}
-
-abbrev pub pick : {A : Type 0} → Bool → A → A → A
-pick true a b = a
-pick false a b = b
-
-abbrev pub both : Bool → Bool → Bool
-both true b = b
-both false b = false
+use Rattle.bits.specs.Field.{pick, both}
 
 -- whether bit n is set: bit 8 is the highest of an octet, bit 1 the lowest
 unfoldable pub bit : ℕ → ℕ → Bool

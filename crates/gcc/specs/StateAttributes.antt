@@ -2,7 +2,8 @@
 use mathlib.Core.Bool.{false}
 use Prim.Native.Nat.{ℕ, _+_, _*_}
 use lib.Dec.{leb}
-use Rattle.gcc.specs.Octet.{pick, bit, unit}
+use Rattle.bits.specs.Field.{pick}
+use Rattle.gcc.specs.Octet.{bit, unit}
 use Rattle.gcc.specs.declared.«state_attributes».Attributes.{Attributes}
 use Rattle.gcc.specs.declared.«state_attributes».Reading.{Reading}
 

@@ -4,7 +4,8 @@ use mathlib.Core.Bool.{Bool}
 use Prim.Native.Nat.{ℕ, _%_}
 use Prim.Native.String.{String}
 use lib.Dec.{leb}
-use Rattle.gcc.specs.Octet.{pick, named}
+use Rattle.bits.specs.Field.{pick}
+use Rattle.gcc.specs.Octet.{named}
 use Rattle.gcc.specs.declared.talker.Priority.{Priority}
 use Rattle.gcc.specs.declared.talker.Priority.the-variants.{Normal, Privileged, Emergency}
 use Rattle.gcc.specs.declared.talker.Reading.{Reading}

@@ -11,9 +11,9 @@ use Rattle.csn1.specs.Told.{padded}
 use Rattle.gcc.specs.Cause.{writeNumber}
 use Rattle.gcc.specs.declared.cause.Meaning.{Meaning}
 use Rattle.gcc.specs.declared.cause.Meaning.the-variants.{Nothing, Specific, Unspecific}
-use Rattle.numbers.specs.Limits.{within}
+use Rattle.arrays.specs.Limits.{within}
 use Rattle.gcc_numbers.specs.ElementNumbers.{meaningNumbers, causeMost, causeFrom, wrongLength, causeCode}
-use Rattle.numbers.proofs.Filling.{sets-append}
+use Rattle.arrays.proofs.Running.{sets-append}
 use Rattle.gcc_numbers.proofs.Octets.{Most, most-of, widened}
 
 -- ## Reading

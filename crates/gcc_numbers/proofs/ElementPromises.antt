@@ -1,12 +1,13 @@
 -- The promises of specs/ElementPromises.antt, each by the tests that its element's reader makes. Assumes nothing.
-use mathlib.Core.Path.{_≡_, refl}
+use mathlib.Core.Path.{refl}
 use mathlib.Core.List.{List}
 use mathlib.Core.Bool.{Bool, true, false}
 use mathlib.Core.Option.{Option, none, some}
 use Prim.Native.Nat.{ℕ, _+_, _*_, _/_, _%_}
 use lib.ListN.{length}
 use lib.Dec.{leb, eqb}
-use Rattle.gcc.specs.Octet.{pick, bit}
+use Rattle.bits.specs.Field.{pick}
+use Rattle.gcc.specs.Octet.{bit}
 use Rattle.gcc.specs.Numeral.{worth, spell}
 use Rattle.gcc.specs.MessageType as message-type
 use Rattle.gcc.specs.CallReference as call-reference

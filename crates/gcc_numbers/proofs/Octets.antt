@@ -1,6 +1,6 @@
 -- Octets in arrays of numbers, and back. Assumes nothing.
-use mathlib.Core.Path.{_≡_, refl, ap, sym, _∙_}
-use mathlib.Core.List.{List, [], _∷_, _++_}
+use mathlib.Core.Path.{_≡_, ap, _∙_}
+use mathlib.Core.List.{List, [], _∷_}
 use mathlib.Core.Bool.{Bool, true, false}
 use Prim.Native.Nat.{ℕ, zero, suc, _+_, _≤_, _<_}
 use native.Mathlib.Numerals.{add-one}
@@ -8,14 +8,15 @@ use native.Mathlib.Omega.{arith}
 use lib.Dec.{leb}
 use lib.ListN.{length, getD, take, drop, set, replicate, length-replicate, getD-replicate}
 use lib.Seq.{sets, take-suc, length-take-le, getD-drop}
-use mathlib.Core.Logic.{inl}
 use borrow.Author.Tests.{leb-true}
 use Rattle.csn1.specs.Told.{padded}
-use Rattle.csn1.proofs.Writing.{both-true}
+use Rattle.bits.proofs.Answers.{both-true}
 use Rattle.csn1.proofs.Lists.{padded-none}
-use Rattle.numbers.specs.Limits.{within, octet}
+use Rattle.arrays.specs.Limits.{within, octet}
 use Rattle.gcc_numbers.specs.ElementNumbers.{AllOctets}
-use Rattle.numbers.proofs.Filling.{sets-zeros, sets-append, within-next, within-not, within-end}
+use Rattle.arrays.proofs.Running.{sets-append}
+use Rattle.arrays.proofs.Filling.{sets-zeros}
+use Rattle.arrays.proofs.Within.{within-next, within-not, within-end}
 
 -- ## Whether each number is an octet
 
@@ -32,7 +33,7 @@ module _ (ns : List ℕ) (i : ℕ) (e : within ns (Most ns) ≡ within (drop i n
       within-not ns (Most ns) i h (omega (arith, length-replicate (length ns) octet)) (omega (arith, getD-replicate (length ns) i octet 0 h)) e
 
   pub octets-end : length ns ≤ i → true ≡ within ns (Most ns)
-  octets-end h = within-end ns (Most ns) (length ns) i (inl refl) h e
+  octets-end h = within-end ns (Most ns) i (omega arith) e
 
 -- where that holds, each is
 pub octets-all : (ns : List ℕ) (n : ℕ) → length ns ≡ n → within ns (replicate n octet) ≡ true → AllOctets ns

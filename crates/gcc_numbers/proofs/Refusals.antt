@@ -5,9 +5,9 @@ use mathlib.Core.Bool.{Bool, true, false, not}
 use Prim.Native.Nat.{ℕ, _≤_, _<_}
 use lib.ListN.{length, getD}
 use borrow.Author.Tests.{eq-eqb, ne-eqb, not-true, not-false}
-use Rattle.numbers.specs.Limits.{within}
+use Rattle.arrays.specs.Limits.{within}
 use Rattle.gcc_numbers.specs.ElementNumbers.{fits, codeFor}
-use Rattle.numbers.proofs.Filling.{within-at}
+use Rattle.arrays.proofs.Within.{within-at}
 
 module _ (n : ℕ) (most ns : List ℕ) where
   pub code-13 : (own : ℕ) → (length ns ≡ n → ⊥) → 13 ≡ codeFor n most ns own

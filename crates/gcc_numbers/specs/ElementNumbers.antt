@@ -25,7 +25,7 @@ use Rattle.gcc.specs.declared.«state_attributes».Attributes.{Attributes}
 use Rattle.gcc.specs.declared.sms.Reading.{Reading as SmsRead}
 use Rattle.gcc.specs.declared.sms.Indications.{Indications}
 use Rattle.gcc.specs.declared.talker.Reading.{Reading as TalkerRead}
-use Rattle.numbers.specs.Limits.{within, flag, octet, word}
+use Rattle.arrays.specs.Limits.{within, flag, octet, word}
 
 -- ## Writing: 13 for another length than n, 12 for a number that its field cannot hold, then the writer's own number
 

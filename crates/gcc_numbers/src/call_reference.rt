@@ -5,8 +5,9 @@ ghost use Rattle.bits.specs.Field.{pick};
 ghost use Rattle.csn1.specs.Told.{padded};
 ghost use Rattle.gcc.specs.CallReference.{readOf, writeNumber, writeTo};
 ghost use Rattle.gcc_numbers.specs.ElementNumbers.{fits, codeFor, referenceNumbers, referenceMost, priorityFrom};
+use arrays::fill;
+use arrays::limits;
 use gcc::call_reference;
-use numbers::fill;
 
 const MOST: [u64; 3] = [4294967295, 1, 7];
 
@@ -28,7 +29,7 @@ pub fn write(numbers: &[u64], octets: &mut [u8]) -> u8
     if numbers.len() != 3 {
         return 13;
     }
-    if !fill::holds(numbers, &MOST) {
+    if !limits::holds(numbers, &MOST) {
         return 12;
     }
     let priority = call_reference::priority_of((16 * numbers[1] + 2 * numbers[2]) as u8);

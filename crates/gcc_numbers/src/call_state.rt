@@ -6,8 +6,9 @@ ghost use Rattle.bits.specs.Field.{pick};
 ghost use Rattle.csn1.specs.Told.{padded};
 ghost use Rattle.gcc.specs.CallState.{stateOf, readOf, writtenOf};
 ghost use Rattle.gcc_numbers.specs.ElementNumbers.{codeFor, stateNumbers, stateMost};
+use arrays::fill;
+use arrays::limits;
 use gcc::call_state;
-use numbers::fill;
 
 const MOST: [u64; 1] = [12];
 
@@ -28,7 +29,7 @@ pub fn write(numbers: &[u64], half: &mut u8) -> u8
     if numbers.len() != 1 {
         return 13;
     }
-    if !fill::holds(numbers, &MOST) {
+    if !limits::holds(numbers, &MOST) {
         return 12;
     }
     let w = call_state::write(call_state::state_of(numbers[0] as u8));

@@ -11,10 +11,10 @@ ghost use Rattle.gcc_numbers.specs.ElementNumbers.{AllOctets, fits, mean
 use crate::are_octets;
 use crate::narrow;
 use crate::widen;
+use arrays::fill;
 use gcc::cause;
 use gcc::cause::Cause;
 use gcc::cause::Meaning;
-use numbers::fill;
 
 // The first number of a meaning.
 fn kind_of(meaning: Meaning) -> u64
@@ -43,7 +43,7 @@ fn put_part(numbers: &mut [u64], at: usize, count: u8, octets: &[u8])
     requires { ⌜ at + length (now octets) ≤ 1023 ⌝ }
     ensures { λ _. ⌜ now (numbers .exit) ≡ sets (now (numbers .entry)) at (count ∷ now (octets .entry)) ⌝ }
 {
-    numbers::fill::put(&mut *numbers, at, count as u64);
+    arrays::fill::put(&mut *numbers, at, count as u64);
     widen(octets, &mut *numbers, at + 1);
 }
 
@@ -58,8 +58,8 @@ pub fn read(octets: &[u8], numbers: &mut [u64]) -> u8
     put_part(&mut *numbers, 0, all.count, &septets);
     let diagnostics = all.diagnostics;
     put_part(&mut *numbers, 256, all.size, &diagnostics);
-    numbers::fill::put(&mut *numbers, 512, kind_of(meaning));
-    numbers::fill::put(&mut *numbers, 513, value_of(meaning));
+    arrays::fill::put(&mut *numbers, 512, kind_of(meaning));
+    arrays::fill::put(&mut *numbers, 513, value_of(meaning));
     m.refusal
 }
 

@@ -8,8 +8,8 @@ ghost use Rattle.gcc_numbers.specs.ElementNumbers.{fits, codeFor, digits
 use crate::are_octets;
 use crate::narrow;
 use crate::widen;
+use arrays::fill;
 use gcc::digits;
-use numbers::fill;
 
 pub fn read(octets: &[u8], numbers: &mut [u64]) -> u8
     ensures { λ r. ⌜ (r ≡ readOf (now (octets .entry)) .refusal) × (now (numbers .exit) ≡ padded 0 (length (now (numbers .entry))) (readOf (now (octets .entry)) .digits)) ⌝ }

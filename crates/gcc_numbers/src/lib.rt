@@ -3,7 +3,7 @@ ghost use mathlib.Core.Path.{_≡_};
 ghost use Prim.Native.Nat.{_+_, _≤_};
 ghost use lib.ListN.{length, replicate};
 ghost use lib.Seq.{sets};
-ghost use Rattle.numbers.specs.Limits.{within, octet};
+ghost use Rattle.arrays.specs.Limits.{within, octet};
 ghost use Rattle.gcc_numbers.specs.ElementNumbers.{AllOctets};
 
 pub mod call_reference;
@@ -49,7 +49,7 @@ fn widen(octets: &[u8], numbers: &mut [u64], at: usize)
 {
     let mut i: usize = 0;
     while i < octets.len() {
-        numbers::fill::put(&mut *numbers, at + i, octets[i] as u64);
+        arrays::fill::put(&mut *numbers, at + i, octets[i] as u64);
         i += 1;
     }
 }

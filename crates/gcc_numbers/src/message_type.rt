@@ -6,8 +6,9 @@ ghost use Rattle.bits.specs.Field.{pick};
 ghost use Rattle.csn1.specs.Told.{padded};
 ghost use Rattle.gcc.specs.MessageType.{kindOf, readOf, writtenOf};
 ghost use Rattle.gcc_numbers.specs.ElementNumbers.{codeFor, isFlag, typeNumbers, typeMost};
+use arrays::fill;
+use arrays::limits;
 use gcc::message_type;
-use numbers::fill;
 
 const MOST: [u64; 2] = [1, 255];
 
@@ -28,7 +29,7 @@ pub fn write(numbers: &[u64], octet: &mut u8) -> u8
     if numbers.len() != 2 {
         return 13;
     }
-    if !fill::holds(numbers, &MOST) {
+    if !limits::holds(numbers, &MOST) {
         return 12;
     }
     let w = message_type::write(numbers[0] == 1, message_type::kind_of(numbers[1] as u8));

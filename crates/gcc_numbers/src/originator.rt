@@ -6,8 +6,9 @@ ghost use Rattle.bits.specs.Field.{pick};
 ghost use Rattle.csn1.specs.Told.{padded};
 ghost use Rattle.gcc.specs.Originator.{readOf, writtenOf};
 ghost use Rattle.gcc_numbers.specs.ElementNumbers.{codeFor, isFlag, originatorNumbers, originatorMost};
+use arrays::fill;
+use arrays::limits;
 use gcc::originator;
-use numbers::fill;
 
 const MOST: [u64; 1] = [1];
 
@@ -27,7 +28,7 @@ pub fn write(numbers: &[u64], half: &mut u8) -> u8
     if numbers.len() != 1 {
         return 13;
     }
-    if !fill::holds(numbers, &MOST) {
+    if !limits::holds(numbers, &MOST) {
         return 12;
     }
     *half = originator::write(numbers[0] == 1);

@@ -6,9 +6,10 @@ ghost use Rattle.bits.specs.Field.{pick};
 ghost use Rattle.csn1.specs.Told.{padded};
 ghost use Rattle.gcc.specs.StateAttributes.{readOf, writtenOf};
 ghost use Rattle.gcc_numbers.specs.ElementNumbers.{codeFor, attributesNumbers, attributesMost, attributesFrom};
+use arrays::fill;
+use arrays::limits;
 use gcc::state_attributes;
 use gcc::state_attributes::Attributes;
-use numbers::fill;
 
 const MOST: [u64; 4] = [1, 1, 1, 1];
 
@@ -29,7 +30,7 @@ pub fn write(numbers: &[u64], half: &mut u8) -> u8
     if numbers.len() != 4 {
         return 13;
     }
-    if !fill::holds(numbers, &MOST) {
+    if !limits::holds(numbers, &MOST) {
         return 12;
     }
     *half = state_attributes::write(Attributes {

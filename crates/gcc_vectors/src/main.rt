@@ -7,28 +7,10 @@ ghost use Prim.Native.Nat.{_+_, _≤_};
 ghost use lib.ListN.{length};
 use gcc::call_reference::Priority;
 use libc::STDOUT_FILENO;
+use text::Line;
 
 fn wide(octet: u8) -> u64 {
     octet as u64
-}
-
-// The value of a hexadecimal digit, or 16 for any other character.
-fn digit(c: u8) -> u8
-    ensures { λ r. ⌜ r ≤ 16 ⌝ }
-{
-    if c < b'0' {
-        return 16;
-    }
-    if c <= b'9' {
-        return c - b'0';
-    }
-    if c < b'a' {
-        return 16;
-    }
-    if c <= b'f' {
-        return c - b'a' + 10;
-    }
-    16
 }
 
 // What two hexadecimal digits say.
@@ -40,51 +22,44 @@ enum Octet {
 fn octet_at(text: &[u8], at: usize) -> Octet
     requires { ⌜ at + 2 ≤ length (now text) ⌝ }
 {
-    let high = digit(text[at]);
-    let low = digit(text[at + 1]);
-    if high == 16 {
+    let high = text::digit(text[at]);
+    let low = text::digit(text[at + 1]);
+    if 16 <= high {
         return Octet::Nothing;
     }
-    if low == 16 {
+    if 16 <= low {
         return Octet::Nothing;
     }
     Octet::Is(high * 16 + low)
 }
 
 // The three bits of a priority, or a dash where there is none.
-fn show_priority(priority: Priority) {
+fn show_priority(line: Line, priority: Priority) -> Line {
     let number = gcc::call_reference::number_of(priority);
     if number == 0 {
-        io::write_all(STDOUT_FILENO, b"-");
-        return;
+        return line.word(b"\t-");
     }
-    io::print_decimal(STDOUT_FILENO, wide(number / 2 % 8));
+    line.number(b"\t", wide(number / 2 % 8))
+}
+
+fn show_octets(line: Line, octets: [u8; 4]) -> Line {
+    line.hex(b"\t", wide(octets[0]), 2)
+        .hex(b"", wide(octets[1]), 2)
+        .hex(b"", wide(octets[2]), 2)
+        .hex(b"", wide(octets[3]), 2)
 }
 
 // The row of four octets: reference, priority, and the octets that the writer makes of the two.
-fn show_row(octets: [u8; 4]) {
+fn show_row(octets: [u8; 4]) -> Line {
     let r = gcc::call_reference::read(&octets);
     if r.refusal != 0 {
-        io::print_decimal(STDOUT_FILENO, wide(r.refusal));
-        io::write_all(STDOUT_FILENO, b"\n");
-        return;
+        return Line::new().number(b"", wide(r.refusal));
     }
-    io::print_decimal(STDOUT_FILENO, r.reference as u64);
-    io::write_all(STDOUT_FILENO, b"\t");
     let priority = r.priority;
-    show_priority(priority);
-    io::write_all(STDOUT_FILENO, b"\t");
+    let line = show_priority(Line::new().number(b"", r.reference as u64), priority);
     let mut back = [0u8; 4];
     gcc::call_reference::write(r.reference, priority, &mut back);
-    show_octets(back);
-}
-
-fn show_octets(octets: [u8; 4]) {
-    io::print_hex(STDOUT_FILENO, wide(octets[0]), 2);
-    io::print_hex(STDOUT_FILENO, wide(octets[1]), 2);
-    io::print_hex(STDOUT_FILENO, wide(octets[2]), 2);
-    io::print_hex(STDOUT_FILENO, wide(octets[3]), 2);
-    io::write_all(STDOUT_FILENO, b"\n");
+    show_octets(line, back)
 }
 
 // The row of the eight hexadecimal digits from a place on; a line that ends otherwise, as the first, has none.
@@ -103,7 +78,7 @@ fn show_line(text: &[u8], at: usize)
     let Octet::Is(d) = octet_at(text, at + 6) else {
         return;
     };
-    show_row([a, b, c, d]);
+    show_row([a, b, c, d]).end(STDOUT_FILENO);
 }
 
 fn show_lines(text: &[u8]) {
@@ -124,6 +99,5 @@ fn main() {
     show_lines(&text[..n]);
     let r = gcc::digits::read(&[0xe8, 0xd4, 0xa5, 0x0f, 0xff]);
     let digits = r.digits;
-    io::write_all(STDOUT_FILENO, &digits);
-    io::write_all(STDOUT_FILENO, b"\n");
+    Line::new().word(&digits).end(STDOUT_FILENO);
 }

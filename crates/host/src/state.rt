@@ -2,8 +2,10 @@
 ghost use mathlib.Core.Path.{_≡_};
 ghost use Rattle.bits.specs.Field.{pick};
 ghost use Rattle.receiver.specs.Step.{nch, facch, joined, reselected, handedOver, reconfigured, tick};
-ghost use Rattle.lent.specs.Layout.{lastOf};
-ghost use Rattle.lent.specs.Events.{Fed, SetUp, isState, partOf};
+ghost use Rattle.layout.specs.Layout.{isState, lastOf};
+ghost use Rattle.layout.specs.Setup.{SetUp};
+ghost use Rattle.layout.specs.Parts.{partOf};
+ghost use Rattle.lent.specs.Events.{Fed};
 use receiver::Setup;
 
 #[no_mangle]
@@ -16,7 +18,7 @@ pub extern "C" fn asternhaken_setup(
 ) -> u32
     ensures { λ r. ⌜ SetUp (now (state .entry)) (record { tick = first; t3206 = t3206; t3208 = t3208 }) (now (keys .entry)) (now (state .exit)) r ⌝ }
 {
-    lent::setup::setup(
+    layout::setup::setup(
         state,
         Setup {
             tick: first,
@@ -82,8 +84,8 @@ pub extern "C" fn asternhaken_read(state: &[u8], entry: u32, part: u32, value: &
     ensures { λ r. ⌜ (r ≡ pick (isState (now (state .entry))) 0 13)
         × (now (value .exit) ≡ pick (isState (now (state .entry))) (partOf (lastOf (now (state .entry))) entry part) 0) ⌝ }
 {
-    *value = lent::parts::part_of(state, entry as usize, part as usize);
-    if state.len() != lent::LENGTH {
+    *value = layout::parts::part_of(state, entry as usize, part as usize);
+    if state.len() != layout::LENGTH {
         return 13;
     }
     0

@@ -4,7 +4,7 @@ ghost use lib.ListN.{length};
 ghost use Rattle.csn1.specs.Told.{padded};
 ghost use Rattle.nch.specs.Told.{readOf as readNch};
 ghost use Rattle.facch.specs.Told.{readOf as readFacch};
-ghost use Rattle.numbers.specs.NotificationNumbers.{readNumbers as nchNumbers, writeCode, afterWrite};
+ghost use Rattle.nch.specs.NotificationNumbers.{readNumbers as nchNumbers, writeCode, afterWrite};
 ghost use Rattle.numbers.specs.FacchNumbers.{readNumbers as facchNumbers};
 
 #[no_mangle]

@@ -1,15 +1,6 @@
-pub mod Numbers
-pub mod Wide
-pub mod Decoding
-pub mod Finding
-pub mod Sweeps
-pub mod Runs
-pub mod NoneOut
 pub mod Tellings
-pub mod Fresh
 pub mod Outcomes
 pub mod Messages
-pub mod Reading
-pub mod Setting
+pub mod FromNumbers
 pub mod Feeding
 pub mod Promises

@@ -1,7 +1,7 @@
 -- The promises of specs/Promises. Assumes nothing.
 use mathlib.Core.Path.{_≡_, refl, sym, ap, _∙_}
 use mathlib.Core.List.{List, [], _∷_, _++_}
-use mathlib.Core.Bool.{true, false}
+use mathlib.Core.Bool.{Bool, true, false}
 use Prim.Native.Nat.{ℕ}
 use lib.ListN.{length}
 use lib.Dec.{eqb}
@@ -11,54 +11,34 @@ use Rattle.csn1.specs.declared.Refusal.{Refusal}
 use Rattle.receiver.specs.declared.Receiver.{Receiver}
 use Rattle.receiver.specs.declared.Answer.{Answer}
 use Rattle.receiver.specs.Model.{startedOf}
-use Rattle.receiver.specs.Step.{Event, nch, facch, joined, reselected, handedOver, reconfigured, tick, refusalOf, refusedWith, stepOf}
-use Rattle.receiver.specs.One.{Channel, onNch, onFacch, Said}
+use Rattle.receiver.specs.Channels.{Channel, same}
+use Rattle.receiver.specs.Step.{Event, contentOf, refusalOf, refusedWith, stepOf}
+use Rattle.receiver.specs.One.{Said}
 use Rattle.receiver.specs.Promises.{under, answersOn, answers}
 use Rattle.receiver.proofs.Dropping.{by-test}
 use Rattle.receiver.proofs.Promises.{no-call-disturbs-another}
-use Rattle.lent.specs.Layout.{decodeOf, lastOf}
+use Rattle.layout.specs.Layout.{stateLength, decodeOf, lastOf}
 use Rattle.lent.specs.Events.{Fed, codeOf, answered}
 use Rattle.lent.specs.Promises.{Left, Run, heard, readUnder, No-call-disturbs-another-in-octets, A-refused-event-leaves-the-octets, The-length-stays}
-use Rattle.lent.proofs.Feeding.{refused-step, length-after, refused-stays, set-started, set-length}
+use Rattle.layout.proofs.Setting.{set-started, set-length}
+use Rattle.lent.proofs.Feeding.{refused-step, length-after, refused-stays}
 
 -- what is heard of an answer is what the receiver by value answers
 heard-is : (key : ℕ) (c : Channel) (e : Event) (a : Answer) → heard key c e (answered a) ≡ answersOn key c e a
 unfolding heard answersOn
-heard-is key onNch (nch t s) a = refl
-heard-is key onFacch (facch t s) a = refl
-heard-is key onFacch (nch t s) a = refl
-heard-is key onNch (facch t s) a = refl
-heard-is key onNch (joined t k) a = refl
-heard-is key onFacch (joined t k) a = refl
-heard-is key onNch (reselected t) a = refl
-heard-is key onFacch (reselected t) a = refl
-heard-is key onNch (handedOver t) a = refl
-heard-is key onFacch (handedOver t) a = refl
-heard-is key onNch (reconfigured t) a = refl
-heard-is key onFacch (reconfigured t) a = refl
-heard-is key onNch (tick t) a = refl
-heard-is key onFacch (tick t) a = refl
+heard-is key c e a = refl
 
 -- a refused event is answered with nothing
 not-answered : (key : ℕ) (c : Channel) (r : Receiver) (w : Refusal) (e : Event) → answersOn key c e (refusedWith r w) ≡ []
 unfolding answersOn under
-not-answered key onNch r w (nch t s) = refl
-not-answered key onFacch r w (facch t s) = refl
-not-answered key onFacch r w (nch t s) = refl
-not-answered key onNch r w (facch t s) = refl
-not-answered key onNch r w (joined t k) = refl
-not-answered key onFacch r w (joined t k) = refl
-not-answered key onNch r w (reselected t) = refl
-not-answered key onFacch r w (reselected t) = refl
-not-answered key onNch r w (handedOver t) = refl
-not-answered key onFacch r w (handedOver t) = refl
-not-answered key onNch r w (reconfigured t) = refl
-not-answered key onFacch r w (reconfigured t) = refl
-not-answered key onNch r w (tick t) = refl
-not-answered key onFacch r w (tick t) = refl
+not-answered key c r w e = either (same c (contentOf (e .happening) .channel))
+  where
+    either : (b : Bool) → _≡_ {A = List Said} (pick b [] []) []
+    either true = refl
+    either false = refl
 
 -- one event: what is heard, and the receiver that is read afterwards
-module _ (key : ℕ) (c : Channel) (l : List ℕ) (whole : length l ≡ 6984) (e : Event) (a : Left) (f : Fed l e (a .octets) (a .code)) where
+module _ (key : ℕ) (c : Channel) (l : List ℕ) (whole : length l ≡ stateLength) (e : Event) (a : Left) (f : Fed l e (a .octets) (a .code)) where
   step-heard : pick (eqb (a .code) 0) (heard key c e (lastOf (a .octets))) [] ≡ answersOn key c e (stepOf (decodeOf l) e)
   step-heard =
       by-test (eqb (codeOf l e) 0)
@@ -74,10 +54,10 @@ module _ (key : ℕ) (c : Channel) (l : List ℕ) (whole : length l ≡ 6984) (e
   step-receiver =
       by-test (eqb (codeOf l e) 0) (λ p. f .receiver ∙ rw p) (λ p. f .receiver ∙ rw (p, refused-step l e whole (eqb-false (codeOf l e) 0 p)))
 
-  step-length : length (a .octets) ≡ 6984
+  step-length : length (a .octets) ≡ stateLength
   step-length = ap length (f .octets) ∙ length-after l e ∙ whole
 
-run-heard : (key : ℕ) (c : Channel) (l : List ℕ) → length l ≡ 6984 → (es : List Event) (run : List Left) → Run l es run → readUnder key c es run ≡ answers key c (decodeOf l) es
+run-heard : (key : ℕ) (c : Channel) (l : List ℕ) → length l ≡ stateLength → (es : List Event) (run : List Left) → Run l es run → readUnder key c es run ≡ answers key c (decodeOf l) es
 unfolding readUnder answers stepOf
 run-heard key c l whole [] [] u = refl
 run-heard key c l whole [] (a ∷ rest) u = absurd u

@@ -2,7 +2,7 @@
 use mathlib.Core.Path.{_≡_, refl, ap, ap₂, sym, _∙_}
 use mathlib.Core.Bool.{Bool, true, false}
 use mathlib.Core.List.{List, [], _∷_, _++_}
-use Prim.Native.Nat.{ℕ, suc, _+_, _*_, _≤_, _<_}
+use Prim.Native.Nat.{ℕ, suc, _+_, _≤_, _<_}
 use native.Mathlib.Nat.{add-zero, zero-add, add-suc, suc-add}
 use native.Mathlib.Omega.{arith}
 use borrow.Author.Tests.{lt-ltb, le-ltb, ltb-true, ltb-false, eqb-true, eqb-false}
@@ -16,15 +16,16 @@ use Rattle.receiver.specs.declared.Slot.{Slot}
 use Rattle.receiver.specs.declared.Receiver.{Receiver}
 use Rattle.receiver.specs.declared.Told.{Told}
 use Rattle.receiver.specs.declared.Met.{Met}
+use Rattle.receiver.specs.Channels.{channels, keyCount, places, placeOn, leads}
 use Rattle.receiver.specs.Model.{noRecord, emptySlot, keyOf, indexOf, isClear, isWhole, isFirst, isSecond, isBare, classOf, agree, joinedOf, only, complete, storing, meetHalf, meetOf}
 use Rattle.receiver.specs.Store.{withSlots}
-use Rattle.receiver.specs.Step.{noTold, slotsAfter, toldOf, allAfter, allTold}
+use Rattle.receiver.specs.Step.{noTold, mostEntries, slotsAfter, toldOf, allAfter, allTold}
 use Rattle.receiver.proofs.Dropping.{by-test}
-use Rattle.lent.specs.Layout.{slotNo, decodeOf, putSlot, carries, toldNo, putTold}
-use Rattle.lent.specs.Events.{keysIn, afterMeet, tellOctets, Telling, allOctets, AllTold}
-use Rattle.lent.proofs.Numbers.{le-below}
-use Rattle.lent.proofs.Wide.{Octs, Wide, wide-none, wide-at, wide-join}
-use Rattle.lent.proofs.Decoding.{slot-of, slot-empty, slot-held, keep-same, length-put, decode-put, told-put, length-told, decode-told, told-same, told-other}
+use Rattle.layout.specs.Layout.{stateLength, kindPlace, sincePlace, recordPlace, slotNo, decodeOf, putSlot, carries, toldNo, putTold, keysIn}
+use Rattle.lent.specs.Events.{afterMeet, tellOctets, Telling, allOctets, AllTold}
+use Rattle.layout.proofs.Numbers.{le-below}
+use Rattle.layout.proofs.Wide.{Octs, Wide, wide-none, wide-at, wide-join}
+use Rattle.layout.proofs.Decoding.{slot-of, slot-empty, slot-held, keep-same, length-put, decode-put, told-put, length-told, decode-told, told-same, told-other}
 
 -- ## What an entry meets fits its octets
 
@@ -39,12 +40,12 @@ fits-empty = record { half = lit< tt; since = lit< tt; wide = wide-none; empty =
 
 pub fits-at : (l : List ℕ) (i : ℕ) → Octs l → Fits (slotNo l i)
 fits-at l i o =
-    by-test (eqb (getD l (216 + i) 0) 0) (λ p. rw (slot-empty l i (eqb-true _ _ p)) fits-empty)
+    by-test (eqb (getD l (kindPlace i) 0) 0) (λ p. rw (slot-empty l i (eqb-true _ _ p)) fits-empty)
     (λ p. rw (slot-held l i (eqb-false _ _ p))
     (record {
-      half = o (216 + i);
-      since = le-below 4 l (320 + 4 * i) o;
-      wide = wide-at l (720 + 56 * i) o;
+      half = o (kindPlace i);
+      since = le-below 4 l (sincePlace i) o;
+      wide = wide-at l (recordPlace i) o;
       empty = λ z. absurd (eqb-false _ _ p z);
     }))
 
@@ -111,7 +112,7 @@ module _ (now : ℕ) (lt : now < 4294967296) (s : Slot) (e : Record) (f : Fits s
       (half-meets 1 (joinedOf e (s .«record»)) _ (wide-join e (s .«record») w (f .wide)) (stores 1 (lit< tt) (λ q. omega arith)))
       (by-pick (eqb (classOf ch e) 4)
       (half-meets 2 (joinedOf (s .«record») e) _ (wide-join (s .«record») e (f .wide) w)
-      (by-pick (eqb ch 0) (stores 2 (lit< tt) (λ q. omega arith)) (only-meets 8 s (lit< tt) f)))
+      (by-pick (leads ch) (stores 2 (lit< tt) (λ q. omega arith)) (only-meets 8 s (lit< tt) f)))
       (only-meets (classOf ch e) s (class-below ch) f))))
 
 -- ## The place, and the answer
@@ -126,12 +127,12 @@ length-after : (l : List ℕ) (i : ℕ) (m : Met) → length (afterMeet l i m) �
 length-after l i m =
     by-test (changes (m .number)) (λ p. ap length (after-changed l i m p) ∙ length-put l i (m .held)) (λ p. ap length (after-same l i m p))
 
-told-after : (l : List ℕ) (i : ℕ) (m : Met) (k : ℕ) → i < 100 → toldNo (afterMeet l i m) k ≡ toldNo l k
+told-after : (l : List ℕ) (i : ℕ) (m : Met) (k : ℕ) → i < places → toldNo (afterMeet l i m) k ≡ toldNo l k
 told-after l i m k h =
     by-test (changes (m .number)) (λ p. ap (λ (x : List ℕ). toldNo x k) (after-changed l i m p) ∙ told-put l i (m .held) k h)
     (λ p. ap (λ (x : List ℕ). toldNo x k) (after-same l i m p))
 
-decode-after : (l : List ℕ) (i : ℕ) (m : Met) → length l ≡ 6984 → i < 100 → Meeting (slotNo l i) m
+decode-after : (l : List ℕ) (i : ℕ) (m : Met) → length l ≡ stateLength → i < places → Meeting (slotNo l i) m
     → decodeOf (afterMeet l i m) ≡ withSlots (decodeOf l) (set (decodeOf l .slots) i (m .held))
 decode-after l i m n h q =
     by-test (changes (m .number))
@@ -162,29 +163,29 @@ module _ (l : List ℕ) (ch now j : ℕ) (e : Record) where
   index = indexOf (keysIn l) (keyOf (e .call))
 
   abbrev place : ℕ
-  place = 2 * index + ch
+  place = placeOn index ch
 
   abbrev met : Met
   met = meetOf ch now (slotNo l place) e
 
-  pub tell-miss : 50 ≤ index → tellOctets l ch now j e ≡ putTold l j (miss e)
+  pub tell-miss : keyCount ≤ index → tellOctets l ch now j e ≡ putTold l j (miss e)
   unfolding tellOctets
-  tell-miss h = rw (le-ltb index 50 h) refl
+  tell-miss h = rw (le-ltb index keyCount h) refl
 
-  pub tell-ours : index < 50 → tellOctets l ch now j e ≡ putTold (afterMeet l place met) j (answer e met)
+  pub tell-ours : index < keyCount → tellOctets l ch now j e ≡ putTold (afterMeet l place met) j (answer e met)
   unfolding tellOctets
-  tell-ours h = rw (lt-ltb index 50 h) refl
+  tell-ours h = rw (lt-ltb index keyCount h) refl
 
   -- by whether the key is subscribed
-  by-key : {P : Type 0} → (index < 50 → P) → (50 ≤ index → P) → P
-  by-key f g = by-test (ltb index 50) (λ p. f (ltb-true _ _ p)) (λ p. g (ltb-false _ _ p))
+  by-key : {P : Type 0} → (index < keyCount → P) → (keyCount ≤ index → P) → P
+  by-key f g = by-test (ltb index keyCount) (λ p. f (ltb-true _ _ p)) (λ p. g (ltb-false _ _ p))
 
   pub length-tell : length (tellOctets l ch now j e) ≡ length l
   length-tell =
       by-key (λ h. ap length (tell-ours h) ∙ length-told (afterMeet l place met) j (answer e met) ∙ length-after l place met)
       (λ h. ap length (tell-miss h) ∙ length-told l j (miss e))
 
-  pub told-others : (k : ℕ) → j < 9 → ch < 2 → (k ≡ j → ⊥) → toldNo (tellOctets l ch now j e) k ≡ toldNo l k
+  pub told-others : (k : ℕ) → j < mostEntries → ch < channels → (k ≡ j → ⊥) → toldNo (tellOctets l ch now j e) k ≡ toldNo l k
   told-others k a b z =
       by-key
       (λ h.
@@ -193,32 +194,32 @@ module _ (l : List ℕ) (ch now j : ℕ) (e : Record) where
       ∙ told-after l place met k (omega arith))
       (λ h. ap (λ (x : List ℕ). toldNo x k) (tell-miss h) ∙ told-other l j k (miss e) a z)
 
-  module _ (n : length l ≡ 6984) (o : Octs l) (b : ch < 2) (a : j < 9) (t : now < 4294967296) (w : Wide e) where
+  module _ (n : length l ≡ stateLength) (o : Octs l) (b : ch < channels) (a : j < mostEntries) (t : now < 4294967296) (w : Wide e) where
     meeting : Meeting (slotNo l place) met
     meeting = meets now t (slotNo l place) e (fits-at l place o) w ch
 
-    places-miss : 50 ≤ index → decodeOf (tellOctets l ch now j e) ≡ withSlots (decodeOf l) (slotsAfter (keysIn l) ch now (decodeOf l .slots) e)
+    places-miss : keyCount ≤ index → decodeOf (tellOctets l ch now j e) ≡ withSlots (decodeOf l) (slotsAfter (keysIn l) ch now (decodeOf l .slots) e)
     unfolding slotsAfter
-    places-miss h = rw (le-ltb index 50 h) (ap decodeOf (tell-miss h) ∙ decode-told l j (miss e) a)
+    places-miss h = rw (le-ltb index keyCount h) (ap decodeOf (tell-miss h) ∙ decode-told l j (miss e) a)
 
-    places-ours : index < 50 → decodeOf (tellOctets l ch now j e) ≡ withSlots (decodeOf l) (slotsAfter (keysIn l) ch now (decodeOf l .slots) e)
+    places-ours : index < keyCount → decodeOf (tellOctets l ch now j e) ≡ withSlots (decodeOf l) (slotsAfter (keysIn l) ch now (decodeOf l .slots) e)
     unfolding slotsAfter
     places-ours h =
-        rw (lt-ltb index 50 h, slot-of l place (omega arith))
+        rw (lt-ltb index keyCount h, slot-of l place (omega arith))
         (ap decodeOf (tell-ours h)
         ∙ decode-told (afterMeet l place met) j (answer e met) a
         ∙ decode-after l place met n (omega arith) meeting)
 
-    told-miss : 50 ≤ index → toldNo (tellOctets l ch now j e) j ≡ toldOf (keysIn l) ch now (decodeOf l .slots) e
+    told-miss : keyCount ≤ index → toldNo (tellOctets l ch now j e) j ≡ toldOf (keysIn l) ch now (decodeOf l .slots) e
     unfolding toldOf
     told-miss h =
-        rw (le-ltb index 50 h)
+        rw (le-ltb index keyCount h)
         (ap (λ (x : List ℕ). toldNo x j) (tell-miss h) ∙ told-same l j (miss e) n a (key-below e w) (lit< tt) wide-none (λ q. refl))
 
-    told-ours : index < 50 → toldNo (tellOctets l ch now j e) j ≡ toldOf (keysIn l) ch now (decodeOf l .slots) e
+    told-ours : index < keyCount → toldNo (tellOctets l ch now j e) j ≡ toldOf (keysIn l) ch now (decodeOf l .slots) e
     unfolding toldOf
     told-ours h =
-        rw (lt-ltb index 50 h, slot-of l place (omega arith))
+        rw (lt-ltb index keyCount h, slot-of l place (omega arith))
         (ap (λ (x : List ℕ). toldNo x j) (tell-ours h)
         ∙ told-same (afterMeet l place met) j (answer e met) (length-after l place met ∙ n) a (key-below e w) (meeting .number) (meeting .told) (meeting .bare))
 
@@ -267,7 +268,7 @@ unfolding allOctets allAfter
 all-none l ch now = record { octets = refl; places = refl; told = λ j h. absurd (omega arith) }
 
 -- one more entry
-module _ (l : List ℕ) (ch now : ℕ) (es : List Record) (e : Record) (left left′ : List ℕ) (h : length es < 9) (b : ch < 2) (p : AllTold l ch now es left)
+module _ (l : List ℕ) (ch now : ℕ) (es : List Record) (e : Record) (left left′ : List ℕ) (h : length es < mostEntries) (b : ch < channels) (p : AllTold l ch now es left)
     (q : Telling left ch now (length es) e left′) where
   abbrev told-before : List Told
   told-before = allTold (keysIn l) ch now (decodeOf l .slots) es
@@ -307,6 +308,10 @@ module _ (l : List ℕ) (ch now : ℕ) (es : List Record) (e : Record) (left lef
 
   pub all-next : AllTold l ch now (es ++ (e ∷ [])) left′
   all-next = record { octets = octets-next; places = places-next; told = told-next }
+
+-- a message of one entry
+pub all-one-told : (l : List ℕ) (ch now : ℕ) (e : Record) (left : List ℕ) → ch < channels → Telling l ch now 0 e left → AllTold l ch now (e ∷ []) left
+all-one-told l ch now e left b q = all-next l ch now [] e l left (lit< tt) b (all-none l ch now) q
 
 pub all-length : (l : List ℕ) (ch now : ℕ) (es : List Record) (left : List ℕ) → AllTold l ch now es left → length left ≡ length l
 all-length l ch now es left p = ap length (p .octets) ∙ length-all l ch now 0 es

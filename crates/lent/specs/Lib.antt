@@ -1,4 +1,3 @@
-pub mod Octets
-pub mod Layout
+pub mod Entry
 pub mod Events
 pub mod Promises

@@ -7,11 +7,13 @@ use lib.Dec.{eqb}
 use Rattle.bits.specs.Field.{pick}
 use Rattle.receiver.specs.declared.Setup.{Setup}
 use Rattle.receiver.specs.Model.{indexOf}
-use Rattle.receiver.specs.Step.{Event, nch, facch, joined, reselected, handedOver, reconfigured, tick, tickOf}
-use Rattle.receiver.specs.One.{Channel, onNch, onFacch, Said, runOne, seen, fresh}
+use Rattle.receiver.specs.Channels.{Channel, same}
+use Rattle.receiver.specs.Step.{Event, contentOf}
+use Rattle.receiver.specs.One.{Said, runOne, seen, fresh}
 use Rattle.receiver.specs.Promises.{under, timerOf, Ticks}
-use Rattle.lent.specs.Layout.{Last, lastOf}
-use Rattle.lent.specs.Events.{Fed, SetUp, octetsAfter, codeOf}
+use Rattle.layout.specs.Layout.{Last, lastOf}
+use Rattle.layout.specs.Setup.{SetUp}
+use Rattle.lent.specs.Events.{Fed, octetsAfter, codeOf}
 
 -- ## Events in a row
 
@@ -31,15 +33,7 @@ Run l (e ∷ es) (a ∷ rest) = Fed l e (a .octets) (a .code) × Run (a .octets)
 
 -- the answers under a key that stand in the octets of an accepted event, on the channel of its message
 unfoldable pub heard : ℕ → Channel → Event → Last → List Said
-heard key onNch (nch t s) a = under key (take (a .count) (a .entries))
-heard key onFacch (facch t s) a = under key (take (a .count) (a .entries))
-heard key onFacch (nch t s) a = []
-heard key onNch (facch t s) a = []
-heard key c (joined t k) a = []
-heard key c (reselected t) a = []
-heard key c (handedOver t) a = []
-heard key c (reconfigured t) a = []
-heard key c (tick t) a = []
+heard key c e a = pick (same c (contentOf (e .happening) .channel)) (under key (take (a .count) (a .entries))) []
 
 -- what a host reads under a key after each call: nothing where the event was refused
 unfoldable pub readUnder : ℕ → Channel → List Event → List Left → List Said

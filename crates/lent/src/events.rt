@@ -1,58 +1,81 @@
 // The seven events on a lent state: each is refused with its number and changes no octet, or works in place.
 ghost use mathlib.Core.Path.{_≡_};
-ghost use mathlib.Core.List.{[], _∷_};
+ghost use mathlib.Core.List.{[]};
 ghost use Prim.Native.Nat.{_≤_};
 ghost use lib.ListN.{length};
-ghost use Rattle.bits.specs.Field.{pick};
-ghost use Rattle.receiver.specs.declared.Rule.the-variants.{Keep, Side};
-ghost use Rattle.receiver.specs.Entries.{nchEntries, facchEntry};
-ghost use Rattle.receiver.specs.Step.{nlnChanges, nlnAfter, nch, facch, joined, reselected, handedOver, reconfigured, tick};
-ghost use Rattle.lent.specs.Layout.{decodeOf};
-ghost use Rattle.lent.specs.Events.{earlyCode, Accepted, Plain, Fed};
-use crate::answer::put_head;
-use crate::octets::u32_at;
-use crate::places::index_of;
-use crate::sweep::sweep;
+ghost use Rattle.bits.specs.Field.{both};
+ghost use Rattle.nch.specs.NotificationNumbers.{recordFrom, Fits};
+ghost use Rattle.receiver.specs.Channels.{keyCount, Channel, hasNln};
+ghost use Rattle.receiver.specs.Model.{ruleFor, keep};
+ghost use Rattle.receiver.specs.Entries.{nchEntries, facchEntries};
+ghost use Rattle.receiver.specs.Step.{changes, numbering, cellAfter, mostEntries, moved, nch, facch, joined, reselected, handedOver, reconfigured, tick};
+ghost use Rattle.layout.specs.Layout.{stateLength, decodeOf};
+ghost use Rattle.lent.specs.Events.{earlyCode, Accepted, Fed};
 use crate::tell::tell_facch;
 use crate::tell::tell_nch;
+use layout::answer::cell_of;
+use layout::answer::put_head;
+use layout::answer::tick_of;
+use layout::places::index_of;
+use layout::sweep::pass;
+use layout::sweep::sweep;
+use nch::places;
+use receiver::Cell;
+use receiver::LAST_KEY;
+use receiver::Move;
 use receiver::Rule;
+use receiver::events;
 use receiver::store;
 
 // The number that comes before the event's own: 13 for another length, then 9.
 fn early(b: &[u8], time: u32) -> u8
     ensures { λ r. ⌜ r ≡ earlyCode (now (b .entry)) time ⌝ }
 {
-    if b.len() != crate::LENGTH {
+    if b.len() != layout::LENGTH {
         return 13;
     }
-    if store::is_late(time, u32_at(b, 0)) {
+    if store::is_late(time, tick_of(b)) {
         return 9;
     }
     0
 }
 
 // An accepted event without entries.
-fn accept(b: &mut [u8], time: u32, rule: Rule)
-    requires { ⌜ length (now b) ≡ 6984 ⌝ }
-    ensures { λ _. ⌜ Accepted (now (b .entry)) time rule (decodeOf (now (b .entry)) .nln) 0 [] (now (b .exit)) ⌝ }
+fn accept(b: &mut [u8], time: u32, rule: Rule, cell: Cell)
+    requires { ⌜ length (now b) ≡ stateLength ⌝ }
+    ensures { λ _. ⌜ Accepted (now (b .entry)) time rule cell 0 [] (now (b .exit)) ⌝ }
 {
-    let nln = b[12];
     let lost = sweep(b, time, rule);
-    put_head(b, time, nln, lost.expired, lost.dropped, 0);
+    put_head(b, time, cell, lost.expired, lost.dropped, 0);
 }
 
-// An accepted NCH message.
-fn accept_nch(b: &mut [u8], time: u32, m: nch::Notification)
-    requires { ⌜ (length (now b) ≡ 6984) × (length (nchEntries m) ≤ 9) ⌝ }
-    ensures { λ _. ⌜ Accepted (now (b .entry)) time (pick (nlnChanges (decodeOf (now (b .entry)) .nln) m) (Side 0) Keep) (nlnAfter (decodeOf (now (b .entry)) .nln) m) 0 (nchEntries m) (now (b .exit)) ⌝ }
+// An accepted event that takes nothing by its own rule.
+fn accept_tick(b: &mut [u8], time: u32)
+    requires { ⌜ length (now b) ≡ stateLength ⌝ }
+    ensures { λ _. ⌜ Accepted (now (b .entry)) time keep (decodeOf (now (b .entry)) .cell) 0 [] (now (b .exit)) ⌝ }
 {
-    let last = b[12];
-    let lost = sweep(b, time, receiver::events::nln_rule(last, m.numbered, m.nln));
+    let cell = cell_of(b);
+    let lost = pass(b, time);
+    put_head(b, time, cell, lost.expired, lost.dropped, 0);
+}
+
+// An accepted NCH message, by its numbers.
+fn accept_nch(b: &mut [u8], time: u32, m: &[u64])
+    requires { ⌜ (length (now b) ≡ stateLength) × (Fits (now m) × (length (nchEntries (recordFrom (now m))) ≤ mostEntries)) ⌝ }
+    ensures { λ _. ⌜ Accepted (now (b .entry)) time
+        (ruleFor (λ (c : Channel). both (hasNln c) (both (recordFrom (now (m .entry)) .numbered) (changes (decodeOf (now (b .entry)) .cell) (recordFrom (now (m .entry)) .nln)))) keyCount)
+        (cellAfter (decodeOf (now (b .entry)) .cell) (numbering (recordFrom (now (m .entry)) .numbered) (recordFrom (now (m .entry)) .nln)))
+        0 (nchEntries (recordFrom (now (m .entry)))) (now (b .exit)) ⌝ }
+{
+    let last = cell_of(b);
+    let numbered = m[places::NUMBERED] == 1;
+    let nln = m[places::NLN] as u8;
+    let lost = sweep(b, time, events::nln_rule(last, numbered, nln));
     let count = tell_nch(b, time, m);
     put_head(
         b,
         time,
-        receiver::events::nln_after(last, m.numbered, m.nln),
+        events::cell_after(last, numbered, nln),
         lost.expired,
         lost.dropped,
         count,
@@ -61,13 +84,13 @@ fn accept_nch(b: &mut [u8], time: u32, m: nch::Notification)
 
 // An accepted FACCH message.
 fn accept_facch(b: &mut [u8], time: u32, m: facch::Notification)
-    requires { ⌜ length (now b) ≡ 6984 ⌝ }
-    ensures { λ _. ⌜ Accepted (now (b .entry)) time Keep (decodeOf (now (b .entry)) .nln) 1 (facchEntry m ∷ []) (now (b .exit)) ⌝ }
+    requires { ⌜ length (now b) ≡ stateLength ⌝ }
+    ensures { λ _. ⌜ Accepted (now (b .entry)) time keep (decodeOf (now (b .entry)) .cell) 1 (facchEntries m) (now (b .exit)) ⌝ }
 {
-    let nln = b[12];
-    let lost = sweep(b, time, Rule::Keep);
-    tell_facch(b, time, m);
-    put_head(b, time, nln, lost.expired, lost.dropped, 1);
+    let cell = cell_of(b);
+    let lost = sweep(b, time, store::keep());
+    let count = tell_facch(b, time, m);
+    put_head(b, time, cell, lost.expired, lost.dropped, count);
 }
 
 // NT/N Rest Octets.
@@ -78,12 +101,12 @@ pub fn nch(b: &mut [u8], time: u32, octets: &[u8]) -> u8
     if n != 0 {
         return n;
     }
-    let m = nch::read(octets);
-    if m.refusal.number != 0 {
-        return m.refusal.number;
+    let mut m = [0u64; places::LENGTH];
+    let r = nch::reader::read_into(octets, &mut m);
+    if r.number != 0 {
+        return r.number;
     }
-    let record = m.record;
-    accept_nch(b, time, record);
+    accept_nch(b, time, &m);
     0
 }
 
@@ -104,18 +127,6 @@ pub fn facch(b: &mut [u8], time: u32, octets: &[u8]) -> u8
     0
 }
 
-// An event that has no ground of its own and no entries.
-fn plain(b: &mut [u8], time: u32, rule: Rule) -> u8
-    ensures { λ r. ⌜ Plain (now (b .entry)) time rule (now (b .exit)) r ⌝ }
-{
-    let n = early(b, time);
-    if n != 0 {
-        return n;
-    }
-    accept(b, time, rule);
-    0
-}
-
 // The mobile joined the call of a key: halves under other keys go, on both channels.
 pub fn joined(b: &mut [u8], time: u32, key: u32) -> u8
     ensures { λ r. ⌜ Fed (now (b .entry)) (joined time key) (now (b .exit)) r ⌝ }
@@ -124,11 +135,25 @@ pub fn joined(b: &mut [u8], time: u32, key: u32) -> u8
     if n != 0 {
         return n;
     }
-    if 199999999 < key {
+    if LAST_KEY < key {
         return 4;
     }
+    let cell = cell_of(b);
     let i = index_of(b, key as u64);
-    accept(b, time, Rule::Others(i));
+    accept(b, time, events::join_rule(i), cell);
+    0
+}
+
+// The mobile moved.
+fn move_on(b: &mut [u8], time: u32, m: Move) -> u8
+    ensures { λ r. ⌜ Fed (now (b .entry)) (moved time m) (now (b .exit)) r ⌝ }
+{
+    let n = early(b, time);
+    if n != 0 {
+        return n;
+    }
+    let cell = events::move_cell(cell_of(b), m);
+    accept(b, time, events::move_rule(m), cell);
     0
 }
 
@@ -136,26 +161,31 @@ pub fn joined(b: &mut [u8], time: u32, key: u32) -> u8
 pub fn reselected(b: &mut [u8], time: u32) -> u8
     ensures { λ r. ⌜ Fed (now (b .entry)) (reselected time) (now (b .exit)) r ⌝ }
 {
-    plain(b, time, Rule::Side(0))
+    move_on(b, time, Move::Reselection)
 }
 
 // Handed over to another cell: FACCH halves go.
 pub fn handed_over(b: &mut [u8], time: u32) -> u8
     ensures { λ r. ⌜ Fed (now (b .entry)) (handedOver time) (now (b .exit)) r ⌝ }
 {
-    plain(b, time, Rule::Side(1))
+    move_on(b, time, Move::Handover)
 }
 
 // The group call was reconfigured: FACCH halves go.
 pub fn reconfigured(b: &mut [u8], time: u32) -> u8
     ensures { λ r. ⌜ Fed (now (b .entry)) (reconfigured time) (now (b .exit)) r ⌝ }
 {
-    plain(b, time, Rule::Side(1))
+    move_on(b, time, Move::Reconfiguration)
 }
 
 // Time passed.
 pub fn tick(b: &mut [u8], time: u32) -> u8
     ensures { λ r. ⌜ Fed (now (b .entry)) (tick time) (now (b .exit)) r ⌝ }
 {
-    plain(b, time, Rule::Keep)
+    let n = early(b, time);
+    if n != 0 {
+        return n;
+    }
+    accept_tick(b, time);
+    0
 }

@@ -1,44 +1,52 @@
 // The entries of a message: each meets its place, and its answer is written.
 ghost use mathlib.Core.Path.{_≡_};
-ghost use mathlib.Core.List.{[], _∷_};
-ghost use mathlib.Core.Bool.{true, false};
-ghost use mathlib.Core.Option.{none, some};
 ghost use Prim.Native.Nat.{_+_, _*_, _<_, _≤_};
 ghost use lib.ListN.{length};
-ghost use Rattle.bits.specs.Field.{pick};
-ghost use Rattle.call.specs.Call.{ciphered};
+ghost use Rattle.nch.specs.NotificationNumbers.{recordFrom, Fits};
+ghost use Rattle.receiver.specs.Channels.{channels, keyCount, places, placeOn};
 ghost use Rattle.receiver.specs.Model.{keyOf, meetOf};
-ghost use Rattle.receiver.specs.Entries.{ownedOf, reducedCall, nchEntries, facchEntry};
-ghost use Rattle.lent.specs.Layout.{slotNo};
+ghost use Rattle.receiver.specs.Step.{mostEntries};
+ghost use Rattle.receiver.specs.Entries.{nchEntries, facchEntries};
+ghost use Rattle.layout.specs.Layout.{stateLength, slotNo};
 ghost use Rattle.lent.specs.Events.{metHalf, metOctets, Telling, AllTold};
-use crate::answer::put_number;
-use crate::answer::put_told;
-use crate::places::clear;
-use crate::places::index_of;
-use crate::places::store;
-use crate::records::record_at;
-use call::Call;
-use nch::Random;
-use nch::Reduced;
-use receiver::Common;
+ghost use Rattle.lent.specs.Entry.{entryFrom, EntryFits};
+use crate::entries::entry_at;
+use layout::answer::put_number;
+use layout::answer::put_told;
+use layout::places::clear;
+use layout::places::half_at;
+use layout::places::held_at;
+use layout::places::index_of;
+use layout::places::store;
+use nch::places;
 use receiver::Record;
+use receiver::Setup;
+use receiver::channels;
+use receiver::channels::CHANNELS;
 use receiver::meeting;
 use receiver::messages;
-use receiver::messages::Owned;
+
+// The place of the subscription at an index on a channel.
+fn place_on(i: usize, ch: usize) -> usize
+    requires { ⌜ (i < keyCount) × (ch < channels) ⌝ }
+    ensures { λ r. ⌜ (r ≡ placeOn i ch) × (r < places) ⌝ }
+{
+    CHANNELS * i + ch
+}
 
 // A half, the first (1) or the second (2), that comes where another is held: the same one again, or the opposite one, with which it joins if their references agree.
 fn met_half(b: &mut [u8], ch: usize, j: usize, i: usize, half: u8, e: Record)
-    requires { ⌜ (length (now b) ≡ 6984) × ((ch < 2) × ((j < 9) × ((i < 50) × ((slotNo (now b) (2 * i + ch) .half ≡ 0 → ⊥) × ((1 ≤ half) × (half ≤ 2)))))) ⌝ }
-    ensures { λ _. ⌜ now (b .exit) ≡ metOctets (now (b .entry)) ch j i (keyOf (e .call)) (metHalf half (slotNo (now (b .entry)) (2 * i + ch)) e) ⌝ }
+    requires { ⌜ (length (now b) ≡ stateLength) × ((ch < channels) × ((j < mostEntries) × ((i < keyCount) × ((slotNo (now b) (placeOn i ch) .half ≡ 0 → ⊥) × ((1 ≤ half) × (half ≤ 2)))))) ⌝ }
+    ensures { λ _. ⌜ now (b .exit) ≡ metOctets (now (b .entry)) ch j i (keyOf (e .call)) (metHalf half (slotNo (now (b .entry)) (placeOn i ch)) e) ⌝ }
 {
-    let at = 2 * i + ch;
+    let at = place_on(i, ch);
     let call = e.call;
     let key = meeting::key_of(call);
-    if b[216 + at] == half {
+    if half_at(b, at) == half {
         put_number(b, j, key, 5);
         return;
     }
-    let h = record_at(b, 720 + 56 * at);
+    let h = held_at(b, at);
     if !meeting::agrees(h, e) {
         put_number(b, j, key, 7);
         return;
@@ -53,8 +61,8 @@ fn met_half(b: &mut [u8], ch: usize, j: usize, i: usize, half: u8, e: Record)
 
 // An entry under the key of subscription i meets its place on channel ch.
 fn ours(b: &mut [u8], ch: usize, tick: u32, j: usize, i: usize, e: Record)
-    requires { ⌜ (length (now b) ≡ 6984) × ((ch < 2) × ((j < 9) × (i < 50))) ⌝ }
-    ensures { λ _. ⌜ now (b .exit) ≡ metOctets (now (b .entry)) ch j i (keyOf (e .call)) (meetOf ch tick (slotNo (now (b .entry)) (2 * i + ch)) e) ⌝ }
+    requires { ⌜ (length (now b) ≡ stateLength) × ((ch < channels) × ((j < mostEntries) × (i < keyCount))) ⌝ }
+    ensures { λ _. ⌜ now (b .exit) ≡ metOctets (now (b .entry)) ch j i (keyOf (e .call)) (meetOf ch tick (slotNo (now (b .entry)) (placeOn i ch)) e) ⌝ }
 {
     let call = e.call;
     let key = meeting::key_of(call);
@@ -67,13 +75,13 @@ fn ours(b: &mut [u8], ch: usize, tick: u32, j: usize, i: usize, e: Record)
         put_number(b, j, key, c);
         return;
     }
-    let at = 2 * i + ch;
-    if b[216 + at] != 0 {
+    let at = place_on(i, ch);
+    if half_at(b, at) != 0 {
         met_half(b, ch, j, i, c - 2, e);
         return;
     }
     if c == 4 {
-        if ch != 0 {
+        if !channels::leads(ch) {
             put_number(b, j, key, 8);
             return;
         }
@@ -82,145 +90,75 @@ fn ours(b: &mut [u8], ch: usize, tick: u32, j: usize, i: usize, e: Record)
     put_number(b, j, key, 4);
 }
 
-// A record of its parts.
-fn made(full: bool, c: Call, o: Owned, emergency: bool, common: Common) -> Record
-    ensures { λ r. ⌜ r ≡ record { full = full; call = c; segmented = o .there; segment = o .segment; given = o .given; rand = o .rand; emergency = emergency; common = common } ⌝ }
+// The entries of a FACCH message, and how many they are.
+pub(crate) fn tell_facch(b: &mut [u8], tick: u32, m: facch::Notification) -> u32
+    requires { ⌜ length (now b) ≡ stateLength ⌝ }
+    ensures { λ r. ⌜ (r ≡ length (facchEntries m)) × AllTold (now (b .entry)) 1 tick (facchEntries m) (now (b .exit)) ⌝ }
 {
-    Record {
-        full,
-        call: c,
-        segmented: o.there,
-        segment: o.segment,
-        given: o.given,
-        rand: o.rand,
-        emergency,
-        common,
-    }
-}
-
-// The j-th entry of a message: told 0 where its key is not ours; its record is made only where it is.
-fn tell_entry(
-    b: &mut [u8],
-    ch: usize,
-    tick: u32,
-    j: usize,
-    full: bool,
-    c: Call,
-    o: Owned,
-    emergency: bool,
-    common: Common,
-)
-    requires { ⌜ (length (now b) ≡ 6984) × ((ch < 2) × (j < 9)) ⌝ }
-    ensures { λ _. ⌜ Telling (now (b .entry)) ch tick j (record { full = full; call = c; segmented = o .there; segment = o .segment; given = o .given; rand = o .rand; emergency = emergency; common = common }) (now (b .exit)) ⌝ }
-{
+    let c = m.call;
     let key = meeting::key_of(c);
     let i = index_of(b, key);
-    if 50 <= i {
+    if Setup::KEYS <= i {
+        put_number(b, 0, key, 0);
+        return 1;
+    }
+    ours(b, 1, tick, 0, i, messages::facch_entry(m));
+    1
+}
+
+// The j-th entry of an NCH message, whose numbers stand at a place: told 0 where its key is not ours; its record is made only where it is. Calls and reduced references
+// come through this one function, so that the compiler keeps it apart from the loops over them.
+fn tell_numbers(
+    b: &mut [u8],
+    tick: u32,
+    j: usize,
+    m: &[u64],
+    full: bool,
+    at: usize,
+    random: usize,
+    mark: usize,
+)
+    requires { ⌜ (length (now b) ≡ stateLength) × ((j < mostEntries) × (Fits (now m) × ((random < 9) × EntryFits (now m) full at mark))) ⌝ }
+    ensures { λ _. ⌜ Telling (now (b .entry)) 0 tick j (entryFrom (now (m .entry)) full at random mark) (now (b .exit)) ⌝ }
+{
+    let key = m[at] * 2 + m[at + 1];
+    let i = index_of(b, key);
+    if Setup::KEYS <= i {
         put_number(b, j, key, 0);
         return;
     }
-    ours(b, ch, tick, j, i, made(full, c, o, emergency, common));
+    ours(b, 0, tick, j, i, entry_at(m, full, at, random, mark));
 }
 
-// The one entry of a FACCH message.
-pub(crate) fn tell_facch(b: &mut [u8], tick: u32, m: facch::Notification)
-    requires { ⌜ length (now b) ≡ 6984 ⌝ }
-    ensures { λ _. ⌜ AllTold (now (b .entry)) 1 tick (facchEntry m ∷ []) (now (b .exit)) ⌝ }
+// All entries of an NCH message, calls then reduced references, from its numbers, and how many they are.
+pub(crate) fn tell_nch(b: &mut [u8], tick: u32, m: &[u64]) -> u32
+    requires { ⌜ (length (now b) ≡ stateLength) × Fits (now m) ⌝ }
+    ensures { λ r. ⌜ (r ≡ length (nchEntries (recordFrom (now (m .entry))))) × AllTold (now (b .entry)) 0 tick (nchEntries (recordFrom (now (m .entry)))) (now (b .exit)) ⌝ }
 {
-    let e = messages::facch_entry(m);
-    let c = e.call;
-    let common = e.common;
-    let o = Owned {
-        there: e.segmented,
-        segment: e.segment,
-        given: e.given,
-        rand: e.rand,
-    };
-    tell_entry(b, 1, tick, 0, e.full, c, o, e.emergency, common);
-}
-
-// What a reduced reference says of its call.
-fn reduced_call(r: Reduced) -> Call
-    ensures { λ c. ⌜ c ≡ reducedCall r ⌝ }
-{
-    let mut c = call::no_call();
-    c.reference = r.reference;
-    c.vgcs = r.vgcs;
-    c
-}
-
-// A ciphered call owns a random entry, and so does each reduced reference.
-fn owns_random(full: bool, c: Call) -> bool
-    ensures { λ r. ⌜ r ≡ pick full (ciphered c) true ⌝ }
-{
-    if full {
-        return 1 <= c.cipher;
-    }
-    true
-}
-
-// The next random entry, for an entry that owns one, if there is one.
-fn owned(owns: bool, there: bool, one: Random) -> Owned
-    ensures { λ r. ⌜ r ≡ ownedOf (pick owns (pick there (some one) none) none) ⌝ }
-{
-    if !owns {
-        return messages::owns_none();
-    }
-    if !there {
-        return messages::owns_none();
-    }
-    Owned {
-        there: true,
-        segment: one.segment,
-        given: one.given,
-        rand: one.rand,
-    }
-}
-
-// The next emergency mark, for a call that owns one, if there is one.
-fn marked(owns: bool, there: bool, mark: bool) -> bool
-    ensures { λ r. ⌜ r ≡ pick owns (pick there mark false) false ⌝ }
-{
-    if !owns {
-        return false;
-    }
-    if !there {
-        return false;
-    }
-    mark
-}
-
-// All entries of an NCH message, calls then reduced references, and how many they are. The arrays are indexed only here, since every function that indexes one copies it first.
-pub(crate) fn tell_nch(b: &mut [u8], tick: u32, m: nch::Notification) -> u32
-    requires { ⌜ length (now b) ≡ 6984 ⌝ }
-    ensures { λ r. ⌜ (r ≡ length (nchEntries m)) × AllTold (now (b .entry)) 0 tick (nchEntries m) (now (b .exit)) ⌝ }
-{
-    let six = m.release6;
-    let seven = m.release7;
-    let calls = m.calls;
-    let reduced = six.reduced;
-    let randoms = six.randoms;
-    let marks = seven.marks;
-    let common = messages::nch_common(m);
-    let n = messages::least(m.callcount, 4);
-    let count = n + messages::least(m.release6.reducedcount, 5);
+    let n = bits::least(m[places::CALLS] as usize, places::MOST_CALLS);
+    let count = n + bits::least(m[places::REDUCEDS] as usize, places::MOST_REDUCEDS);
     let mut random: usize = 0;
     let mut mark: usize = 0;
     let mut i: usize = 0;
-    while i < count {
-        let mut c = call::no_call();
-        if i < n {
-            c = calls[i];
-        } else {
-            let r = reduced[i - n];
-            c = reduced_call(r);
-        }
-        let owns = owns_random(i < n, c);
-        let o = owned(owns, random < m.release6.randomcount, randoms[random]);
-        let emergency = marked(c.described, mark < m.release7.markcount, marks[mark % 4]);
-        tell_entry(b, 0, tick, i, i < n, c, o, emergency, common);
-        random += owns as usize;
-        mark += c.described as usize;
+    'calls: while i < n {
+        let at = places::FIRST_CALL + places::CALL_LENGTH * i;
+        tell_numbers(b, tick, i, m, true, at, random, mark);
+        random += (1 <= m[at + 4]) as usize;
+        mark += m[at + 5] as usize;
+        i += 1;
+    }
+    'reduceds: while i < count {
+        tell_numbers(
+            b,
+            tick,
+            i,
+            m,
+            false,
+            places::FIRST_REDUCED + places::REDUCED_LENGTH * (i - n),
+            random,
+            mark,
+        );
+        random += 1;
         i += 1;
     }
     count as u32

@@ -3,12 +3,12 @@ use mathlib.Core.Path.{refl, sym, _∙_}
 use lib.Dec.{eqb}
 use lib.Text.{eqt→eq}
 use borrow.Author.Tests.{eqb-true}
-use Rattle.csn1.proofs.Writing.{both-true}
+use Rattle.bits.proofs.Answers.{both-true}
 use Rattle.bits.specs.Field.{bit, field}
 use Rattle.csn1.specs.Format.{readItems, padBit, ground}
 use Rattle.nch.specs.Octets.{notification}
 use Rattle.nch.specs.Owners.{randomOfCall, randomOfReduced, emergencyOfCall}
-use Rattle.receiver.specs.Model.{late, indexOf, ranOutOf, takenOf, keptOf, sweptSlots, expiredOf, droppedOf, classOf, agree, joinedOf, meetOf, keysRight, setupRight, startedOf}
+use Rattle.receiver.specs.Model.{late, indexOf, spares, ranOutOf, takenOf, keptOf, sweptSlots, expiredOf, droppedOf, classOf, agree, joinedOf, meetOf, keysRight, setupRight, startedOf}
 use Rattle.receiver.specs.Entries.{callEntry, reducedEntry, nchEntries}
 use Rattle.receiver.specs.Step.{slotsAfter, toldOf, allAfter, allTold, refusalOf, stepOf}
 use Rattle.gcc.specs.Numeral.{spell, worth}
@@ -19,7 +19,7 @@ use Rattle.listed.specs.Promises.{Every-listed-row-passes, A-row-that-pa
 use Rattle.listed.proofs.Whole.{each-sound, reading-equal, answer-equal, cause-equal, digits-equal}
 
 pub every-listed-row-passes : Every-listed-row-passes
-unfolding notification readItems field bit padBit ground randomOfCall randomOfReduced emergencyOfCall late indexOf ranOutOf takenOf keptOf sweptSlots expiredOf droppedOf classOf agree joinedOf meetOf keysRight setupRight startedOf callEntry reducedEntry nchEntries slotsAfter toldOf allAfter allTold refusalOf stepOf cause.readOf cause.parse cause.meaningOf cause.listed digits.readOf spell worth
+unfolding notification readItems field bit padBit ground randomOfCall randomOfReduced emergencyOfCall late indexOf spares ranOutOf takenOf keptOf sweptSlots expiredOf droppedOf classOf agree joinedOf meetOf keysRight setupRight startedOf callEntry reducedEntry nchEntries slotsAfter toldOf allAfter allTold refusalOf stepOf cause.readOf cause.parse cause.meaningOf cause.listed digits.readOf spell worth
 every-listed-row-passes = refl
 
 pub a-row-that-passes-holds : A-row-that-passes-holds

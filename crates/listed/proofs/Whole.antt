@@ -5,7 +5,7 @@ use mathlib.Core.Bool.{Bool, true, false}
 use Prim.Native.Nat.{ℕ}
 use lib.ListN.{getD, drop}
 use borrow.Author.Tests.{eqb-true}
-use Rattle.csn1.proofs.Writing.{both-true}
+use Rattle.bits.proofs.Answers.{both-true}
 use Rattle.call.specs.declared.Call.{Call}
 use Rattle.call.specs.declared.Description.{Description}
 use Rattle.nch.specs.declared.Reduced.{Reduced}
@@ -235,7 +235,7 @@ answerFrom w =
             tick = numberAt 0 (aloneAt 4 w);
             t3206 = numberAt 1 (aloneAt 4 w);
             t3208 = numberAt 2 (aloneAt 4 w);
-            nln = numberAt 3 (aloneAt 4 w);
+            cell = record { nln = numberAt 3 (aloneAt 4 w) };
           };
     }
 

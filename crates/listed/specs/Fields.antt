@@ -151,7 +151,7 @@ abbrev pub ofSlot : Slot → Struct
 ofSlot s = number (s .half) ∷ number (s .since) ∷ ofRecord (s .«record»)
 
 abbrev pub ofReceiver : Receiver → Whole
-ofReceiver r = map ofSlot (r .slots) ∷ numbers (r .keys) ∷ numbers (r .tick ∷ r .t3206 ∷ r .t3208 ∷ r .nln ∷ []) ∷ []
+ofReceiver r = map ofSlot (r .slots) ∷ numbers (r .keys) ∷ numbers (r .tick ∷ r .t3206 ∷ r .t3208 ∷ r .cell .nln ∷ []) ∷ []
 
 abbrev pub ofAnswer : Answer → Whole
 ofAnswer a =

@@ -6,25 +6,11 @@ use nch::Notification;
 use receiver::Answer;
 use receiver::Receiver;
 use receiver::Setup;
+use text::Line;
 
-fn say(words: &[u8]) {
-    io::write_all(STDOUT_FILENO, words);
-}
-
-// A number between words.
-fn show(before: &[u8], n: u64, after: &[u8]) {
-    say(before);
-    io::print_decimal(STDOUT_FILENO, n);
-    say(after);
-}
-
-// Whether an answer is a refusal, which is then shown.
-fn refused(number: u8) -> bool {
-    if number == 0 {
-        return false;
-    }
-    show(b": refusal ", number as u64, b"\n");
-    true
+// A row's first words, then a refusal.
+fn refused(row: &[u8], number: u8) -> Line {
+    Line::new().word(row).number(b": refusal ", number as u64)
 }
 
 // ## NT/N Rest Octets
@@ -42,37 +28,39 @@ fn are_empty(m: Notification) -> bool {
     !seven.uplinked && !seven.amr && !seven.sms && seven.markcount == 0
 }
 
-fn show_parts(m: Notification, used: u64) {
+fn show_parts(line: Line, m: Notification, used: u64) -> Line {
     if are_empty(m) {
-        show(b": both releases present and empty, ", used, b" used\n");
-    } else if m.callcount != 0 || m.release6.there || m.release7.there {
-        show(b": other parts, ", used, b" used\n");
-    } else if m.numbered {
-        show(b": NLN ", m.nln as u64, b", ");
-        show(b"", used, b" used\n");
-    } else {
-        show(b": no parts, ", used, b" bits used\n");
+        return line.number(b": both releases present and empty, ", used)
+            .word(b" used");
     }
+    if m.callcount != 0 || m.release6.there || m.release7.there {
+        return line.number(b": other parts, ", used).word(b" used");
+    }
+    if m.numbered {
+        return line.number(b": NLN ", m.nln as u64)
+            .number(b", ", used)
+            .word(b" used");
+    }
+    line.number(b": no parts, ", used).word(b" bits used")
 }
 
-fn show_octets(row: &[u8], octets: &[u8]) {
-    say(row);
+fn show_octets(row: &[u8], octets: &[u8]) -> Line {
     let r = nch::read(octets);
-    if refused(r.refusal.number) {
-        return;
+    if r.refusal.number != 0 {
+        return refused(row, r.refusal.number);
     }
     let m = r.record;
-    show_parts(m, r.used as u64);
+    show_parts(Line::new().word(row), m, r.used as u64)
 }
 
 fn nch_rows() {
-    show_octets(b"twenty 2B", &[0x2b; 20]);
-    show_octets(b"twenty 00", &[0x00; 20]);
+    show_octets(b"twenty 2B", &[0x2b; 20]).end(STDOUT_FILENO);
+    show_octets(b"twenty 00", &[0x00; 20]).end(STDOUT_FILENO);
     let mut octets = [0x2bu8; 20];
     octets[0] = 0xcb;
-    show_octets(b"CB, nineteen 2B", &octets);
-    show_octets(b"twenty FF", &[0xff; 20]);
-    show_octets(b"19 octets", &[0x2b; 19]);
+    show_octets(b"CB, nineteen 2B", &octets).end(STDOUT_FILENO);
+    show_octets(b"twenty FF", &[0xff; 20]).end(STDOUT_FILENO);
+    show_octets(b"19 octets", &[0x2b; 19]).end(STDOUT_FILENO);
 }
 
 // ## The receiver
@@ -87,95 +75,92 @@ fn ready(tick: u32) -> Receiver {
     s.receiver
 }
 
-fn show_step(row: &[u8], last: u32, now: u32) {
-    say(row);
+fn show_step(row: &[u8], last: u32, now: u32) -> Line {
     let a = ready(last).tick(now);
-    if refused(a.refusal.number) {
-        return;
+    if a.refusal.number != 0 {
+        return refused(row, a.refusal.number);
     }
     let step = receiver::store::elapsed(now, last);
-    show(b": step ", step as u64, b"\n");
+    Line::new().word(row).number(b": step ", step as u64)
+}
+
+fn show_expiries(line: Line, expired: usize) -> Line {
+    if expired == 0 {
+        return line;
+    }
+    if expired == 1 {
+        return line.word(b"one expiry, then ");
+    }
+    line.number(b"", expired as u64).word(b" expiries, then ")
 }
 
 // What the only entry of a message is told, behind the expiries.
-fn show_told(a: Answer) {
-    if a.expired == 1 {
-        say(b"one expiry, then ");
-    }
-    if 1 < a.expired {
-        show(b"", a.expired as u64, b" expiries, then ");
-    }
+fn show_told(before: Line, a: Answer) -> Line {
+    let line = show_expiries(before, a.expired);
     if a.count != 1 {
-        show(b"", a.count as u64, b" entries\n");
-        return;
+        return line.number(b"", a.count as u64).word(b" entries");
     }
     let entries = a.entries;
     let t = entries[0];
-    show(b"", t.number as u64, b"\n");
+    line.number(b"", t.number as u64)
 }
 
 // The first half, at 1,000, is that call with priority 3, cipher key number 5 and channel 120345, and a random entry of Segment Id 0 without
 // VSTK_RAND. The second is its reduced reference, and a random entry of Segment Id 1 with VSTK_RAND ABCDEF012. Padding, 2B hex, is +.
-fn show_halves(row: &[u8], second: u32) {
-    say(row);
+fn show_halves(row: &[u8], second: u32) -> Line {
     let a = ready(0).nch(1000, b"\x40\x96\xb4\x3c\xd6\x24\x06\x8a\x48+++++++++++");
     let r = a.receiver;
     let b = r.nch(second, b"\x08\x12\xd6\x87\xbd\x5e\x6f\x78\x09+++++++++++");
-    say(b": ");
-    show_told(b);
+    show_told(Line::new().word(row).word(b": "), b)
 }
 
 fn clock_rows() {
-    show_step(b"last tick 4,294,967,290, new 10", 4294967290, 10);
-    show_step(b"step 2,147,483,648", 0, 2147483648);
-    show_halves(b"T3206 5,000, first half at 1,000, second at 5,999", 5999);
-    show_halves(b"the same at 6,000", 6000);
+    show_step(b"last tick 4,294,967,290, new 10", 4294967290, 10).end(STDOUT_FILENO);
+    show_step(b"step 2,147,483,648", 0, 2147483648).end(STDOUT_FILENO);
+    show_halves(b"T3206 5,000, first half at 1,000, second at 5,999", 5999).end(STDOUT_FILENO);
+    show_halves(b"the same at 6,000", 6000).end(STDOUT_FILENO);
 }
 
 // ## GCC elements
 
-fn show_specific(n: u8) {
-    show(b": ", n as u64, b", ");
+fn show_specific(line: Line, n: u8) -> Line {
+    let line = line.number(b": ", n as u64);
     if n == 16 {
-        say(b"normal clearing\n");
-    } else {
-        say(b"another of table 9.4\n");
+        return line.word(b", normal clearing");
     }
+    line.word(b", another of table 9.4")
 }
 
-fn show_cause(row: &[u8], octets: &[u8]) {
-    say(row);
+fn show_cause(row: &[u8], octets: &[u8]) -> Line {
     let r = gcc::cause::read(octets);
-    if refused(r.refusal) {
-        return;
+    if r.refusal != 0 {
+        return refused(row, r.refusal);
     }
+    let line = Line::new().word(row);
     let m = r.meaning;
     match m {
-        Meaning::Specific(n) => show_specific(n),
-        Meaning::Unspecific => say(b": unspecific\n"),
-        Meaning::Nothing => say(b": nothing\n"),
+        Meaning::Specific(n) => show_specific(line, n),
+        Meaning::Unspecific => line.word(b": unspecific"),
+        Meaning::Nothing => line.word(b": nothing"),
     }
 }
 
-fn show_digits(row: &[u8], octets: &[u8]) {
-    say(row);
+fn show_digits(row: &[u8], octets: &[u8]) -> Line {
     let r = gcc::digits::read(octets);
-    if refused(r.refusal) {
-        return;
+    if r.refusal != 0 {
+        return refused(row, r.refusal);
     }
-    say(b": ");
     let digits = r.digits;
-    say(&digits);
-    say(b"\n");
+    Line::new().word(row).word(b": ").word(&digits)
 }
 
 fn gcc_rows() {
-    show_cause(b"cause 90", &[0x90]);
-    show_cause(b"cause 10 91", &[0x10, 0x91]);
-    show_cause(b"cause 10", &[0x10]);
-    show_digits(b"00 00 00 23 A3", &[0x00, 0x00, 0x00, 0x23, 0xa3]);
-    show_digits(b"E8 D4 A5 10 00", &[0xe8, 0xd4, 0xa5, 0x10, 0x00]);
-    show_digits(b"E8 D4 A5 0F FF", &[0xe8, 0xd4, 0xa5, 0x0f, 0xff]);
+    show_cause(b"cause 90", &[0x90]).end(STDOUT_FILENO);
+    show_cause(b"cause 10 91", &[0x10, 0x91]).end(STDOUT_FILENO);
+    show_cause(b"cause 10", &[0x10]).end(STDOUT_FILENO);
+    show_digits(b"00 00 00 23 A3", &[0x00, 0x00, 0x00, 0x23, 0xa3]).end(STDOUT_FILENO);
+    show_digits(b"E8 D4 A5 10 00", &[0xe8, 0xd4, 0xa5, 0x10, 0x00]).end(STDOUT_FILENO);
+    show_digits(b"E8 D4 A5 0F FF", &[0xe8, 0xd4, 0xa5, 0x0f, 0xff]).end(STDOUT_FILENO);
 }
 
 fn main() {

@@ -10,7 +10,8 @@ use borrow.Author.Tests.{leb-true, le-leb}
 use Rattle.csn1.specs.Format.{num, optFits, itemsFit}
 use Rattle.csn1.specs.Grammar.{format}
 use Rattle.csn1.specs.Told.{there, asBit}
-use Rattle.csn1.proofs.Writing.{both-true, there-back}
+use Rattle.bits.proofs.Answers.{both-true}
+use Rattle.csn1.proofs.Writing.{there-back}
 use Rattle.csn1.proofs.Telling.{true-both, picked, number-back}
 use Rattle.call.specs.declared.Call.{Call}
 use Rattle.call.specs.Call.{CallValue, groupCall, callOf, callValue, descriptionValue, noCall, ciphered}
@@ -20,7 +21,7 @@ use Rattle.nch.specs.declared.Notification.{Notification}
 use Rattle.nch.specs.Octets.{Value, reduced, release6, release7, notification, count, cipheredValue, describedValue, reducedsOf, randomsOf, marksOf}
 use Rattle.nch.specs.Told.{recordOf, reducedValue, randomValue, release6Value, release7Value, valueOf, Shaped}
 use Rattle.nch.specs.Write.{placesRight, all, flaggedRight, release6InRange, inRange, callsOf, reducedIsLow, referencesLow, lengthsRight, hopsRight, randomsOwned, isDescribed, marksOwned, callRight, recordRefusal}
-use Rattle.nch.proofs.Places.{places-back, places-good, all-both, items-fit, told-all, told-places, told-back, take-told, count-map, count-le}
+use Rattle.nch.proofs.InPlaces.{places-back, places-good, all-both, items-fit, told-all, told-places, told-back, take-told, count-map, count-le}
 use Rattle.nch.proofs.Releases.{flag-fits, fits-flag, flag-zero, in-use, Right6, right6, range6, fits6, back6, value6, told6, low6, count6, Right7, right7, range7, fits7, back7, value7, told7, count7}
 
 -- ## From a record that the writer accepts
@@ -168,7 +169,7 @@ pub record Fits (v : Value) : Type 0 where
   numbered : optFits (num 2) (v .0)
   pub calls : itemsFit groupCall (v .1 .0)
   pub six : optFits (format release6) (v .1 .1 .0)
-  seven : optFits (format release7) (v .1 .1 .1)
+  pub seven : optFits (format release7) (v .1 .1 .1)
   randoms : length (randomsOf (v .1 .1 .0)) ≤ count cipheredValue (v .1 .0) + length (reducedsOf (v .1 .1 .0))
   marks : length (marksOf (v .1 .1 .1)) ≤ count describedValue (v .1 .0)
 

@@ -13,7 +13,8 @@ use Rattle.bits.specs.Field.{both, pick}
 use Rattle.csn1.specs.Format.{num, optFits}
 use Rattle.csn1.specs.Grammar.{number, _and_, format}
 use Rattle.csn1.specs.Told.{isThere, orZero, there, isOne, asBit}
-use Rattle.csn1.proofs.Writing.{both-true, bit-back, flag-back, flag-lt, there-back}
+use Rattle.bits.proofs.Answers.{both-true}
+use Rattle.csn1.proofs.Writing.{bit-back, flag-back, flag-lt, there-back}
 use Rattle.csn1.proofs.Telling.{true-both, number-back}
 use Rattle.nch.specs.declared.Reduced.{Reduced}
 use Rattle.nch.specs.declared.Random.{Random}
@@ -22,7 +23,7 @@ use Rattle.nch.specs.declared.Release7.{Release7}
 use Rattle.nch.specs.Octets.{Release6Value, Release7Value, AmrValue, reduced, random, amr, release6, release7, reducedsOf, randomsOf, marksOf}
 use Rattle.nch.specs.Told.{reducedOf, noReduced, randomOf, noRandom, release6Of, release7Of, orFalse, fullRate, halfRate, confidentiality, privacy, reducedValue, randomValue, release6Value, release7Value, amrValue}
 use Rattle.nch.specs.Write.{placesRight, all, flaggedRight, behind, reducedInRange, reducedIsZero, randomInRange, randomIsZero, yes, release6InRange, release7InRange, reducedIsLow}
-use Rattle.nch.proofs.Places.{places-back, places-empty, places-good, all-both, items-fit, told-all, told-places, told-back}
+use Rattle.nch.proofs.InPlaces.{places-back, places-empty, places-good, all-both, items-fit, told-all, told-places, told-back}
 
 -- ## Flags, and what stands behind them
 
@@ -82,7 +83,7 @@ reduced-value (a ∷ []) f = absurd (f .0 .1)
 reduced-value (a ∷ b ∷ []) f = ap (λ x. a ∷ x ∷ []) (bit-back b (f .0 .1 .0))
 reduced-value (a ∷ b ∷ c ∷ v) f = absurd (f .0 .1 .1)
 
-reduced-range : (v : List ℕ) → format reduced .fits v → reducedInRange (reducedOf v) ≡ true
+pub reduced-range : (v : List ℕ) → format reduced .fits v → reducedInRange (reducedOf v) ≡ true
 reduced-range [] f = absurd (f .0)
 reduced-range (a ∷ v) f = lt-ltb a (2 ^ 27) (f .0 .0)
 

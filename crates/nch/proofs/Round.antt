@@ -16,7 +16,7 @@ use Rattle.csn1.proofs.Holding.{length-put, bit-put-above, holds-put}
 use Rattle.csn1.proofs.Lawful.{length-row}
 use Rattle.csn1.proofs.Promises.{lawful, round}
 use Rattle.csn1.proofs.Lists.{items-many}
-use Rattle.csn1.proofs.Writing.{both-true}
+use Rattle.bits.proofs.Answers.{both-true}
 use Rattle.csn1.proofs.Telling.{picked, handed-on}
 use Rattle.call.specs.Call.{callGrammar, groupCall}
 use Rattle.call.proofs.Record.{call-long}

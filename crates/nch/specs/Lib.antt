@@ -1,6 +1,9 @@
+pub mod Places
 pub mod Octets
 pub mod Told
-pub mod Parts
 pub mod Write
 pub mod Owners
+pub mod CallNumbers
+pub mod NotificationNumbers
+pub mod Passing
 pub mod Promises

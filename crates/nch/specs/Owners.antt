@@ -1,9 +1,9 @@
 -- Which call owns which random entry and which emergency mark (10.5.2.22c). Assumes nothing.
 use mathlib.Core.List.{List, [], _∷_}
-use mathlib.Core.Bool.{Bool, true, false}
+use mathlib.Core.Bool.{Bool, false}
 use mathlib.Core.Option.{Option, none, some}
 use Prim.Native.Nat.{ℕ, zero, suc, _+_}
-use lib.ListN.{take, drop, getD}
+use lib.ListN.{take, getD}
 use Rattle.bits.specs.Field.{pick}
 use Rattle.call.specs.Call.{ciphered, noCall}
 use Rattle.call.specs.declared.Call.{Call}

@@ -7,7 +7,8 @@ use Prim.Native.Nat.{ℕ}
 use lib.ListN.{length, getD, take}
 use Rattle.csn1.specs.Format.{Res, ok, bad, noRefusal}
 use Rattle.csn1.specs.Told.{isThere, orZero, there, isOne, asBit, padded}
-use Rattle.call.specs.Call.{CallValue, callOf, callValue, noCall}
+use Rattle.call.specs.Call.{callOf, callValue, noCall}
+use Rattle.nch.specs.Places.{mostCalls, mostReduceds, mostRandoms, mostMarks}
 use Rattle.nch.specs.Octets.{Release6Value, AmrValue, Release7Value, Value, readOctets}
 use Rattle.nch.specs.declared.Reduced.{Reduced}
 use Rattle.nch.specs.declared.Random.{Random}
@@ -42,9 +43,9 @@ noRelease6 =
       counted = false;
       cellcount = 0;
       reducedcount = 0;
-      reduced = padded noReduced 5 [];
+      reduced = padded noReduced mostReduceds [];
       randomcount = 0;
-      randoms = padded noRandom 9 [];
+      randoms = padded noRandom mostRandoms [];
     }
 
 abbrev pub release6Of : Option Release6Value → Release6
@@ -55,9 +56,9 @@ release6Of (some v) =
       counted = isThere (v .0);
       cellcount = orZero (v .0);
       reducedcount = length (v .1 .0);
-      reduced = padded noReduced 5 (map reducedOf (v .1 .0));
+      reduced = padded noReduced mostReduceds (map reducedOf (v .1 .0));
       randomcount = length (v .1 .1);
-      randoms = padded noRandom 9 (map randomOf (v .1 .1));
+      randoms = padded noRandom mostRandoms (map randomOf (v .1 .1));
     }
 
 -- ## Release 7
@@ -67,7 +68,7 @@ noRelease7 =
     record {
       there = false;
       markcount = 0;
-      marks = padded false 4 [];
+      marks = padded false mostMarks [];
       uplinked = false;
       uplink = false;
       amr = false;
@@ -103,7 +104,7 @@ release7Of (some v) =
     record {
       there = true;
       markcount = length (v .0);
-      marks = padded false 4 (map isOne (v .0));
+      marks = padded false mostMarks (map isOne (v .0));
       uplinked = isThere (v .1 .0);
       uplink = orFalse (v .1 .0);
       amr = isThere (v .1 .1 .0);
@@ -124,13 +125,13 @@ recordOf v =
       numbered = isThere (v .0);
       nln = orZero (v .0);
       callcount = length (v .1 .0);
-      calls = padded noCall 4 (map callOf (v .1 .0));
+      calls = padded noCall mostCalls (map callOf (v .1 .0));
       release6 = release6Of (v .1 .1 .0);
       release7 = release7Of (v .1 .1 .1);
     }
 
 abbrev pub noRecord : Notification
-noRecord = record { numbered = false; nln = 0; callcount = 0; calls = padded noCall 4 []; release6 = noRelease6; release7 = noRelease7 }
+noRecord = record { numbered = false; nln = 0; callcount = 0; calls = padded noCall mostCalls []; release6 = noRelease6; release7 = noRelease7 }
 
 -- a refusal is its number alone
 abbrev pub readingOf : Res Value → Reading
@@ -143,10 +144,10 @@ readOf s = readingOf (readOctets s)
 
 -- the arrays have their places, as every record of the code has by its type
 pub record Shaped (m : Notification) : Type 0 where
-  pub calls : length (m .calls) ≡ 4
-  pub reduced : length (m .release6 .reduced) ≡ 5
-  pub randoms : length (m .release6 .randoms) ≡ 9
-  pub marks : length (m .release7 .marks) ≡ 4
+  pub calls : length (m .calls) ≡ mostCalls
+  pub reduced : length (m .release6 .reduced) ≡ mostReduceds
+  pub randoms : length (m .release6 .randoms) ≡ mostRandoms
+  pub marks : length (m .release7 .marks) ≡ mostMarks
 
 -- ## And back: the value that a record says
 

@@ -14,6 +14,7 @@ use Rattle.nch.specs.declared.Random.{Random}
 use Rattle.nch.specs.declared.Release6.{Release6}
 use Rattle.nch.specs.declared.Release7.{Release7}
 use Rattle.nch.specs.declared.Notification.{Notification}
+use Rattle.nch.specs.Places.{mostCalls, mostReduceds, mostRandoms, mostMarks}
 use Rattle.nch.specs.Octets.{count, notification}
 use Rattle.nch.specs.Told.{valueOf}
 
@@ -65,8 +66,8 @@ release6Places r =
 -- an absent release has nothing in it
 unfoldable pub release6InRange : Release6 → Bool
 release6InRange r =
-    both (leb (r .reducedcount) 5)
-    (both (leb (r .randomcount) 9)
+    both (leb (r .reducedcount) mostReduceds)
+    (both (leb (r .randomcount) mostRandoms)
     (both (pick (r .there) true (both (not (r .counted)) (both (eqb (r .reducedcount) 0) (eqb (r .randomcount) 0)))) (release6Places r)))
 
 abbrev pub amrInRange : Release7 → Bool
@@ -82,12 +83,12 @@ release7Parts r = both (placesRight yes not (r .markcount) (r .marks)) (flagsInR
 
 unfoldable pub release7InRange : Release7 → Bool
 release7InRange r =
-    both (leb (r .markcount) 4)
+    both (leb (r .markcount) mostMarks)
     (both (pick (r .there) true (both (eqb (r .markcount) 0) (both (not (r .uplinked)) (both (not (r .amr)) (not (r .sms)))))) (release7Parts r))
 
 unfoldable pub inRange : Notification → Bool
 inRange m =
-    both (leb (m .callcount) 4)
+    both (leb (m .callcount) mostCalls)
     (both (flaggedRight (m .numbered) (m .nln) 4)
     (both (placesRight callInRange callIsZero (m .callcount) (m .calls)) (both (release6InRange (m .release6)) (release7InRange (m .release7)))))
 

@@ -1,13 +1,14 @@
 // NT/N Rest Octets (44.018, 10.5.2.22c): the 20 octets of the notification channel, read and written.
 ghost use mathlib.Core.Path.{_≡_};
-ghost use Rattle.csn1.specs.Format.{bad};
-ghost use Rattle.nch.specs.Told.{readOf, readingOf};
+ghost use Rattle.nch.specs.Told.{readOf};
 use call::Call;
 use csn1::Refusal;
 
-mod additions6;
-pub mod additions7;
-pub mod calls;
+mod additions;
+mod lists;
+pub mod numbers;
+pub mod places;
+pub mod reader;
 
 // A Reduced GCR: the reference and service flag of a call that another message carries whole.
 pub struct Reduced {
@@ -31,9 +32,9 @@ pub struct Release6 {
     // CELL_GLOBAL_COUNT.
     pub cellcount: u8,
     pub reducedcount: usize,
-    pub reduced: [Reduced; 5],
+    pub reduced: [Reduced; places::MOST_REDUCEDS],
     pub randomcount: usize,
-    pub randoms: [Random; 9],
+    pub randoms: [Random; places::MOST_RANDOMS],
 }
 
 // What Release 7 added.
@@ -41,7 +42,7 @@ pub struct Release7 {
     pub there: bool,
     pub markcount: usize,
     // Emergency_Ind.
-    pub marks: [bool; 4],
+    pub marks: [bool; places::MOST_MARKS],
     pub uplinked: bool,
     // Priority Uplink Access: on the group channel where true.
     pub uplink: bool,
@@ -64,7 +65,7 @@ pub struct Notification {
     pub numbered: bool,
     pub nln: u8,
     pub callcount: usize,
-    pub calls: [Call; 4],
+    pub calls: [Call; places::MOST_CALLS],
     pub release6: Release6,
     pub release7: Release7,
 }
@@ -76,62 +77,15 @@ pub struct Reading {
     pub record: Notification,
 }
 
-fn refused(refusal: Refusal) -> Reading
-    ensures { λ r. ⌜ r ≡ readingOf (bad refusal) ⌝ }
-{
-    Reading {
-        refusal,
-        used: 0,
-        record: Notification {
-            numbered: false,
-            nln: 0,
-            callcount: 0,
-            calls: [call::no_call(); 4],
-            release6: additions6::absent(),
-            release7: additions7::absent(),
-        },
-    }
-}
-
-// Reads any octets. In twenty the NLN is always there; refusals 6 and 7 come behind the whole message. All is in one function, so that the record is copied once.
+// Reads any octets: into an array of numbers, of which the record is then made. A refused reading leaves zeros there, whose record is all zero.
 pub fn read(octets: &[u8]) -> Reading
     ensures { λ r. ⌜ r ≡ readOf (now (octets .entry)) ⌝ }
 {
-    if octets.len() != 20 {
-        return refused(csn1::ground(1));
-    }
-    let nln = csn1::read_flagged(octets, 0, 2);
-    let c = calls::read_listed(octets, nln.at);
-    if c.refusal.number != 0 {
-        return refused(c.refusal);
-    }
-    let six = additions6::read_release6(octets, c.at);
-    if six.refusal.number != 0 {
-        return refused(six.refusal);
-    }
-    let seven = additions7::read_release7(octets, six.at);
-    if seven.refusal.number != 0 {
-        return refused(seven.refusal);
-    }
-    if c.ciphered + six.release.reducedcount < six.release.randomcount {
-        return refused(csn1::ground(6));
-    }
-    if c.described < seven.release.markcount {
-        return refused(csn1::ground(7));
-    }
-    let calls = c.calls;
-    let release6 = six.release;
-    let release7 = seven.release;
+    let mut all = [0u64; places::LENGTH];
+    let refusal = reader::read_into(octets, &mut all);
     Reading {
-        refusal: csn1::no_refusal(),
-        used: seven.at,
-        record: Notification {
-            numbered: nln.there,
-            nln: nln.value as u8,
-            callcount: c.count,
-            calls,
-            release6,
-            release7,
-        },
+        refusal,
+        used: all[places::USED] as usize,
+        record: numbers::record_from(&all),
     }
 }

@@ -1,6 +1,4 @@
 // Reads NT/N Rest Octets in hexadecimal, a message to a line, and shows of each its record and the octets written again, or its refusal.
-ghost use Prim.Native.Nat.{_+_, _≤_};
-ghost use lib.ListN.{length};
 use call::Call;
 use call::Description;
 use libc::STDOUT_FILENO;
@@ -9,209 +7,195 @@ use nch::Random;
 use nch::Reduced;
 use nch::Release6;
 use nch::Release7;
+use text::Line;
 
 fn wide(octet: u8) -> u64 {
     octet as u64
 }
 
-// A word, and a number behind it.
-fn show(word: &[u8], n: u64) {
-    io::write_all(STDOUT_FILENO, word);
-    io::print_decimal(STDOUT_FILENO, n);
-}
-
-fn show_hex(word: &[u8], n: u64, width: usize) {
-    io::write_all(STDOUT_FILENO, word);
-    io::print_hex(STDOUT_FILENO, n, width);
-}
-
-fn show_description(d: Description) {
-    show_hex(b" channel ", d.channel as u64, 6);
+fn show_description(line: Line, d: Description) -> Line {
+    let line = line.hex(b" channel ", d.channel as u64, 6);
     if !d.hopping {
-        return;
+        return line;
     }
     if d.shortlist {
-        show_hex(b" list ", d.frequencies, 1);
-        return;
+        return line.hex(b" list ", d.frequencies, 1);
     }
-    show(b" allocation ", d.length as u64);
-    show_hex(b" ", d.frequencies, 1);
+    line.number(b" allocation ", d.length as u64)
+        .hex(b" ", d.frequencies, 1)
 }
 
-fn show_call(c: Call) {
-    show(b" call ", c.reference as u64);
-    show(b" ", c.vgcs as u64);
-    show(b" ", c.acknowledged as u64);
-    show(b" ", c.priority as u64);
-    show(b" ", c.cipher as u64);
+fn show_call(line: Line, c: Call) -> Line {
+    let line = line.number(b" call ", c.reference as u64)
+        .number(b" ", c.vgcs as u64)
+        .number(b" ", c.acknowledged as u64)
+        .number(b" ", c.priority as u64)
+        .number(b" ", c.cipher as u64);
     if c.described {
         let d = c.description;
-        show_description(d);
+        return show_description(line, d);
     }
+    line
 }
 
-fn show_reduced(c: Reduced) {
-    show(b" reduced ", c.reference as u64);
-    show(b" ", c.vgcs as u64);
+fn show_reduced(line: Line, c: Reduced) -> Line {
+    line.number(b" reduced ", c.reference as u64)
+        .number(b" ", c.vgcs as u64)
 }
 
-fn show_random(c: Random) {
-    show(b" random ", c.segment as u64);
+fn show_random(line: Line, c: Random) -> Line {
+    let line = line.number(b" random ", c.segment as u64);
     if c.given {
-        show_hex(b" ", c.rand, 1);
+        return line.hex(b" ", c.rand, 1);
     }
+    line
 }
 
-fn show_six(r: Release6) {
-    io::write_all(STDOUT_FILENO, b" six");
-    if r.counted {
-        show(b" count ", r.cellcount as u64);
-    }
+fn show_reduceds(before: Line, r: Release6) -> Line {
     let reduced = r.reduced;
+    let mut line = before;
     let mut i: usize = 0;
     while i < 5 {
         if i < r.reducedcount {
             let c = reduced[i];
-            show_reduced(c);
+            line = show_reduced(line, c);
         }
         i += 1;
     }
-    show_randoms(r);
+    line
 }
 
-fn show_randoms(r: Release6) {
+fn show_randoms(before: Line, r: Release6) -> Line {
     let randoms = r.randoms;
+    let mut line = before;
     let mut i: usize = 0;
     while i < 9 {
         if i < r.randomcount {
             let c = randoms[i];
-            show_random(c);
+            line = show_random(line, c);
         }
         i += 1;
     }
+    line
 }
 
-fn show_seven(r: Release7) {
-    io::write_all(STDOUT_FILENO, b" seven");
+fn show_six(before: Line, r: Release6) -> Line {
+    let mut line = before.word(b" six");
+    if r.counted {
+        line = line.number(b" count ", r.cellcount as u64);
+    }
+    show_randoms(show_reduceds(line, r), r)
+}
+
+fn show_marks(before: Line, r: Release7) -> Line {
     let marks = r.marks;
+    let mut line = before;
     let mut i: usize = 0;
     while i < 4 {
         if i < r.markcount {
             let mark = marks[i];
-            show(b" mark ", mark as u64);
+            line = line.number(b" mark ", mark as u64);
         }
         i += 1;
     }
-    if r.uplinked {
-        show(b" uplink ", r.uplink as u64);
-    }
-    show_amr(r);
-    if r.sms {
-        show(b" sms ", r.confidential as u64);
-        show(b" ", r.private as u64);
-    }
+    line
 }
 
-fn show_amr(r: Release7) {
-    if !r.amr {
-        return;
+fn show_seven(before: Line, r: Release7) -> Line {
+    let mut line = show_marks(before.word(b" seven"), r);
+    if r.uplinked {
+        line = line.number(b" uplink ", r.uplink as u64);
     }
-    io::write_all(STDOUT_FILENO, b" amr");
+    line = show_amr(line, r);
+    if r.sms {
+        line = line.number(b" sms ", r.confidential as u64)
+            .number(b" ", r.private as u64);
+    }
+    line
+}
+
+fn show_amr(before: Line, r: Release7) -> Line {
+    if !r.amr {
+        return before;
+    }
+    let mut line = before.word(b" amr");
     if r.fullrated {
-        show(b" full ", r.fullrate as u64);
+        line = line.number(b" full ", r.fullrate as u64);
     }
     if r.halfrated {
-        show(b" half ", r.halfrate as u64);
+        line = line.number(b" half ", r.halfrate as u64);
     }
+    line
 }
 
-fn show_calls(m: Notification) {
+fn show_calls(before: Line, m: Notification) -> Line {
     let calls = m.calls;
+    let mut line = before;
     let mut i: usize = 0;
     while i < 4 {
         if i < m.callcount {
             let c = calls[i];
-            show_call(c);
+            line = show_call(line, c);
         }
         i += 1;
     }
+    line
 }
 
-fn show_record(m: Notification) {
+fn show_record(before: Line, m: Notification) -> Line {
+    let mut line = before;
     if m.numbered {
-        show(b" nln ", m.nln as u64);
+        line = line.number(b" nln ", m.nln as u64);
     }
-    show_calls(m);
+    line = show_calls(line, m);
     let six = m.release6;
     if six.there {
-        show_six(six);
+        line = show_six(line, six);
     }
     let seven = m.release7;
     if seven.there {
-        show_seven(seven);
+        line = show_seven(line, seven);
     }
+    line
+}
+
+fn show_octets(before: Line, octets: [u8; 20]) -> Line {
+    let mut line = before;
+    let mut i: usize = 0;
+    while i < 20 {
+        line = line.hex(b"", wide(octets[i]), 2);
+        i += 1;
+    }
+    line
 }
 
 // What the writer makes of the record again.
-fn show_written(m: Notification) {
+fn show_written(line: Line, m: Notification) -> Line {
     let mut back = [0u8; 20];
     let refusal = nch_write::write(m, &mut back);
     if refusal != 0 {
-        show(b" not written ", refusal as u64);
-        return;
+        return line.number(b" not written ", refusal as u64);
     }
-    io::write_all(STDOUT_FILENO, b" written ");
-    let mut i: usize = 0;
-    while i < 20 {
-        show_hex(b"", wide(back[i]), 2);
-        i += 1;
-    }
+    show_octets(line.word(b" written "), back)
 }
 
-fn show_message(octets: &[u8]) {
+fn show_message(octets: &[u8]) -> Line {
     let r = nch::read(octets);
     if r.refusal.number != 0 {
-        show(b"refused ", r.refusal.number as u64);
-    } else {
-        show(b"used ", r.used as u64);
-        let m = r.record;
-        show_record(m);
-        show_written(m);
+        return Line::new().number(b"refused ", r.refusal.number as u64);
     }
-    io::write_all(STDOUT_FILENO, b"\n");
-}
-
-// The value of a hexadecimal digit; any other character counts as 0.
-fn digit(c: u8) -> u8
-    ensures { λ r. ⌜ r ≤ 15 ⌝ }
-{
-    if c < b'0' {
-        return 0;
-    }
-    if c <= b'9' {
-        return c - b'0';
-    }
-    if c < b'a' {
-        return 0;
-    }
-    if c <= b'f' {
-        return c - b'a' + 10;
-    }
-    0
+    let m = r.record;
+    show_written(
+        show_record(Line::new().number(b"used ", r.used as u64), m),
+        m,
+    )
 }
 
 // The octets of a line, of which a message keeps 64 at most.
-fn show_line(line: &[u8]) {
+fn show_line(digits: &[u8]) {
     let mut octets = [0u8; 64];
-    let mut n: usize = 0;
-    while n < 64 {
-        if line.len() / 2 <= n {
-            break;
-        }
-        octets[n] = digit(line[2 * n]) * 16 + digit(line[2 * n + 1]);
-        n += 1;
-    }
-    show_message(&octets[..n]);
+    let n = text::read_hex(digits, &mut octets);
+    show_message(&octets[..n]).end(STDOUT_FILENO);
 }
 
 fn show_lines(text: &[u8]) {

@@ -12,7 +12,7 @@ use Rattle.call.specs.Write.{callInRange, callIsZero}
 use Rattle.nch.specs.declared.Notification.{Notification}
 use Rattle.nch.specs.Octets.{count}
 use Rattle.nch.specs.Write.{inRange, release6InRange, flaggedRight, placesRight}
-use Rattle.csn1.proofs.Writing.{both-true}
+use Rattle.bits.proofs.Answers.{both-true}
 
 -- no more pass a test than were tested
 pub count-few : {A : Type 0} (t : A → Bool) (n : ℕ) (l : List A) → count t (take n l) ≤ n

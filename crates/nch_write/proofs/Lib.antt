@@ -1,3 +1,4 @@
 pub mod Testing
 pub mod InRange
+pub mod Counting
 pub mod Putting

@@ -1,12 +1,10 @@
 -- What the writer's loops and flags put: an item of each list behind its 1, and the numbers that are put as one. Assumes nothing.
 use mathlib.Core.Path.{_≡_, sym, ap, _∙_}
-use mathlib.Core.List.{List, [], _∷_, _++_}
+use mathlib.Core.List.{List, [], _∷_}
 use mathlib.Core.Bool.{Bool, true, false, not}
 use Prim.Native.Nat.{ℕ, zero, suc, _+_, _*_, _^_, _≤_, _<_}
 use native.Mathlib.Omega.{arith}
-use native.Mathlib.Numerals.{add-one}
-use lib.ListN.{length, getD, take, set, replicate}
-use lib.Seq.{take-all, take-suc, take-suc-set}
+use lib.ListN.{length, getD, take, replicate}
 use lib.Dec.{leb, eqb}
 use borrow.Author.Tests.{ltb-true, leb-true, eqb-true, le-leb, lt-leb, eq-eqb, ne-eqb}
 use Rattle.bits.specs.Field.{both, pick, afterPut}
@@ -14,7 +12,8 @@ use Rattle.csn1.specs.Format.{num, numBits, _⨟_, opt, putBits}
 use Rattle.csn1.specs.Grammar.{format}
 use Rattle.csn1.specs.Put.{Put}
 use Rattle.csn1.specs.Told.{there, asBit}
-use Rattle.csn1.proofs.Writing.{both-true, flag-lt}
+use Rattle.bits.proofs.Answers.{both-true}
+use Rattle.csn1.proofs.Writing.{flag-lt}
 use Rattle.csn1.proofs.Putting.{Laid, laid-then, laid-row, laid-bit, laid, bits}
 use Rattle.call.specs.declared.Call.{Call}
 use Rattle.call.specs.Call.{groupCall, callValue, oneToEight}
@@ -100,15 +99,6 @@ call-short c r =
     go true true false e =
         let n = c .description .length in
         omega (arith, leb-true n 8 (both-true (leb 1 n) (leb n 8) e .1))
-
--- ## A list copied
-
-pub copied-next : (f o : List ℕ) (i : ℕ) → take i o ≡ take i f → i < length o → i < length f → take (i + 1) (set o i (getD f i 0)) ≡ take (i + 1) f
-copied-next f o i e h k =
-    rw (add-one i) (take-suc-set o i (getD f i 0) h ∙ ap (λ (l : List ℕ). l ++ (getD f i 0 ∷ [])) e ∙ sym (take-suc f i 0 k))
-
-pub copied : (f o : List ℕ) (i : ℕ) → take i o ≡ take i f → length o ≤ i → length f ≤ i → o ≡ f
-copied f o i e h k = sym (take-all i o h) ∙ e ∙ take-all i f k
 
 -- ## What `write` answers
 

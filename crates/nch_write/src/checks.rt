@@ -5,13 +5,14 @@ ghost use lib.ListN.{take};
 ghost use Rattle.bits.specs.Field.{both};
 ghost use Rattle.call.specs.Write.{callInRange, callIsZero, callIsLow, callLengthRight, callHopsRight};
 ghost use Rattle.nch.specs.Write.{placesRight, all, flaggedRight, behind, reducedInRange, reducedIsZero, reducedIsLow, randomInRange, randomIsZero, yes, release6InRange, flagsInRange, release7InRange, inRange, recordRefusal};
+use crate::calls;
 use call::Call;
 use nch::Notification;
 use nch::Random;
 use nch::Reduced;
 use nch::Release6;
 use nch::Release7;
-use nch::calls;
+use nch::places;
 
 // A number behind a flag: below its limit, and 0 where the flag is not set.
 fn flagged_right(there: bool, v: u64, limit: u64) -> bool
@@ -33,11 +34,11 @@ fn bit_right(there: bool, b: bool) -> bool
     !b
 }
 
-fn calls_in_range(calls: [Call; 4], n: usize) -> bool
+fn calls_in_range(calls: [Call; places::MOST_CALLS], n: usize) -> bool
     ensures { λ r. ⌜ r ≡ placesRight callInRange callIsZero n calls ⌝ }
 {
     let mut i: usize = 0;
-    while i < 4 {
+    while i < places::MOST_CALLS {
         let c = calls[i];
         if i < n {
             if !call::writer::in_range(c) {
@@ -62,11 +63,11 @@ fn reduced_is_zero(c: Reduced) -> bool
     !c.vgcs
 }
 
-fn reduceds_in_range(items: [Reduced; 5], n: usize) -> bool
+fn reduceds_in_range(items: [Reduced; places::MOST_REDUCEDS], n: usize) -> bool
     ensures { λ r. ⌜ r ≡ placesRight reducedInRange reducedIsZero n items ⌝ }
 {
     let mut i: usize = 0;
-    while i < 5 {
+    while i < places::MOST_REDUCEDS {
         let c = items[i];
         if i < n {
             if 134217727 < c.reference {
@@ -94,11 +95,11 @@ fn random_is_zero(c: Random) -> bool
     c.rand == 0
 }
 
-fn randoms_in_range(items: [Random; 9], n: usize) -> bool
+fn randoms_in_range(items: [Random; places::MOST_RANDOMS], n: usize) -> bool
     ensures { λ r. ⌜ r ≡ placesRight randomInRange randomIsZero n items ⌝ }
 {
     let mut i: usize = 0;
-    while i < 9 {
+    while i < places::MOST_RANDOMS {
         let c = items[i];
         if i < n {
             if !flagged_right(c.given, c.rand, 68719476736) {
@@ -114,11 +115,11 @@ fn randoms_in_range(items: [Random; 9], n: usize) -> bool
     true
 }
 
-fn marks_in_range(marks: [bool; 4], n: usize) -> bool
+fn marks_in_range(marks: [bool; places::MOST_MARKS], n: usize) -> bool
     ensures { λ r. ⌜ r ≡ placesRight yes not n marks ⌝ }
 {
     let mut i: usize = 0;
-    while i < 4 {
+    while i < places::MOST_MARKS {
         let m = marks[i];
         if n <= i {
             if m {
@@ -133,10 +134,10 @@ fn marks_in_range(marks: [bool; 4], n: usize) -> bool
 fn release6_in_range(r: Release6) -> bool
     ensures { λ b. ⌜ b ≡ release6InRange r ⌝ }
 {
-    if 5 < r.reducedcount {
+    if places::MOST_REDUCEDS < r.reducedcount {
         return false;
     }
-    if 9 < r.randomcount {
+    if places::MOST_RANDOMS < r.randomcount {
         return false;
     }
     if !r.there {
@@ -189,7 +190,7 @@ fn flags_in_range(r: Release7) -> bool
 fn release7_in_range(r: Release7) -> bool
     ensures { λ b. ⌜ b ≡ release7InRange r ⌝ }
 {
-    if 4 < r.markcount {
+    if places::MOST_MARKS < r.markcount {
         return false;
     }
     if !r.there {
@@ -217,7 +218,7 @@ fn release7_in_range(r: Release7) -> bool
 pub fn in_range(m: Notification) -> bool
     ensures { λ r. ⌜ r ≡ inRange m ⌝ }
 {
-    if 4 < m.callcount {
+    if places::MOST_CALLS < m.callcount {
         return false;
     }
     if !flagged_right(m.numbered, m.nln as u64, 4) {
@@ -251,14 +252,14 @@ fn both_hold(a: bool, b: bool) -> bool
     false
 }
 
-fn calls_tested(calls: [Call; 4], n: usize) -> Tested
+fn calls_tested(calls: [Call; places::MOST_CALLS], n: usize) -> Tested
     ensures { λ r. ⌜ (r .low ≡ all callIsLow (take n calls)) × ((r .lengths ≡ all callLengthRight (take n calls)) × (r .hops ≡ all callHopsRight (take n calls))) ⌝ }
 {
     let mut low = true;
     let mut lengths = true;
     let mut hops = true;
     let mut i: usize = 0;
-    while i < 4 {
+    while i < places::MOST_CALLS {
         let c = calls[i];
         if i < n {
             low = both_hold(low, call::writer::is_low(c));
@@ -270,11 +271,11 @@ fn calls_tested(calls: [Call; 4], n: usize) -> Tested
     Tested { low, lengths, hops }
 }
 
-fn reduceds_low(items: [Reduced; 5], n: usize) -> bool
+fn reduceds_low(items: [Reduced; places::MOST_REDUCEDS], n: usize) -> bool
     ensures { λ r. ⌜ r ≡ all reducedIsLow (take n items) ⌝ }
 {
     let mut i: usize = 0;
-    while i < 5 {
+    while i < places::MOST_REDUCEDS {
         let c = items[i];
         if i < n {
             if 99999999 < c.reference {

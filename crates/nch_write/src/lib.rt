@@ -10,6 +10,7 @@ ghost use Rattle.csn1.specs.Grammar.{format};
 ghost use Rattle.csn1.specs.Put.{Put, PutLow};
 ghost use Rattle.csn1.specs.Told.{there, asBit};
 ghost use Rattle.call.specs.Call.{groupCall, callValue};
+ghost use Rattle.nch.specs.Places.{mostCalls, mostReduceds, mostRandoms, mostMarks};
 ghost use Rattle.nch.specs.Octets.{reduced, random, amr, release6, release7, notification};
 ghost use Rattle.nch.specs.Told.{reducedValue, randomValue, amrValue, release6Value, release7Value, valueOf};
 ghost use Rattle.nch.specs.Write.{all, callRight, reducedInRange, randomInRange, release6InRange, release7InRange, recordRefusal, writeNumber, afterWrite};
@@ -19,7 +20,9 @@ use nch::Random;
 use nch::Reduced;
 use nch::Release6;
 use nch::Release7;
+use nch::places;
 
+mod calls;
 pub mod checks;
 
 fn bit_of(b: bool) -> u64
@@ -45,8 +48,8 @@ fn put_flagged(buf: &mut [u8], at: usize, here: bool, width: usize, v: u64) -> u
     at + 1 + width
 }
 
-fn put_calls(buf: &mut [u8], from: usize, calls: [Call; 4], count: usize) -> usize
-    requires { ⌜ (count ≤ 4) × ((from ≤ 4096) × ((length (now buf) ≡ 20) × (all callRight (take count calls) ≡ true))) ⌝ }
+fn put_calls(buf: &mut [u8], from: usize, calls: [Call; places::MOST_CALLS], count: usize) -> usize
+    requires { ⌜ (count ≤ mostCalls) × ((from ≤ 4096) × ((length (now buf) ≡ 20) × (all callRight (take count calls) ≡ true))) ⌝ }
     ensures { λ r. ⌜ Put (list groupCall) 160 from (map callValue (take count calls)) r (now (buf .entry)) (now (buf .exit)) × (r ≤ from + 545) ⌝ }
 {
     let mut at = from;
@@ -62,8 +65,13 @@ fn put_calls(buf: &mut [u8], from: usize, calls: [Call; 4], count: usize) -> usi
     at + 1
 }
 
-fn put_reduceds(buf: &mut [u8], from: usize, items: [Reduced; 5], count: usize) -> usize
-    requires { ⌜ (count ≤ 5) × ((from ≤ 4096) × ((length (now buf) ≡ 20) × (all reducedInRange (take count items) ≡ true))) ⌝ }
+fn put_reduceds(
+    buf: &mut [u8],
+    from: usize,
+    items: [Reduced; places::MOST_REDUCEDS],
+    count: usize,
+) -> usize
+    requires { ⌜ (count ≤ mostReduceds) × ((from ≤ 4096) × ((length (now buf) ≡ 20) × (all reducedInRange (take count items) ≡ true))) ⌝ }
     ensures { λ r. ⌜ Put (list (format reduced)) 160 from (map reducedValue (take count items)) r (now (buf .entry)) (now (buf .exit)) × (r ≤ from + 146) ⌝ }
 {
     let mut at = from;
@@ -80,8 +88,13 @@ fn put_reduceds(buf: &mut [u8], from: usize, items: [Reduced; 5], count: usize) 
     at + 1
 }
 
-fn put_randoms(buf: &mut [u8], from: usize, items: [Random; 9], count: usize) -> usize
-    requires { ⌜ (count ≤ 9) × ((from ≤ 4096) × ((length (now buf) ≡ 20) × (all randomInRange (take count items) ≡ true))) ⌝ }
+fn put_randoms(
+    buf: &mut [u8],
+    from: usize,
+    items: [Random; places::MOST_RANDOMS],
+    count: usize,
+) -> usize
+    requires { ⌜ (count ≤ mostRandoms) × ((from ≤ 4096) × ((length (now buf) ≡ 20) × (all randomInRange (take count items) ≡ true))) ⌝ }
     ensures { λ r. ⌜ Put (list (format random)) 160 from (map randomValue (take count items)) r (now (buf .entry)) (now (buf .exit)) × (r ≤ from + 352) ⌝ }
 {
     let mut at = from;
@@ -96,8 +109,8 @@ fn put_randoms(buf: &mut [u8], from: usize, items: [Random; 9], count: usize) ->
     at + 1
 }
 
-fn put_marks(buf: &mut [u8], from: usize, marks: [bool; 4], count: usize) -> usize
-    requires { ⌜ (count ≤ 4) × ((from ≤ 4096) × (length (now buf) ≡ 20)) ⌝ }
+fn put_marks(buf: &mut [u8], from: usize, marks: [bool; places::MOST_MARKS], count: usize) -> usize
+    requires { ⌜ (count ≤ mostMarks) × ((from ≤ 4096) × (length (now buf) ≡ 20)) ⌝ }
     ensures { λ r. ⌜ Put (list (num 1)) 160 from (map asBit (take count marks)) r (now (buf .entry)) (now (buf .exit)) × (r ≤ from + 9) ⌝ }
 {
     let mut at = from;

@@ -9,11 +9,11 @@ use Rattle.call.specs.Write as calls
 use Rattle.facch.specs.Message as facch
 use Rattle.nch.specs.Octets.{notification}
 use Rattle.nch.specs.Write as records
-use Rattle.numbers.specs.Limits.{within}
-use Rattle.numbers.specs.Runs.{each}
-use Rattle.numbers.specs.CallNumbers.{callNumbers, descriptionFrom, callFrom}
+use Rattle.arrays.specs.Limits.{within}
+use Rattle.arrays.specs.Runs.{each}
+use Rattle.nch.specs.CallNumbers.{callNumbers, descriptionBy, callBy}
 use Rattle.numbers.specs.FacchNumbers as facch-numbers
-use Rattle.numbers.specs.NotificationNumbers.{reducedNumbers, randomNumbers, markNumbers, release6Numbers, partsNumbers, release7Numbers, numbersOf, readNumbers, reducedFrom, randomFrom, release6From, release7From, recordFrom, most, writeCode, afterWrite}
+use Rattle.nch.specs.NotificationNumbers.{reducedNumbers, randomNumbers, markNumbers, release6Numbers, partsNumbers, release7Numbers, numbersOf, readNumbers, reducedBy, randomFrom, release6By, release7By, recordBy, most, writeCode, afterWrite}
 use Rattle.numbers.specs.Promises.{everyPart, everyNumber, everyFacchPart, everyFacchNumber, Listed-numbers}
 
 facch-read : facch-numbers.readNumbers everyFacchPart ≡ everyFacchNumber ++ (183 ∷ [])
@@ -21,11 +21,11 @@ unfolding facch.notification groupCall field bit padBit callNumbers facch-number
 facch-read = refl
 
 nch-accepted : writeCode everyNumber 20 ≡ 0
-unfolding writeCode within most callFrom descriptionFrom reducedFrom randomFrom release6From release7From recordFrom records.writeNumber records.recordRefusal records.inRange records.placesRight records.all records.release6InRange records.release7InRange records.referencesLow records.lengthsRight records.hopsRight records.randomsOwned records.marksOwned calls.callInRange calls.callIsZero calls.callIsLow calls.callLengthRight calls.callHopsRight records.form notification groupCall numBits padBit
+unfolding writeCode within most callBy descriptionBy reducedBy randomFrom release6By release7By recordBy records.writeNumber records.recordRefusal records.inRange records.placesRight records.all records.release6InRange records.release7InRange records.referencesLow records.lengthsRight records.hopsRight records.randomsOwned records.marksOwned calls.callInRange calls.callIsZero calls.callIsLow calls.callLengthRight calls.callHopsRight records.form notification groupCall numBits padBit
 nch-accepted = refl
 
 nch-written : afterWrite everyNumber (replicate 20 0) ≡ everyPart
-unfolding afterWrite within most callFrom descriptionFrom reducedFrom randomFrom release6From release7From recordFrom records.afterWrite records.writeNumber records.recordRefusal records.inRange records.placesRight records.all records.release6InRange records.release7InRange records.referencesLow records.lengthsRight records.hopsRight records.randomsOwned records.marksOwned calls.callInRange calls.callIsZero calls.callIsLow calls.callLengthRight calls.callHopsRight records.form records.written notification groupCall numBits padBit putBits setBit withBit
+unfolding afterWrite within most callBy descriptionBy reducedBy randomFrom release6By release7By recordBy records.afterWrite records.writeNumber records.recordRefusal records.inRange records.placesRight records.all records.release6InRange records.release7InRange records.referencesLow records.lengthsRight records.hopsRight records.randomsOwned records.marksOwned calls.callInRange calls.callIsZero calls.callIsLow calls.callLengthRight calls.callHopsRight records.form records.written notification groupCall numBits padBit putBits setBit withBit
 nch-written = refl
 
 pub listed-numbers : Listed-numbers

@@ -10,22 +10,20 @@ use Rattle.bits.specs.Field.{pick}
 use Rattle.csn1.specs.Format.{Res, ok, bad}
 use Rattle.csn1.proofs.Telling.{picked}
 use Rattle.nch.specs.declared.Reading.{Reading}
-use Rattle.nch.specs.Octets as nch-octets
-use Rattle.nch.specs.Told as nch-told
 use Rattle.nch.specs.Told.{Shaped}
 use Rattle.facch.specs.Message as facch-message
 use Rattle.facch.specs.Told as facch-told
 use Rattle.nch.specs.Write as records
 use Rattle.nch.proofs.Promises.{reading-gives-back-what-was-written}
-use Rattle.numbers.specs.Limits.{within}
-use Rattle.numbers.specs.Runs.{each}
-use Rattle.numbers.specs.CallNumbers.{callNumbers}
+use Rattle.arrays.specs.Limits.{within}
+use Rattle.nch.specs.CallNumbers.{callNumbers}
 use Rattle.numbers.specs.FacchNumbers as facch-numbers
-use Rattle.numbers.specs.NotificationNumbers.{reducedNumbers, randomNumbers, markNumbers, release6Numbers, partsNumbers, release7Numbers, Fits, most, numbersOf, release6From, release7From, recordFrom, readNumbers, writeCode, afterWrite}
+use Rattle.nch.specs.Places.{recordLength}
+use Rattle.nch.specs.NotificationNumbers.{Fits, most, numbersOf, release6By, release7By, recordBy, recordFrom, readNumbers, writeCode, afterWrite}
 use Rattle.numbers.specs.Promises.{A-record-is-its-numbers, Numbers-are-their-record, Reading-gives-the-numbers-back, All-have-their-places, A-refused-reading-is-all-zeros}
 use Rattle.numbers.proofs.FacchRuns as facch
-use Rattle.numbers.proofs.NotificationRuns.{length-all}
-use Rattle.numbers.proofs.NotificationBack.{record-back, numbers-back}
+use Rattle.nch.proofs.NotificationRuns.{length-all}
+use Rattle.nch.proofs.NotificationBack.{record-back, numbers-back, refused-zeros}
 
 pub a-record-is-its-numbers : A-record-is-its-numbers
 a-record-is-its-numbers = record-back
@@ -36,12 +34,6 @@ numbers-are-their-record = numbers-back
 pub all-have-their-places : All-have-their-places
 all-have-their-places = (length-all, facch.length-all)
 
-nch-zeros : (r : Res nch-octets.Value) → (nch-told.readingOf r .refusal .number ≡ 0 → ⊥)
-    → numbersOf (nch-told.readingOf r .«record») ++ (nch-told.readingOf r .used ∷ []) ≡ replicate 106 0
-unfolding numbersOf each callNumbers reducedNumbers randomNumbers markNumbers release6Numbers partsNumbers release7Numbers
-nch-zeros (bad r) h = refl
-nch-zeros (ok v q) h = absurd (h refl)
-
 facch-zeros : (r : Res facch-message.Value) → (facch-told.readingOf r .refusal .number ≡ 0 → ⊥)
     → facch-numbers.numbersOf (facch-told.readingOf r .«record») ++ (facch-told.readingOf r .used ∷ []) ≡ replicate 22 0
 unfolding facch-numbers.numbersOf callNumbers
@@ -49,29 +41,30 @@ facch-zeros (bad r) h = refl
 facch-zeros (ok v q) h = absurd (h refl)
 
 pub a-refused-reading-is-all-zeros : A-refused-reading-is-all-zeros
-unfolding readNumbers facch-numbers.readNumbers
-a-refused-reading-is-all-zeros = (λ s h. nch-zeros (nch-octets.readOctets s) h, λ s h. facch-zeros (facch-message.readOctets s) h)
+unfolding facch-numbers.readNumbers
+a-refused-reading-is-all-zeros = (refused-zeros, λ s h. facch-zeros (facch-message.readOctets s) h)
 
 -- the numbers were accepted
 record Accepted (ns : List ℕ) : Type 0 where
   fitting : Fits ns
+  exact : length ns ≡ recordLength
   right : records.writeNumber (recordFrom ns) 20 ≡ 0
 
 accepted : (ns : List ℕ) → writeCode ns 20 ≡ 0 → Accepted ns
 unfolding writeCode
 accepted ns e =
-    let p = picked (eqb (length ns) 105) (pick (within ns most) (records.writeNumber (recordFrom ns) 20) 12) 13 (omega arith) e in
+    let p = picked (eqb (length ns) recordLength) (pick (within ns most) (records.writeNumber (recordFrom ns) 20) 12) 13 (omega arith) e in
     let q = picked (within ns most) (records.writeNumber (recordFrom ns) 20) 12 (omega arith) (p .1) in
-    record { fitting = record { long = eqb-true (length ns) 105 (p .0); held = q .0 }; right = q .1 }
+    record { fitting = record { long = omega (arith, eqb-true (length ns) recordLength (p .0)); held = q .0 }; exact = eqb-true (length ns) recordLength (p .0); right = q .1 }
 
 shaped : (ns : List ℕ) → Shaped (recordFrom ns)
-unfolding recordFrom release6From release7From
+unfolding recordBy release6By release7By
 shaped ns = record { calls = refl; reduced = refl; randoms = refl; marks = refl }
 
 left-behind : (ns b : List ℕ) → length b ≡ 20 → Accepted ns → afterWrite ns b ≡ records.written (recordFrom ns)
 unfolding afterWrite records.afterWrite
 left-behind ns b n a =
-    rw (eq-eqb (length ns) 105 (a .fitting .long), a .fitting .held, n, eq-eqb (records.writeNumber (recordFrom ns) 20) 0 (a .right))
+    rw (eq-eqb (length ns) recordLength (a .exact), a .fitting .held, n, eq-eqb (records.writeNumber (recordFrom ns) 20) 0 (a .right))
 
 pub reading-gives-the-numbers-back : Reading-gives-the-numbers-back
 unfolding readNumbers
@@ -79,4 +72,4 @@ reading-gives-the-numbers-back ns b n e =
     let a = accepted ns e in
     rw (left-behind ns b n a)
     (ap (λ (r : Reading). numbersOf (r .«record») ++ (r .used ∷ [])) (reading-gives-back-what-was-written (recordFrom ns) (shaped ns) (a .right))
-    ∙ ap (λ (l : List ℕ). l ++ (length (records.form (recordFrom ns)) ∷ [])) (numbers-back ns (a .fitting)))
+    ∙ ap (λ (l : List ℕ). l ++ (length (records.form (recordFrom ns)) ∷ [])) (numbers-back ns (a .exact) (a .fitting)))

@@ -6,7 +6,7 @@ use Rattle.facch.specs.declared.Release6.{Release6}
 use Rattle.facch.specs.declared.Release7.{Release7}
 use Rattle.facch.specs.declared.Notification.{Notification}
 use Rattle.facch.specs.Told.{readOf}
-use Rattle.numbers.specs.CallNumbers.{callNumbers}
+use Rattle.nch.specs.CallNumbers.{callNumbers}
 
 -- Release 6 there, count there, CELL_GLOBAL_COUNT, B22_COUNT, VSTK_RAND there, VSTK_RAND
 abbrev pub release6Numbers : Release6 → List ℕ

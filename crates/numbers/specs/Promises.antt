@@ -9,7 +9,7 @@ use Rattle.facch.specs.Told as facch-told
 use Rattle.nch.specs.Told.{Shaped, readOf}
 use Rattle.nch.specs.Write.{form}
 use Rattle.numbers.specs.FacchNumbers as facch-numbers
-use Rattle.numbers.specs.NotificationNumbers.{Fits, numbersOf, recordFrom, readNumbers, writeCode, afterWrite}
+use Rattle.nch.specs.NotificationNumbers.{Fits, numbersOf, recordFrom, readNumbers, writeCode, afterWrite}
 
 -- 1. A record of NT/N Rest Octets is its numbers: no number is missing.
 abbrev pub A-record-is-its-numbers : Type 0
@@ -17,7 +17,7 @@ A-record-is-its-numbers = (m : nch.Notification) → Shaped m → recordFrom (nu
 
 -- 2. And numbers that its fields can hold are their record: no number is left aside.
 abbrev pub Numbers-are-their-record : Type 0
-Numbers-are-their-record = (ns : List ℕ) → Fits ns → numbersOf (recordFrom ns) ≡ ns
+Numbers-are-their-record = (ns : List ℕ) → length ns ≡ 105 → Fits ns → numbersOf (recordFrom ns) ≡ ns
 
 -- 3. Reading what was written gives the numbers back, and behind them the length of the written form.
 abbrev pub Reading-gives-the-numbers-back : Type 0

@@ -1,7 +1,4 @@
 // The codecs on arrays of numbers, in the order that include/asternhaken.h gives, for test rigs.
-mod calls;
-pub mod fill;
 mod limits;
 pub mod on_facch;
 pub mod on_nch;
-mod reading;

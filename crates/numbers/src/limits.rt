@@ -1,20 +1,17 @@
 // The largest number of each field of NT/N Rest Octets, in the order of the numbers.
 
-// Of a flag, of an octet, of 32 bits and of 64 bits.
-const FLAG: u64 = 1;
+use arrays::limits::FLAG;
+use arrays::limits::LONG;
+use arrays::limits::OCTET;
+use arrays::limits::WORD;
+use nch::places;
 
-const OCTET: u64 = 255;
-
-const WORD: u64 = 4294967295;
-
-const LONG: u64 = 18446744073709551615;
-
-pub const MOST: [u64; 105] = [
-    // 0 to 2: NLN there, NLN, how many calls
+pub const MOST: [u64; places::RECORD_LENGTH] = [
+    // NLN there, NLN, how many calls
     FLAG,
     OCTET,
     LONG,
-    // 3 to 13: a call
+    // a call
     WORD,
     FLAG,
     FLAG,
@@ -26,7 +23,7 @@ pub const MOST: [u64; 105] = [
     FLAG,
     OCTET,
     LONG,
-    // 14 to 24: a call
+    // a call
     WORD,
     FLAG,
     FLAG,
@@ -38,7 +35,7 @@ pub const MOST: [u64; 105] = [
     FLAG,
     OCTET,
     LONG,
-    // 25 to 35: a call
+    // a call
     WORD,
     FLAG,
     FLAG,
@@ -50,7 +47,7 @@ pub const MOST: [u64; 105] = [
     FLAG,
     OCTET,
     LONG,
-    // 36 to 46: a call
+    // a call
     WORD,
     FLAG,
     FLAG,
@@ -62,12 +59,12 @@ pub const MOST: [u64; 105] = [
     FLAG,
     OCTET,
     LONG,
-    // 47 to 50: Release 6 there, count there, CELL_GLOBAL_COUNT, how many reduced references
+    // Release 6 there, count there, CELL_GLOBAL_COUNT, how many reduced references
     FLAG,
     FLAG,
     OCTET,
     LONG,
-    // 51 to 60: reduced references
+    // reduced references
     WORD,
     FLAG,
     WORD,
@@ -78,12 +75,9 @@ pub const MOST: [u64; 105] = [
     FLAG,
     WORD,
     FLAG,
-    // 61: how many random entries
+    // how many random entries
     LONG,
-    // 62 to 88: random entries
-    FLAG,
-    FLAG,
-    LONG,
+    // random entries
     FLAG,
     FLAG,
     LONG,
@@ -108,15 +102,18 @@ pub const MOST: [u64; 105] = [
     FLAG,
     FLAG,
     LONG,
-    // 89 and 90: Release 7 there, how many emergency marks
+    FLAG,
     FLAG,
     LONG,
-    // 91 to 94: the marks
+    // Release 7 there, how many emergency marks
+    FLAG,
+    LONG,
+    // the marks
     FLAG,
     FLAG,
     FLAG,
     FLAG,
-    // 95 to 104: uplink, AMR, SMS
+    // uplink, AMR, SMS
     FLAG,
     FLAG,
     FLAG,

@@ -5,11 +5,17 @@ ghost use lib.ListN.{length};
 ghost use Rattle.csn1.specs.Told.{padded};
 ghost use Rattle.facch.specs.Told.{readOf};
 ghost use Rattle.numbers.specs.FacchNumbers.{release6Numbers, release7Numbers, numbersOf, readNumbers};
-use crate::calls;
-use crate::fill;
+use arrays::fill;
 use facch::Notification;
 use facch::Release6;
 use facch::Release7;
+
+// Where the numbers of a notification stand: a call's from the start on, then those of the releases and the bits used, and all of them.
+const RELEASE6: usize = nch::places::CALL_LENGTH;
+
+const RELEASE7: usize = RELEASE6 + 6;
+
+const LENGTH: usize = RELEASE7 + 5;
 
 fn release6_numbers(r: Release6) -> [u64; 6]
     ensures { λ a. ⌜ a ≡ release6Numbers r ⌝ }
@@ -37,20 +43,20 @@ fn last_numbers(r: Release7, used: usize) -> [u64; 5]
     ]
 }
 
-// The record's 21 numbers and behind them the bits used.
-fn all_numbers(m: Notification, used: usize) -> [u64; 22]
+// The record's numbers and behind them the bits used.
+fn all_numbers(m: Notification, used: usize) -> [u64; LENGTH]
     ensures { λ a. ⌜ a ≡ numbersOf m ++ (used ∷ []) ⌝ }
 {
-    let mut all = [0u64; 22];
+    let mut all = [0u64; LENGTH];
     let c = m.call;
-    let call = calls::numbers_of(c);
+    let call = nch::numbers::numbers_of(c);
     fill::run(&call, &mut all, 0);
     let r = m.release6;
     let six = release6_numbers(r);
-    fill::run(&six, &mut all, 11);
+    fill::run(&six, &mut all, RELEASE6);
     let s = m.release7;
     let last = last_numbers(s, used);
-    fill::run(&last, &mut all, 17);
+    fill::run(&last, &mut all, RELEASE7);
     all
 }
 

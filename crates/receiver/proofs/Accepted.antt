@@ -8,17 +8,20 @@ use lib.Dec.{leb}
 use lib.ListN.{length, take, length-append}
 use borrow.Author.Tests.{ltb-true}
 use Rattle.csn1.specs.Told.{padded}
-use Rattle.csn1.proofs.Writing.{both-true}
+use Rattle.bits.proofs.Answers.{both-true}
 use Rattle.csn1.proofs.Telling.{picked, handed-on}
 use Rattle.nch.specs.declared.Notification.{Notification}
 use Rattle.nch.specs.Told.{readOf}
+use Rattle.facch.specs.declared.Notification.{Notification as Message}
+use Rattle.facch.specs.Told.{readOf as readFacch}
 use Rattle.nch.specs.Write.{callsOf, flaggedRight, inRange, recordRefusal, writeNumber}
 use Rattle.nch.proofs.Promises.{writing-gives-back-what-was-read, places-are-enough}
 use Rattle.receiver.specs.declared.Record.{Record}
 use Rattle.receiver.specs.declared.Slot.{Slot}
-use Rattle.receiver.specs.Model.{mapAt}
-use Rattle.receiver.specs.Entries.{callEntry, reducedEntry, nchEntries}
-use Rattle.receiver.specs.Step.{Event, nch, facch, joined, reselected, handedOver, reconfigured, tick, groundsOf, entriesOf, slotsAfter, allTold, noTold}
+use Rattle.receiver.specs.Model.{noNln, mapAt}
+use Rattle.receiver.specs.Entries.{callEntry, reducedEntry, nchEntries, facchEntries}
+use Rattle.receiver.specs.Step.{mostEntries, Happening, heardNch, heardFacch, joins, moves, passes, Cause, nothing, joining, moving}
+use Rattle.receiver.specs.Step.{numbered, numbering, contentOf, groundsOf, slotsAfter, allTold, noTold}
 use Rattle.receiver.proofs.Standing.{length-mapAt}
 
 -- ## NLN
@@ -34,9 +37,26 @@ written-nln m e =
     let b = picked (inRange m) _ 12 (omega arith) (a .0) in
     both-true (flaggedRight (m .numbered) (m .nln) 4) _ (both-true (leb (m .callcount) 4) _ (b .0) .1) .0
 
--- where a message has an NLN, it is below 4
-pub read-nln : (s : List ℕ) → readOf s .refusal .number ≡ 0 → readOf s .«record» .numbered ≡ true → readOf s .«record» .nln < 4
+-- where a message has an NLN, it is none that says that none is known
+read-nln : (s : List ℕ) → readOf s .refusal .number ≡ 0 → readOf s .«record» .numbered ≡ true → readOf s .«record» .nln < noNln
 read-nln s z o = flagged-lt (readOf s .«record» .numbered) (readOf s .«record» .nln) (written-nln (readOf s .«record») (writing-gives-back-what-was-read s z .accepted)) o
+
+abbrev pub Low : Cause → Type 0
+Low nothing = Unit {0}
+Low (joining k) = Unit {0}
+Low (moving m) = Unit {0}
+Low (numbered n) = n < noNln
+
+low-numbering : (b : Bool) (n : ℕ) → (b ≡ true → n < noNln) → Low (numbering b n)
+low-numbering true n h = h refl
+low-numbering false n h = tt
+
+pub low : (h : Happening) → groundsOf h .number ≡ 0 → Low (contentOf h .cause)
+low (heardNch s) z = low-numbering (readOf s .«record» .numbered) (readOf s .«record» .nln) (read-nln s z)
+low (heardFacch s) z = tt
+low (joins k) z = tt
+low (moves m) z = tt
+low passes z = tt
 
 -- ## Entries
 
@@ -45,7 +65,7 @@ take-le zero l = omega arith
 take-le (suc n) [] = omega arith
 take-le (suc n) (a ∷ l) = omega (arith, take-le n l)
 
-nch-few : (m : Notification) → m .callcount ≤ 4 → m .release6 .reducedcount ≤ 5 → length (nchEntries m) ≤ 9
+nch-few : (m : Notification) → m .callcount ≤ 4 → m .release6 .reducedcount ≤ 5 → length (nchEntries m) ≤ mostEntries
 unfolding nchEntries
 nch-few m h k =
     let xs : List Record = mapAt (callEntry m) 0 (callsOf m) in
@@ -59,15 +79,17 @@ nch-few m h k =
       take-le (m .release6 .reducedcount) (m .release6 .reduced),
     )
 
--- an accepted event has at most nine
-pub few : (e : Event) → groundsOf e .number ≡ 0 → length (entriesOf e) ≤ 9
-few (nch t s) z = nch-few (readOf s .«record») (places-are-enough s z .0) (places-are-enough s z .1)
-few (facch t s) z = omega arith
-few (joined t k) z = omega arith
-few (reselected t) z = omega arith
-few (handedOver t) z = omega arith
-few (reconfigured t) z = omega arith
-few (tick t) z = omega arith
+facch-few : (m : Message) → length (facchEntries m) ≤ mostEntries
+unfolding facchEntries
+facch-few m = omega arith
+
+-- an accepted event has a place for each
+pub few : (h : Happening) → groundsOf h .number ≡ 0 → length (contentOf h .entries) ≤ mostEntries
+few (heardNch s) z = nch-few (readOf s .«record») (places-are-enough s z .0) (places-are-enough s z .1)
+few (heardFacch s) z = facch-few (readFacch s .«record»)
+few (joins k) z = omega arith
+few (moves m) z = omega arith
+few passes z = omega arith
 
 -- ## Answers in their places
 
@@ -76,13 +98,13 @@ take-padded z n [] h = refl
 take-padded z zero (a ∷ l) h = absurd (omega arith)
 take-padded z (suc n) (a ∷ l) h = ap (λ x. a ∷ x) (take-padded z n l (omega arith))
 
-length-told : (keys : List ℕ) (ch now : ℕ) (l : List Slot) (es : List Record) → length (allTold keys ch now l es) ≡ length es
+pub length-told : (keys : List ℕ) (ch now : ℕ) (l : List Slot) (es : List Record) → length (allTold keys ch now l es) ≡ length es
 unfolding allTold
 length-told keys ch now l [] = refl
 length-told keys ch now l (e ∷ es) = ap suc (length-told keys ch now (slotsAfter keys ch now l e) es)
 
 -- the places in use say what each entry is told
-pub told-back : (keys : List ℕ) (ch now : ℕ) (l : List Slot) (es : List Record) → length es ≤ 9
-    → take (length es) (padded noTold 9 (allTold keys ch now l es)) ≡ allTold keys ch now l es
+pub told-back : (keys : List ℕ) (ch now : ℕ) (l : List Slot) (es : List Record) → length es ≤ mostEntries
+    → take (length es) (padded noTold mostEntries (allTold keys ch now l es)) ≡ allTold keys ch now l es
 told-back keys ch now l es h =
-    rw (← length-told keys ch now l es) (take-padded noTold 9 (allTold keys ch now l es) (omega (arith, length-told keys ch now l es)))
+    rw (← length-told keys ch now l es) (take-padded noTold mostEntries (allTold keys ch now l es) (omega (arith, length-told keys ch now l es)))

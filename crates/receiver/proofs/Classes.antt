@@ -11,6 +11,7 @@ use Rattle.csn1.specs.Told.{asBit}
 use Rattle.call.specs.declared.Call.{Call}
 use Rattle.receiver.specs.declared.Record.{Record}
 use Rattle.receiver.specs.declared.Slot.{Slot}
+use Rattle.receiver.specs.Channels.{leads}
 use Rattle.receiver.specs.Model.{isCiphered, segmentIs, isClear, isWhole, isFirst, isSecond, isBare, classOf, sameReference, joinedOf, only, complete, storing, meetHalf, meetOf}
 
 -- ## What an entry is
@@ -100,13 +101,13 @@ module _ (ch now : ℕ) (s : Slot) (e : Record) where
   unfolding meetOf
   meet-second k h = simp (sym k, ne-eqb (s .half) 0 h)
 
-  -- a second half on the FACCH where none is held
-  pub meet-early : 4 ≡ classOf ch e → s .half ≡ 0 → (ch ≡ 0 → ⊥) → only 8 s ≡ meetOf ch now s e
+  -- a second half that may not come first where none is held
+  pub meet-early : 4 ≡ classOf ch e → s .half ≡ 0 → leads ch ≡ false → only 8 s ≡ meetOf ch now s e
   unfolding meetOf
-  meet-early k h f = simp (sym k, eq-eqb (s .half) 0 h, ne-eqb ch 0 f)
+  meet-early k h f = rw (sym k, eq-eqb (s .half) 0 h, f)
 
   -- a half that is stored
-  pub meet-stored : (c : ℕ) → c ≡ classOf ch e → s .half ≡ 0 → (c ≡ 3) ⊎ ((c ≡ 4) × (ch ≡ 0)) → only 4 (storing (c - 2) now e) ≡ meetOf ch now s e
+  pub meet-stored : (c : ℕ) → c ≡ classOf ch e → s .half ≡ 0 → (c ≡ 3) ⊎ ((c ≡ 4) × (leads ch ≡ true)) → only 4 (storing (c - 2) now e) ≡ meetOf ch now s e
   unfolding meetOf
   meet-stored c k h (inl q) = simp (sym k, q, eq-eqb (s .half) 0 h)
-  meet-stored c k h (inr q) = simp (sym k, q .0, eq-eqb (s .half) 0 h, eq-eqb ch 0 (q .1))
+  meet-stored c k h (inr q) = rw (sym k, q .0, eq-eqb (s .half) 0 h, q .1)

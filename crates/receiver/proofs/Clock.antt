@@ -6,7 +6,7 @@ use borrow.Author.Tests.{leb-true, leb-false}
 use lib.Dec.{leb}
 use Prim.Native.Nat.{ℕ, _+_, _^_, _≤_, _<_}
 use native.Mathlib.Omega.{arith}
-use Rattle.receiver.specs.Model.{wrapSub}
+use Rattle.receiver.specs.Model.{longestTimer, wrapSub, lateStep}
 
 -- x is the step from b to a, with no remainder: the counter went on, or it wrapped once
 abbrev Step : ℕ → ℕ → ℕ → Type 0
@@ -19,7 +19,7 @@ steps a b p q = go (leb b a) refl
     go true e = let h : b ≤ a = leb-true b a e in inl (h, omega arith)
     go false e = let h : a < b = leb-false b a e in inr (h, omega arith)
 
-sums : (s t n x y z : ℕ) → s < 2 ^ 32 → t < 2 ^ 32 → n < 2 ^ 32 → x < 60000 → y < 2147483648 → Step t s x → Step n t y → Step n s z → z ≡ x + y
+sums : (s t n x y z : ℕ) → s < 2 ^ 32 → t < 2 ^ 32 → n < 2 ^ 32 → x < longestTimer → y < lateStep → Step t s x → Step n t y → Step n s z → z ≡ x + y
 sums s t n x y z a b c d e p q r =
     ⊎-elim
     (λ u. ⊎-elim (λ v. ⊎-elim (λ w. omega arith) (λ w. omega arith) r) (λ v. ⊎-elim (λ w. omega arith) (λ w. omega arith) r) q)
@@ -27,7 +27,7 @@ sums s t n x y z a b c d e p q r =
     p
 
 -- a half's age after a step is its age before and the step
-pub elapsed : (since tick new : ℕ) → since < 2 ^ 32 → tick < 2 ^ 32 → new < 2 ^ 32 → wrapSub tick since < 60000 → wrapSub new tick < 2147483648
+pub elapsed : (since tick new : ℕ) → since < 2 ^ 32 → tick < 2 ^ 32 → new < 2 ^ 32 → wrapSub tick since < longestTimer → wrapSub new tick < lateStep
     → wrapSub new since ≡ wrapSub tick since + wrapSub new tick
 elapsed since tick new a b c d e =
     sums since tick new (wrapSub tick since) (wrapSub new tick) (wrapSub new since) a b c d e (steps tick since b a) (steps new tick c b) (steps new since c a)

@@ -12,10 +12,10 @@ use Rattle.csn1.specs.Told.{asBit}
 use Rattle.receiver.specs.declared.Record.{Record}
 use Rattle.receiver.specs.declared.Slot.{Slot}
 use Rattle.receiver.specs.declared.Rule.{Rule}
-use Rattle.receiver.specs.declared.Rule.the-variants.{Keep}
-use Rattle.receiver.specs.Model.{emptySlot, wrapSub, spares, isHeld, ranOutOf, takenOf, keptOf, mapAt, countAt}
+use Rattle.receiver.specs.Model.{emptySlot, longestTimer, wrapSub, lateStep, keep, spares, isHeld, ranOutOf, takenOf, keptOf, mapAt, countAt}
 use Rattle.receiver.specs.One.{Half, aged}
 use Rattle.receiver.specs.Promises.{halfOf, heldOf, lostBetween}
+use Rattle.receiver.proofs.Places.{spares-keep}
 use Rattle.receiver.proofs.Clock.{elapsed}
 use Rattle.receiver.proofs.Meets.{Sound, empty-sound}
 
@@ -56,7 +56,7 @@ is-held s h = eqb-false (s .half) 0 (not-true (eqb (s .half) 0) h)
 is-free : (s : Slot) → isHeld s ≡ false → s .half ≡ 0
 is-free s h = eqb-true (s .half) 0 (not-false (eqb (s .half) 0) h)
 
-module _ (last now timer : ℕ) (s : Slot) (sound : Sound last timer s) (a : last < 2 ^ 32) (b : now < 2 ^ 32) (short : timer ≤ 60000) (step : wrapSub now last < 2147483648) where
+module _ (last now timer : ℕ) (s : Slot) (sound : Sound last timer s) (a : last < 2 ^ 32) (b : now < 2 ^ 32) (short : timer ≤ longestTimer) (step : wrapSub now last < lateStep) where
   age : isHeld s ≡ true → wrapSub now (s .since) ≡ wrapSub last (s .since) + wrapSub now last
   age h = elapsed (s .since) last now (sound .since) a b (omega (arith, sound .young (is-held s h))) step
 
@@ -92,10 +92,10 @@ module _ (last now timer : ℕ) (s : Slot) (sound : Sound last timer s) (a : las
 -- ## What was lost
 
 -- an expiry is what was held and is not when the clock has moved
-expired-one : (now timer i : ℕ) (s : Slot) → asBit (ranOutOf now timer s) ≡ asBit (both (isHeld s) (not (isHeld (keptOf now timer Keep i s))))
+expired-one : (now timer i : ℕ) (s : Slot) → asBit (ranOutOf now timer s) ≡ asBit (both (isHeld s) (not (isHeld (keptOf now timer keep i s))))
 unfolding ranOutOf
 expired-one now timer i s =
-    by-test (isHeld s) (λ h. rw (kept-what now timer Keep i s, h) (go (leb timer (wrapSub now (s .since))) h)) (λ h. rw h)
+    by-test (isHeld s) (λ h. rw (kept-what now timer keep i s, spares-keep i, h) (go (leb timer (wrapSub now (s .since))) h)) (λ h. rw h)
   where
     go : (o : Bool) → isHeld s ≡ true → asBit o ≡ asBit (not (isHeld (pick o emptySlot s)))
     go true h = refl
@@ -103,12 +103,12 @@ expired-one now timer i s =
 
 -- a drop is what is held then and is not when the rule has been followed
 dropped-one : (now timer : ℕ) (rule : Rule) (i : ℕ) (s : Slot)
-    → asBit (takenOf now timer rule i s) ≡ asBit (both (isHeld (keptOf now timer Keep i s)) (not (isHeld (keptOf now timer rule i s))))
+    → asBit (takenOf now timer rule i s) ≡ asBit (both (isHeld (keptOf now timer keep i s)) (not (isHeld (keptOf now timer rule i s))))
 unfolding ranOutOf takenOf
 dropped-one now timer rule i s =
     by-test (isHeld s)
-    (λ h. rw (kept-what now timer Keep i s, kept-what now timer rule i s, h) (go (leb timer (wrapSub now (s .since))) (spares rule i) h))
-    (λ h. rw (kept-what now timer Keep i s, h, h))
+    (λ h. rw (kept-what now timer keep i s, spares-keep i, kept-what now timer rule i s, h) (go (leb timer (wrapSub now (s .since))) (spares rule i) h))
+    (λ h. rw (kept-what now timer keep i s, h, h))
   where
     go : (o p : Bool) → isHeld s ≡ true
         → asBit (both (not o) (not p)) ≡ asBit (both (isHeld (pick o emptySlot s)) (not (isHeld (pick o emptySlot (pick p s emptySlot)))))
@@ -132,13 +132,13 @@ lost-one now timer rule i s =
 
 module _ (now : ℕ) (timer : ℕ → ℕ) (rule : Rule) where
   pub expired-all : (i : ℕ) (l : List Slot)
-      → countAt (λ k s. ranOutOf now (timer k) s) i l ≡ lostBetween l (mapAt (λ k s. keptOf now (timer k) Keep k s) i l)
+      → countAt (λ k s. ranOutOf now (timer k) s) i l ≡ lostBetween l (mapAt (λ k s. keptOf now (timer k) keep k s) i l)
   unfolding lostBetween
   expired-all i [] = refl
   expired-all i (s ∷ l) = ap₂ _+_ (expired-one now (timer i) i s) (expired-all (suc i) l)
 
   pub dropped-all : (i : ℕ) (l : List Slot)
-      → countAt (λ k s. takenOf now (timer k) rule k s) i l ≡ lostBetween (mapAt (λ k s. keptOf now (timer k) Keep k s) i l) (mapAt (λ k s. keptOf now (timer k) rule k s) i l)
+      → countAt (λ k s. takenOf now (timer k) rule k s) i l ≡ lostBetween (mapAt (λ k s. keptOf now (timer k) keep k s) i l) (mapAt (λ k s. keptOf now (timer k) rule k s) i l)
   unfolding lostBetween
   dropped-all i [] = refl
   dropped-all i (s ∷ l) = ap₂ _+_ (dropped-one now (timer i) rule i s) (dropped-all (suc i) l)

@@ -6,8 +6,8 @@ use borrow.Author.Tests.{eqb-true, le-leb, lt-leb}
 use Rattle.csn1.specs.declared.Refusal.{Refusal}
 use Rattle.csn1.specs.Format.{noRefusal, ground}
 use Rattle.receiver.specs.declared.Receiver.{Receiver}
-use Rattle.receiver.specs.Model.{wrapSub, late}
-use Rattle.receiver.specs.Step.{Event, nch, facch, joined, reselected, handedOver, reconfigured, tick, tickOf, groundsOf, refusalOf, stepOf}
+use Rattle.receiver.specs.Model.{wrapSub, lateStep, late, lastKey}
+use Rattle.receiver.specs.Step.{Event, Happening, heardNch, heardFacch, joins, moves, passes, groundsOf, refusalOf, stepOf}
 use Rattle.receiver.specs.Promises.{On-ground}
 use Rattle.receiver.proofs.Dropping.{by-test}
 
@@ -21,20 +21,18 @@ unfolding stepOf
 refused-as r e =
     by-test (eqb (refusalOf r e .number) 0) (λ p. rw p (no-number (refusalOf r e) (eqb-true (refusalOf r e .number) 0 p))) (λ p. rw p)
 
-pub late-first : (r : Receiver) (e : Event) → 2147483648 ≤ wrapSub (tickOf e) (r .tick) → refusalOf r e .number ≡ 9
+pub late-first : (r : Receiver) (e : Event) → lateStep ≤ wrapSub (e .tick) (r .tick) → refusalOf r e .number ≡ 9
 unfolding refusalOf late ground
-late-first r e h = rw (le-leb 2147483648 (wrapSub (tickOf e) (r .tick)) h)
+late-first r e h = rw (le-leb lateStep (wrapSub (e .tick) (r .tick)) h)
 
-pub in-time : (r : Receiver) (e : Event) → wrapSub (tickOf e) (r .tick) < 2147483648 → refusalOf r e .number ≡ groundsOf e .number
+pub in-time : (r : Receiver) (e : Event) → wrapSub (e .tick) (r .tick) < lateStep → refusalOf r e .number ≡ groundsOf (e .happening) .number
 unfolding refusalOf late
-in-time r e h = rw (lt-leb 2147483648 (wrapSub (tickOf e) (r .tick)) h)
+in-time r e h = rw (lt-leb lateStep (wrapSub (e .tick) (r .tick)) h)
 
-pub on-ground : (e : Event) (n : ℕ) → n ≡ groundsOf e .number → On-ground e n
+pub on-ground : (h : Happening) (n : ℕ) → n ≡ groundsOf h .number → On-ground h n
 unfolding ground
-on-ground (nch t s) n q = q
-on-ground (facch t s) n q = q
-on-ground (joined t k) n q = (λ h. q ∙ rw (le-leb k 199999999 h), λ h. q ∙ rw (lt-leb k 199999999 h))
-on-ground (reselected t) n q = q
-on-ground (handedOver t) n q = q
-on-ground (reconfigured t) n q = q
-on-ground (tick t) n q = q
+on-ground (heardNch s) n q = q
+on-ground (heardFacch s) n q = q
+on-ground (joins k) n q = (λ h. q ∙ rw (le-leb k lastKey h), λ h. q ∙ rw (lt-leb k lastKey h))
+on-ground (moves m) n q = q
+on-ground passes n q = q

@@ -12,8 +12,12 @@ use borrow.Author.Tests.{ltb-true, lt-ltb, eqb-true, eq-eqb}
 use Rattle.bits.specs.Field.{pick}
 use Rattle.receiver.specs.declared.Record.{Record}
 use Rattle.receiver.specs.Model.{agree, joinedOf}
-use Rattle.receiver.specs.One.{Channel, onNch, onFacch, Kind, clear, piece, first, second, bare, unusable, kindOf, Which, theFirst, theSecond, Half, One, met, meetKind, meetOne, Sight, nothing, joins, leavesCell, handsOver, reconfigures, message, Seen, aged, changed, heldAfter, spared, entriesIn, passed, nlnIn, stepOne, fresh}
-use Rattle.receiver.specs.History.{Moment, wait, join, reselection, handover, reconfiguration, nln, entry, opening, followed, opened, untilEntry, afterEvent, pastOf, lastNln, took, elapsed, Opposite, Storable, Same-nln, Not-nch, Not-facch, Spares, Begins, younger, Standing, All-spare, Came-and-stayed}
+use Rattle.receiver.specs.Channels.{Channel}
+use Rattle.receiver.specs.Step.{Cause, nothing, joining, moving, numbered}
+use Rattle.receiver.specs.One.{mayLead, goneBy, Kind, clear, piece, first, second, bare, unusable, kindOf, Which, theFirst, theSecond, Half, One, Known, says, stored}
+use Rattle.receiver.specs.One.{met, meetKind, meetOne, Seen, aged, changed, heldAfter, sparedBy, spared, passed, stepOne, fresh}
+use Rattle.receiver.specs.History.{Moment, wait, happens, entry, followed, opened, untilEntry, afterEvent, pastOf, lastKnown, took, elapsed, Opposite}
+use Rattle.receiver.specs.History.{Storable, Same-nln, Leaves, Spares, Begins, younger, Standing, All-spare, Came-and-stayed}
 use Rattle.receiver.specs.Promises.{oneAfter, heldBefore}
 
 -- ## The history told from its end, and from the coming of the half
@@ -56,21 +60,11 @@ module _ (key : ℕ) (c : Channel) (timer : ℕ) where
 
 -- ## What is held, by the moments
 
-abbrev pub kept : Channel → Channel → Option Half → Option Half
-kept onNch onNch h = none
-kept onNch onFacch h = h
-kept onFacch onNch h = h
-kept onFacch onFacch h = none
-
 module _ (key : ℕ) (c : Channel) (timer : ℕ) where
   unfoldable pub holds : List Moment → Option Half
   holds [] = none
   holds (wait t ∷ past) = aged timer t (holds past)
-  holds (join k ∷ past) = pick (eqb k key) (holds past) none
-  holds (reselection ∷ past) = kept onNch c (holds past)
-  holds (handover ∷ past) = kept onFacch c (holds past)
-  holds (reconfiguration ∷ past) = kept onFacch c (holds past)
-  holds (nln n ∷ past) = pick (changed (lastNln past) (some n)) none (holds past)
+  holds (happens x ∷ past) = sparedBy key c (lastKnown past) x (holds past)
   holds (entry e ∷ past) = meetOne c (holds past) e .held
 
 -- ## One moment
@@ -112,7 +106,7 @@ lost-by : (b : Bool) (o : Option Half) (h : Half) → pick b none o ≡ some h �
 lost-by true o h q = no-half h q
 lost-by false o h q = (refl, q)
 
-same-nln : (l : Option ℕ) (n : ℕ) → changed l (some n) ≡ false → Same-nln l n
+same-nln : (l : Option ℕ) (n : ℕ) → changed l n ≡ false → Same-nln l n
 same-nln none n q = tt
 same-nln (some l) n q = go (eqb l n) refl q
   where
@@ -120,9 +114,22 @@ same-nln (some l) n q = go (eqb l n) refl q
     go true e q' = eqb-true l n e
     go false e q' = two-ways q'
 
-nln-same : (l : Option ℕ) (n : ℕ) → Same-nln l n → changed l (some n) ≡ false
+nln-same : (l : Option ℕ) (n : ℕ) → Same-nln l n → changed l n ≡ false
 nln-same none n q = refl
 nln-same (some l) n q = rw (eq-eqb l n q)
+
+-- a cause leaves the half exactly where it is spared
+cause-kept : (key : ℕ) (c : Channel) (l : Known) (x : Cause) (o : Option Half) (h : Half) → sparedBy key c l x o ≡ some h → Leaves key c l x × (o ≡ some h)
+cause-kept key c l nothing o h q = (tt, q)
+cause-kept key c l (joining k) o h q = let w = kept-by (eqb k key) o h q in (eqb-true k key (w .0), w .1)
+cause-kept key c l (moving m) o h q = lost-by (goneBy c m) o h q
+cause-kept key c l (numbered n) o h q = let w = lost-by (changed (l .nln) n) o h q in (same-nln (l .nln) n (w .0), w .1)
+
+cause-keeps : (key : ℕ) (c : Channel) (l : Known) (x : Cause) (o : Option Half) → Leaves key c l x → sparedBy key c l x o ≡ o
+cause-keeps key c l nothing o q = refl
+cause-keeps key c l (joining k) o q = rw (eq-eqb k key q)
+cause-keeps key c l (moving m) o q = rw q
+cause-keeps key c l (numbered n) o q = rw (nln-same (l .nln) n q)
 
 -- an entry: the half stays and was not joined, or it comes
 abbrev Left : Channel → Kind → Option Half → Record → Half → Type 0
@@ -154,18 +161,19 @@ first-left c x theSecond a e h q = met-left c first x (joinedOf x e) (record { w
 
 second-left : (c : Channel) (x : Record) (w : Which) (a : ℕ) (e : Record) (h : Half) → meetKind c second (some (record { which = w; age = a; entry = e })) x .held ≡ some h
     → Left c second (some (record { which = w; age = a; entry = e })) x h
-second-left onNch x theSecond a e h q = same-left onNch second x (record { which = theSecond; age = a; entry = e }) h (λ o. o) q
-second-left onFacch x theSecond a e h q = same-left onFacch second x (record { which = theSecond; age = a; entry = e }) h (λ o. o) q
-second-left onNch x theFirst a e h q = met-left onNch second x (joinedOf e x) (record { which = theFirst; age = a; entry = e }) h (agree e x) refl q
-second-left onFacch x theFirst a e h q = met-left onFacch second x (joinedOf e x) (record { which = theFirst; age = a; entry = e }) h (agree e x) refl q
+second-left c x theSecond a e h q = same-left c second x (record { which = theSecond; age = a; entry = e }) h (λ o. o) q
+second-left c x theFirst a e h q = met-left c second x (joinedOf e x) (record { which = theFirst; age = a; entry = e }) h (agree e x) refl q
 
 left : (c : Channel) (k : Kind) (b : Option Half) (x : Record) (h : Half) → meetKind c k b x .held ≡ some h → Left c k b x h
 left c clear b x h q = stays c clear x b h (λ o. o) q
 left c piece b x h q = stays c piece x b h (λ o. o) q
 left c first none x h q = stored-as c first theFirst x h tt q
 left c first (some g) x h q = first-left c x (g .which) (g .age) (g .entry) h q
-left onNch second none x h q = stored-as onNch second theSecond x h tt q
-left onFacch second none x h q = no-half h q
+left c second none x h q = early (mayLead c) refl q
+  where
+    early : (b : Bool) → mayLead c ≡ b → pick b (says 4 (stored theSecond x)) (says 8 none) .held ≡ some h → Left c second none x h
+    early true e p = stored-as c second theSecond x h e p
+    early false e p = no-half h p
 left c second (some g) x h q = second-left c x (g .which) (g .age) (g .entry) h q
 left c bare b x h q = stays c bare x b h (λ o. o) q
 left c unusable b x h q = stays c unusable x b h (λ o. o) q
@@ -180,10 +188,8 @@ not-joined c clear x w a e n = refl
 not-joined c piece x w a e n = refl
 not-joined c first x theFirst a e n = refl
 not-joined c first x theSecond a e n = kept-met x (joinedOf x e) (record { which = theSecond; age = a; entry = e }) (agree e x) (n tt)
-not-joined onNch second x theFirst a e n = kept-met x (joinedOf e x) (record { which = theFirst; age = a; entry = e }) (agree e x) (n tt)
-not-joined onFacch second x theFirst a e n = kept-met x (joinedOf e x) (record { which = theFirst; age = a; entry = e }) (agree e x) (n tt)
-not-joined onNch second x theSecond a e n = refl
-not-joined onFacch second x theSecond a e n = refl
+not-joined c second x theFirst a e n = kept-met x (joinedOf e x) (record { which = theFirst; age = a; entry = e }) (agree e x) (n tt)
+not-joined c second x theSecond a e n = refl
 not-joined c bare x w a e n = refl
 not-joined c unusable x w a e n = refl
 
@@ -193,41 +199,11 @@ comes c piece x w s = absurd s
 comes c first x theFirst s = refl
 comes c first x theSecond s = absurd s
 comes c second x theFirst s = absurd s
-comes onNch second x theSecond s = refl
-comes onFacch second x theSecond s = absurd s
+comes c second x theSecond s = rw s
 comes c bare x w s = absurd s
 comes c unusable x w s = absurd s
 
 -- ## Standing is being held
-
--- what a channel loses, the other keeps
-abbrev Unlike : Channel → Channel → Type 0
-Unlike onNch onNch = ⊥
-Unlike onNch onFacch = Unit {0}
-Unlike onFacch onNch = Unit {0}
-Unlike onFacch onFacch = ⊥
-
-kept-off : (d c : Channel) (b : Option Half) (h : Half) → kept d c b ≡ some h → Unlike d c × (b ≡ some h)
-kept-off onNch onNch b h q = no-half h q
-kept-off onNch onFacch b h q = (tt, q)
-kept-off onFacch onNch b h q = (tt, q)
-kept-off onFacch onFacch b h q = no-half h q
-
-off-nch : (c : Channel) → Unlike onNch c → Not-nch c
-off-nch onNch u = u
-off-nch onFacch u = tt
-
-off-facch : (c : Channel) → Unlike onFacch c → Not-facch c
-off-facch onNch u = tt
-off-facch onFacch u = u
-
-nch-kept : (c : Channel) (b : Option Half) → Not-nch c → kept onNch c b ≡ b
-nch-kept onNch b u = absurd u
-nch-kept onFacch b u = refl
-
-facch-kept : (c : Channel) (b : Option Half) → Not-facch c → kept onFacch c b ≡ b
-facch-kept onNch b u = refl
-facch-kept onFacch b u = absurd u
 
 free-none : (b : Option Half) → ((h : Half) → b ≡ some h → ⊥) → b ≡ none
 free-none none f = refl
@@ -235,11 +211,7 @@ free-none (some h) f = absurd (f h refl)
 
 no-age : (c : Channel) (h : Half) (m : Moment) → Begins c h m → h .age ≡ 0
 no-age c h (wait t) b = absurd b
-no-age c h (join k) b = absurd b
-no-age c h reselection b = absurd b
-no-age c h handover b = absurd b
-no-age c h reconfiguration b = absurd b
-no-age c h (nln n) b = absurd b
+no-age c h (happens x) b = absurd b
 no-age c h (entry e) b = b .1
 
 -- a half is held where it stands, and stands where it is held
@@ -272,21 +244,9 @@ module _ (key : ℕ) (c : Channel) (timer : ℕ) (long : 1 ≤ timer) where
   stands-on (wait t) past a h q =
       let w = waited timer t (holds key c timer past) h q in
       inl (tt, w .enough, w .young, a .stands (younger t h) (w .stood))
-  stands-on (join k) past a h q =
-      let w = kept-by (eqb k key) (holds key c timer past) h q in
-      still (join k) past h refl (eqb-true k key (w .0)) (a .stands h (w .1))
-  stands-on reselection past a h q =
-      let w = kept-off onNch c (holds key c timer past) h q in
-      still reselection past h refl (off-nch c (w .0)) (a .stands h (w .1))
-  stands-on handover past a h q =
-      let w = kept-off onFacch c (holds key c timer past) h q in
-      still handover past h refl (off-facch c (w .0)) (a .stands h (w .1))
-  stands-on reconfiguration past a h q =
-      let w = kept-off onFacch c (holds key c timer past) h q in
-      still reconfiguration past h refl (off-facch c (w .0)) (a .stands h (w .1))
-  stands-on (nln n) past a h q =
-      let w = lost-by (changed (lastNln past) (some n)) (holds key c timer past) h q in
-      still (nln n) past h refl (same-nln (lastNln past) n (w .0)) (a .stands h (w .1))
+  stands-on (happens x) past a h q =
+      let w = cause-kept key c (lastKnown past) x (holds key c timer past) h q in
+      still (happens x) past h refl (w .0) (a .stands h (w .1))
   stands-on (entry e) past a h q = go (left c (kindOf c e) (holds key c timer past) e h q)
     where
       go : Left c (kindOf c e) (holds key c timer past) e h → Standing key c timer (entry e ∷ past) h
@@ -296,11 +256,7 @@ module _ (key : ℕ) (c : Channel) (timer : ℕ) (long : 1 ≤ timer) where
   held-on : (m : Moment) (past : List Moment) → Agrees key c timer past → (h : Half) → Standing key c timer (m ∷ past) h → holds key c timer (m ∷ past) ≡ some h
   unfolding holds Standing meetOne
   held-on (wait t) past a h (inl s) = ap (aged timer t) (a .held (younger t h) (s .3)) ∙ waits timer t h (s .1) (s .2)
-  held-on (join k) past a h (inl s) = rw (eq-eqb k key (s .0)) (a .held h (unaged past h (s .3)))
-  held-on reselection past a h (inl s) = nch-kept c (holds key c timer past) (s .0) ∙ a .held h (unaged past h (s .3))
-  held-on handover past a h (inl s) = facch-kept c (holds key c timer past) (s .0) ∙ a .held h (unaged past h (s .3))
-  held-on reconfiguration past a h (inl s) = facch-kept c (holds key c timer past) (s .0) ∙ a .held h (unaged past h (s .3))
-  held-on (nln n) past a h (inl s) = rw (nln-same (lastNln past) n (s .0)) (a .held h (unaged past h (s .3)))
+  held-on (happens x) past a h (inl s) = cause-keeps key c (lastKnown past) x (holds key c timer past) (s .0) ∙ a .held h (unaged past h (s .3))
   held-on (entry e) past a h (inl s) =
       ap (λ (b : Option Half). meetKind c (kindOf c e) b e .held) (a .held h (unaged past h (s .3)))
       ∙ not-joined c (kindOf c e) e (h .which) (h .age) (h .entry) (s .0)
@@ -310,11 +266,7 @@ module _ (key : ℕ) (c : Channel) (timer : ℕ) (long : 1 ≤ timer) where
       ∙ ap (λ (x : Record). some (record { which = h .which; age = 0; entry = x })) (s .0 .0)
       ∙ ap (λ (n : ℕ). some (record { which = h .which; age = n; entry = h .entry })) (sym (s .0 .1))
   held-on (wait t) past a h (inr s) = absurd (s .0)
-  held-on (join k) past a h (inr s) = absurd (s .0)
-  held-on reselection past a h (inr s) = absurd (s .0)
-  held-on handover past a h (inr s) = absurd (s .0)
-  held-on reconfiguration past a h (inr s) = absurd (s .0)
-  held-on (nln n) past a h (inr s) = absurd (s .0)
+  held-on (happens x) past a h (inr s) = absurd (s .0)
 
   agrees : (past : List Moment) → Agrees key c timer past
   unfolding holds Standing
@@ -334,64 +286,28 @@ module _ (key : ℕ) (c : Channel) (timer : ℕ) (long : 1 ≤ timer) where
 
 module _ (key : ℕ) (c : Channel) (timer : ℕ) where
   abbrev standingAt : List Moment → One
-  standingAt past = record { held = holds key c timer past; nln = lastNln past }
+  standingAt past = record { held = holds key c timer past; cell = lastKnown past }
 
   entries-held : (past : List Moment) (es : List Record) → heldAfter c (holds key c timer past) es ≡ holds key c timer (followed past (map entry es))
   unfolding heldAfter holds
   entries-held past [] = refl
   entries-held past (e ∷ es) = entries-held (entry e ∷ past) es
 
-  entries-nln : (past : List Moment) (es : List Record) → lastNln (followed past (map entry es)) ≡ lastNln past
-  entries-nln past [] = refl
-  entries-nln past (e ∷ es) = entries-nln (entry e ∷ past) es
-
-  opening-held : (past : List Moment) (t : ℕ) (v : Sight)
-      → spared key c (passed timer (standingAt past) t) v ≡ holds key c timer (followed (wait t ∷ past) (opening v))
-  unfolding holds
-  opening-held past t nothing = refl
-  opening-held past t (joins k) = refl
-  opening-held past t leavesCell = by-channel c
-    where
-      by-channel : (d : Channel) → spared key d (passed timer (standingAt past) t) leavesCell ≡ kept onNch d (aged timer t (holds key c timer past))
-      by-channel onNch = refl
-      by-channel onFacch = refl
-  opening-held past t handsOver = by-channel c
-    where
-      by-channel : (d : Channel) → spared key d (passed timer (standingAt past) t) handsOver ≡ kept onFacch d (aged timer t (holds key c timer past))
-      by-channel onNch = refl
-      by-channel onFacch = refl
-  opening-held past t reconfigures = by-channel c
-    where
-      by-channel : (d : Channel) → spared key d (passed timer (standingAt past) t) reconfigures ≡ kept onFacch d (aged timer t (holds key c timer past))
-      by-channel onNch = refl
-      by-channel onFacch = refl
-  opening-held past t (message none es) = unnumbered (lastNln past)
-    where
-      unnumbered : (l : Option ℕ) → pick (changed l none) none (aged timer t (holds key c timer past)) ≡ aged timer t (holds key c timer past)
-      unnumbered none = refl
-      unnumbered (some l) = refl
-  opening-held past t (message (some n) es) = refl
-
-  opening-nln : (past : List Moment) (t : ℕ) (v : Sight) → lastNln (followed (wait t ∷ past) (opening v)) ≡ nlnIn (standingAt past) v
-  opening-nln past t nothing = refl
-  opening-nln past t (joins k) = refl
-  opening-nln past t leavesCell = refl
-  opening-nln past t handsOver = refl
-  opening-nln past t reconfigures = refl
-  opening-nln past t (message none es) = refl
-  opening-nln past t (message (some n) es) = refl
+  entries-known : (past : List Moment) (es : List Record) → lastKnown (followed past (map entry es)) ≡ lastKnown past
+  entries-known past [] = refl
+  entries-known past (e ∷ es) = entries-known (entry e ∷ past) es
 
   entries-after : (past : List Moment) (v : Seen) (es : List Record)
       → heldAfter c (spared key c (passed timer (standingAt past) (v .step)) (v .sight)) es
       ≡ holds key c timer (followed (opened past v) (map entry es))
-  entries-after past v es =
-      ap (λ (b : Option Half). heldAfter c b es) (opening-held past (v .step) (v .sight)) ∙ entries-held (opened past v) es
+  unfolding holds
+  entries-after past v es = entries-held (opened past v) es
 
   step-moments : (past : List Moment) (v : Seen) → stepOne key c timer (standingAt past) v ≡ standingAt (afterEvent past v)
   unfolding stepOne
   step-moments past v =
-      ap₂ (λ (b : Option Half) (n : Option ℕ). record { held = b; nln = n }) (entries-after past v (entriesIn (v .sight)))
-      (sym (entries-nln (opened past v) (entriesIn (v .sight)) ∙ opening-nln past (v .step) (v .sight)))
+      ap₂ (λ (b : Option Half) (l : Known). record { held = b; cell = l }) (entries-after past v (v .sight .entries))
+      (sym (entries-known (opened past v) (v .sight .entries)))
 
   after-moments : (past : List Moment) (vs : List Seen) → oneAfter key c timer (standingAt past) vs ≡ standingAt (pastOf past vs)
   unfolding oneAfter pastOf
@@ -408,4 +324,4 @@ module _ (key : ℕ) (c : Channel) (timer : ℕ) where
 
   pub held-until : (vs : List Seen) (v : Seen) (k : ℕ)
       → heldBefore key c timer (oneAfter key c timer fresh vs) v k ≡ holds key c timer (untilEntry (pastOf [] vs) v k)
-  held-until vs v k = ap (λ (s : One). heldBefore key c timer s v k) (one-after vs) ∙ entries-after (pastOf [] vs) v (take k (entriesIn (v .sight)))
+  held-until vs v k = ap (λ (s : One). heldBefore key c timer s v k) (one-after vs) ∙ entries-after (pastOf [] vs) v (take k (v .sight .entries))

@@ -11,7 +11,10 @@ use borrow.Author.Tests.{ltb-true}
 use Rattle.bits.specs.Field.{pick}
 use Rattle.receiver.specs.declared.Record.{Record}
 use Rattle.receiver.specs.Model.{agree, joinedOf}
-use Rattle.receiver.specs.One.{Channel, onNch, onFacch, Kind, clear, piece, first, second, bare, unusable, kindOf, Which, theFirst, theSecond, Half, One, Said, Heard, met, meetKind, meetOne, Sight, nothing, joins, leavesCell, handsOver, reconfigures, message, aged, changed, heldAfter, saidOf, spared}
+use Rattle.receiver.specs.Channels.{Channel}
+use Rattle.receiver.specs.Step.{Cause, nothing, joining, moving, numbered}
+use Rattle.receiver.specs.One.{mayLead, goneBy, Kind, clear, piece, first, second, bare, unusable, kindOf, Which, theFirst, theSecond, Half, One, Said, Heard, met}
+use Rattle.receiver.specs.One.{meetKind, says, stored, meetOne, Sight, aged, changed, heldAfter, saidOf, sparedBy, spared}
 use Rattle.receiver.specs.History.{Opposite}
 use Rattle.receiver.specs.Promises.{Opposite-held, joinedWith}
 
@@ -36,10 +39,8 @@ opposite-first theSecond a x e c q = (tt, told-three (agree x e) (joinedOf e x) 
 
 opposite-second : (w : Which) (a : ℕ) (x e : Record) (c : Channel) → meetKind c second (some (record { which = w; age = a; entry = x })) e .said .number ≡ 3
     → Opposite second w × (agree x e ≡ true)
-opposite-second theFirst a x e onNch q = (tt, told-three (agree x e) (joinedOf x e) (record { which = theFirst; age = a; entry = x }) q)
-opposite-second theFirst a x e onFacch q = (tt, told-three (agree x e) (joinedOf x e) (record { which = theFirst; age = a; entry = x }) q)
-opposite-second theSecond a x e onNch q = absurd (omega arith)
-opposite-second theSecond a x e onFacch q = absurd (omega arith)
+opposite-second theFirst a x e c q = (tt, told-three (agree x e) (joinedOf x e) (record { which = theFirst; age = a; entry = x }) q)
+opposite-second theSecond a x e c q = absurd (omega arith)
 
 three : (c : Channel) (k : Kind) (h : Option Half) (e : Record) → meetKind c k h e .said .number ≡ 3 → Met-opposite k h e
 three c clear h e q = absurd (omega arith)
@@ -48,8 +49,11 @@ three c first none e q = absurd (omega arith)
 three c first (some h) e q =
     let o = opposite-first (h .which) (h .age) (h .entry) e c q in
     record { half = h; held = refl; opposite = o .0; agrees = o .1 }
-three onNch second none e q = absurd (omega arith)
-three onFacch second none e q = absurd (omega arith)
+three c second none e q = absurd (early (mayLead c) q)
+  where
+    early : (b : Bool) → pick b (says 4 (stored theSecond e)) (says 8 none) .said .number ≡ 3 → ⊥
+    early true p = omega arith
+    early false p = omega arith
 three c second (some h) e q =
     let o = opposite-second (h .which) (h .age) (h .entry) e c q in
     record { half = h; held = refl; opposite = o .0; agrees = o .1 }
@@ -66,15 +70,14 @@ joins-with c clear w a x e o q = absurd o
 joins-with c piece w a x e o q = absurd o
 joins-with c first theFirst a x e o q = absurd o
 joins-with c first theSecond a x e o q = rw q
-joins-with onNch second theFirst a x e o q = rw q
-joins-with onFacch second theFirst a x e o q = rw q
+joins-with c second theFirst a x e o q = rw q
 joins-with c second theSecond a x e o q = absurd o
 joins-with c bare w a x e o q = absurd o
 joins-with c unusable w a x e o q = absurd o
 
 -- ## No half that is held has run out
 
-abbrev pub Young : ℕ → Option Half → Type 0
+abbrev Young : ℕ → Option Half → Type 0
 Young timer none = Unit {0}
 Young timer (some h) = h .age < timer
 
@@ -94,15 +97,13 @@ either timer true x y p q = p
 either timer false x y p q = q
 
 pub young-spared : (timer key : ℕ) (c : Channel) (s : One) (v : Sight) → Young timer (s .held) → Young timer (spared key c s v)
-young-spared timer key c s nothing y = y
-young-spared timer key c s (joins k) y = either timer (eqb k key) (s .held) none y tt
-young-spared timer key onNch s leavesCell y = tt
-young-spared timer key onFacch s leavesCell y = y
-young-spared timer key onNch s handsOver y = y
-young-spared timer key onFacch s handsOver y = tt
-young-spared timer key onNch s reconfigures y = y
-young-spared timer key onFacch s reconfigures y = tt
-young-spared timer key c s (message n es) y = either timer (changed (s .nln) n) none (s .held) tt y
+young-spared timer key c s v y = by-cause (v .cause)
+  where
+    by-cause : (x : Cause) → Young timer (sparedBy key c (s .cell) x (s .held))
+    by-cause nothing = y
+    by-cause (joining k) = either timer (eqb k key) (s .held) none y tt
+    by-cause (moving m) = either timer (goneBy c m) none (s .held) tt y
+    by-cause (numbered n) = either timer (changed (s .cell .nln) n) none (s .held) tt y
 
 module _ (timer : ℕ) (long : 1 ≤ timer) where
   young-met : (w : Bool) (j : Record) (h : Half) → h .age < timer → Young timer (met w j h .held)
@@ -114,18 +115,19 @@ module _ (timer : ℕ) (long : 1 ≤ timer) where
   young-first c theSecond a x e y = young-met (agree x e) (joinedOf e x) (record { which = theSecond; age = a; entry = x }) y
 
   young-second : (c : Channel) (w : Which) (a : ℕ) (x e : Record) → a < timer → Young timer (meetKind c second (some (record { which = w; age = a; entry = x })) e .held)
-  young-second onNch theFirst a x e y = young-met (agree x e) (joinedOf x e) (record { which = theFirst; age = a; entry = x }) y
-  young-second onFacch theFirst a x e y = young-met (agree x e) (joinedOf x e) (record { which = theFirst; age = a; entry = x }) y
-  young-second onNch theSecond a x e y = y
-  young-second onFacch theSecond a x e y = y
+  young-second c theFirst a x e y = young-met (agree x e) (joinedOf x e) (record { which = theFirst; age = a; entry = x }) y
+  young-second c theSecond a x e y = y
 
   young-meet : (c : Channel) (k : Kind) (h : Option Half) (e : Record) → Young timer h → Young timer (meetKind c k h e .held)
   young-meet c clear h e y = y
   young-meet c piece h e y = y
   young-meet c first none e y = long
   young-meet c first (some h) e y = young-first c (h .which) (h .age) (h .entry) e y
-  young-meet onNch second none e y = long
-  young-meet onFacch second none e y = tt
+  young-meet c second none e y = early (mayLead c)
+    where
+      early : (b : Bool) → Young timer (pick b (says 4 (stored theSecond e)) (says 8 none) .held)
+      early true = long
+      early false = tt
   young-meet c second (some h) e y = young-second c (h .which) (h .age) (h .entry) e y
   young-meet c bare h e y = y
   young-meet c unusable h e y = y

@@ -1,21 +1,68 @@
--- Laws of the keys: where a key stands, that none comes again, and the places that hold them. Assumes nothing.
-use mathlib.Core.Path.{_≡_, refl, ap, _∙_}
+-- Looking up a key: what is found has the key, and a subscribed key is found. Only here is `indexOf` unfolded. Assumes nothing.
+use mathlib.Core.Path.{_≡_, refl, sym, ap, _∙_}
 use mathlib.Core.Bool.{Bool, true, false}
 use mathlib.Core.List.{List, [], _∷_}
 use Prim.Native.Nat.{ℕ, zero, suc, _+_, _≤_, _<_}
-use native.Mathlib.Nat.{zero-add}
 use native.Mathlib.Numerals.{add-one}
 use native.Mathlib.Omega.{arith}
-use lib.ListN.{length, getD, set, drop, replicate, length-replicate, getD-replicate, List·getD-eq-default, drop-of-length-le}
+use lib.ListN.{length, getD, drop, drop-of-length-le}
 use lib.Dec.{leb, ltb, eqb}
 use lib.Seq.{drop-cons}
-use borrow.Author.Tests.{eq-eqb, ne-eqb, lt-ltb, le-ltb, ltb-true, ltb-false, le-leb, lt-leb}
+use borrow.Author.Tests.{eqb-true, eq-eqb, ne-eqb, lt-ltb, le-ltb, ltb-true, ltb-false, le-leb, lt-leb}
 use Rattle.bits.specs.Field.{both, pick}
-use Rattle.receiver.specs.Model.{indexOf, keysRight, keyPlaces, noKey, mapAt}
+use Rattle.bits.proofs.Answers.{both-true}
+use Rattle.receiver.specs.Model.{lastKey, indexOf, keysRight, keyPlaces}
 use Rattle.receiver.specs.Store.{standsFrom}
-use Rattle.receiver.proofs.Loops.{partAt, part-set, part-keep, part-all}
+use Rattle.receiver.proofs.Dropping.{by-test}
 
--- ## The first place of a key
+-- ## The two laws
+
+fewer : {a b : ℕ} → suc a < suc b → a < b
+fewer h = omega arith
+
+-- what is found has the key
+pub found : (ks : List ℕ) (key : ℕ) → indexOf ks key < length ks → getD ks (indexOf ks key) 0 ≡ key
+unfolding indexOf
+found [] key h = absurd (omega arith)
+found (k ∷ ks) key h = by-test (eqb k key) (λ p. simp p (eqb-true k key p)) (λ p. simp p (found ks key (fewer (rw p at h))))
+
+-- so what is found at one index is one key
+pub same-index : (ks : List ℕ) (a b : ℕ) → indexOf ks a < length ks → indexOf ks a ≡ indexOf ks b → a ≡ b
+same-index ks a b h e = sym (found ks a h) ∙ rw e (found ks b (rw e at h))
+
+-- a key is found no later than where it stands
+no-later : (ks : List ℕ) (i d : ℕ) → i < length ks → indexOf ks (getD ks i d) ≤ i
+unfolding indexOf
+no-later [] i d h = absurd (omega arith)
+no-later (k ∷ ks) zero d h = rw (eq-eqb k k refl) (omega arith)
+no-later (k ∷ ks) (suc i) d h = go (eqb k (getD ks i d)) (no-later ks i d (omega arith))
+  where
+    go : (b : Bool) {m : ℕ} → m ≤ i → pick b 0 (suc m) ≤ suc i
+    go true h = omega arith
+    go false h = omega arith
+
+-- a key that comes once is not its follower
+not-again : (k : ℕ) (ks : List ℕ) (i d : ℕ) → keysRight (k ∷ ks) ≡ true → i < length ks → (k ≡ getD ks i d → ⊥) × (keysRight ks ≡ true)
+unfolding keysRight
+not-again k ks i d r h =
+    let b = both-true (eqb (indexOf ks k) (length ks)) (keysRight ks) (both-true (leb k lastKey) _ r .1) in
+    (λ q. omega (arith, eqb-true (indexOf ks k) (length ks) (b .0), rw (sym q) at (no-later ks i d h)), b .1)
+
+-- a subscribed key is found in the key places, at its own index
+pub own-index : (n : ℕ) (ks : List ℕ) → length ks ≤ n → keysRight ks ≡ true → (i d : ℕ) → i < length ks → indexOf (keyPlaces n ks) (getD ks i d) ≡ i
+unfolding indexOf
+own-index n [] l r i d h = absurd (omega arith)
+own-index zero (k ∷ ks) l r i d h = absurd (omega arith)
+own-index (suc n) (k ∷ ks) l r zero d h = rw (eq-eqb k k refl)
+own-index (suc n) (k ∷ ks) l r (suc i) d h =
+    let a = not-again k ks i d r (omega arith) in
+    rw (ne-eqb k (getD ks i d) (a .0)) (ap suc (own-index n ks (omega arith) (a .1) i d (omega arith)))
+
+-- the index that a lent key has among the lent keys
+pub lent-index : (n : ℕ) (ks : List ℕ) → length ks ≤ n → keysRight ks ≡ true → (key : ℕ) → indexOf ks key < length ks → indexOf (keyPlaces n ks) key ≡ indexOf ks key
+lent-index n ks l r key h = rw (found ks key h) at (own-index n ks l r (indexOf ks key) 0 h)
+
+-- ## One key after the other, as the code looks
 
 pub index-here : (ks : List ℕ) (key i d : ℕ) → i < length ks → getD ks i d ≡ key → indexOf (drop i ks) key ≡ 0
 unfolding indexOf
@@ -33,6 +80,10 @@ index-le (k ∷ ks) key = go (eqb k key) (index-le ks key)
     go : (b : Bool) {m : ℕ} → m ≤ length ks → pick b 0 (suc m) ≤ suc (length ks)
     go true h = omega arith
     go false h = omega arith
+
+pub index-past : (ks : List ℕ) (key i : ℕ) → length ks ≤ i → indexOf (drop i ks) key ≡ 0
+unfolding indexOf
+index-past ks key i h = rw (drop-of-length-le ks {i = i} h)
 
 -- ## Whether a key stands from a place on
 
@@ -54,8 +105,8 @@ module _ (ks : List ℕ) (key i d : ℕ) where
       rw (index-next ks key i d h e, add-one, drop-cons ks i d h) (ltb-suc (indexOf (drop (suc i) ks) key) (length (drop (suc i) ks)))
 
 pub stands-past : (ks : List ℕ) (key i : ℕ) → length ks ≤ i → standsFrom ks key i ≡ false
-unfolding standsFrom indexOf
-stands-past ks key i h = rw (drop-of-length-le ks {i = i} h)
+unfolding standsFrom
+stands-past ks key i h = rw (index-past ks key i h, drop-of-length-le ks {i = i} h)
 
 -- ## Each key is low and none comes again
 
@@ -63,61 +114,25 @@ module _ (ks : List ℕ) (i d : ℕ) (h : i < length ks) where
   abbrev after : List ℕ
   after = drop (i + 1) ks
 
-  right-split : keysRight (drop i ks) ≡ both (leb (getD ks i d) 199999999) (both (eqb (indexOf after (getD ks i d)) (length after)) (keysRight after))
+  right-split : keysRight (drop i ks) ≡ both (leb (getD ks i d) lastKey) (both (eqb (indexOf after (getD ks i d)) (length after)) (keysRight after))
   unfolding keysRight
   right-split = rw (add-one, drop-cons ks i d h)
 
-  pub right-high : 199999999 < getD ks i d → keysRight (drop i ks) ≡ false
-  right-high g = rw (right-split, lt-leb (getD ks i d) 199999999 g)
+  pub right-high : lastKey < getD ks i d → keysRight (drop i ks) ≡ false
+  right-high g = rw (right-split, lt-leb (getD ks i d) lastKey g)
 
-  pub right-again : getD ks i d ≤ 199999999 → standsFrom ks (getD ks i d) (i + 1) ≡ true → keysRight (drop i ks) ≡ false
+  pub right-again : getD ks i d ≤ lastKey → standsFrom ks (getD ks i d) (i + 1) ≡ true → keysRight (drop i ks) ≡ false
   unfolding standsFrom
   right-again g e =
       let lt : indexOf after (getD ks i d) < length after = ltb-true _ _ e in
-      rw (right-split, le-leb (getD ks i d) 199999999 g, ne-eqb (indexOf after (getD ks i d)) (length after) (λ q. omega arith))
+      rw (right-split, le-leb (getD ks i d) lastKey g, ne-eqb (indexOf after (getD ks i d)) (length after) (λ q. omega arith))
 
-  pub right-next : getD ks i d ≤ 199999999 → standsFrom ks (getD ks i d) (i + 1) ≡ false → keysRight (drop i ks) ≡ keysRight (drop (i + 1) ks)
+  pub right-next : getD ks i d ≤ lastKey → standsFrom ks (getD ks i d) (i + 1) ≡ false → keysRight (drop i ks) ≡ keysRight (drop (i + 1) ks)
   unfolding standsFrom
   right-next g e =
       let le : length after ≤ indexOf after (getD ks i d) = ltb-false _ _ e in
-      rw (right-split, le-leb (getD ks i d) 199999999 g, eq-eqb (indexOf after (getD ks i d)) (length after) (omega (arith, index-le after (getD ks i d))))
+      rw (right-split, le-leb (getD ks i d) lastKey g, eq-eqb (indexOf after (getD ks i d)) (length after) (omega (arith, index-le after (getD ks i d))))
 
 pub right-past : (ks : List ℕ) (i : ℕ) → length ks ≤ i → keysRight (drop i ks) ≡ true
 unfolding keysRight
 right-past ks i h = rw (drop-of-length-le ks {i = i} h)
-
--- ## The places that hold the keys
-
--- what a place is to hold, whatever it held
-abbrev pub placed : List ℕ → ℕ → ℕ → ℕ
-placed ks i x = getD ks i noKey
-
-getD-any : (l : List ℕ) (i d e : ℕ) → i < length l → getD l i d ≡ getD l i e
-getD-any [] i d e h = absurd (omega arith)
-getD-any (x ∷ l) zero d e h = refl
-getD-any (x ∷ l) (suc i) d e h = getD-any l i d e (omega arith)
-
-places-unused : (j n : ℕ) → mapAt (placed []) j (replicate n noKey) ≡ keyPlaces n []
-places-unused j zero = refl
-places-unused j (suc n) = ap (λ (l : List ℕ). noKey ∷ l) (places-unused (suc j) n)
-
-places-shift : (k : ℕ) (ks : List ℕ) (j n : ℕ) → mapAt (placed (k ∷ ks)) (suc j) (replicate n noKey) ≡ mapAt (placed ks) j (replicate n noKey)
-places-shift k ks j zero = refl
-places-shift k ks j (suc n) = ap (λ (l : List ℕ). getD ks j noKey ∷ l) (places-shift k ks (suc j) n)
-
-places-whole : (n : ℕ) (ks : List ℕ) → mapAt (placed ks) 0 (replicate n noKey) ≡ keyPlaces n ks
-places-whole zero ks = refl
-places-whole (suc n) [] = places-unused 0 (suc n)
-places-whole (suc n) (k ∷ ks) = ap (λ (l : List ℕ). k ∷ l) (places-shift k ks 0 n ∙ places-whole n ks)
-
--- the first i of n places are filled
-module _ (ks l : List ℕ) (n i : ℕ) (q : l ≡ partAt (placed ks) 0 i (replicate n noKey)) where
-  pub place-set : (d : ℕ) → i < length ks → set l i (getD ks i d) ≡ partAt (placed ks) 0 (i + 1) (replicate n noKey)
-  place-set d h = rw (q, add-one) (part-set (placed ks) 0 i (replicate n noKey) _ 0 (rw zero-add (getD-any ks i d noKey h)))
-
-  pub place-keep : i < n → length ks ≤ i → l ≡ partAt (placed ks) 0 (i + 1) (replicate n noKey)
-  place-keep h g =
-      rw (q, add-one) (part-keep (placed ks) 0 i (replicate n noKey) 0 (rw (zero-add, getD-replicate n i noKey 0 h) (List·getD-eq-default ks noKey g)))
-
-  pub place-all : n ≤ i → l ≡ keyPlaces n ks
-  place-all h = q ∙ part-all (placed ks) 0 i (replicate n noKey) (rw (length-replicate n noKey) h) ∙ places-whole n ks

@@ -1,6 +1,9 @@
+pub mod Tables
+pub mod Places
 pub mod Classes
 pub mod Loops
 pub mod Keys
+pub mod KeyPlaces
 pub mod Sweeping
 pub mod MessageEntries
 pub mod Clock

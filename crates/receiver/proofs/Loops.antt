@@ -1,12 +1,12 @@
 -- Laws of a loop that goes once over a list, stores at each place and counts. Assumes nothing.
 use mathlib.Core.Path.{_≡_, refl, ap, sym}
 use mathlib.Core.Bool.{Bool, true, false}
-use mathlib.Core.List.{List, [], _∷_}
+use mathlib.Core.List.{List, [], _∷_, _++_}
 use Prim.Native.Nat.{ℕ, zero, suc, _+_, _≤_, _<_}
 use native.Mathlib.Nat.{add-zero, add-suc, zero-add, suc-add}
 use native.Mathlib.Omega.{arith}
 use lib.ListN.{length, getD, set}
-use Rattle.csn1.specs.Told.{asBit}
+use Rattle.csn1.specs.Told.{asBit, padded}
 use Rattle.receiver.specs.Model.{mapAt, countAt}
 
 -- the list with its first n elements changed, each by its place
@@ -68,3 +68,9 @@ module _ {A : Type 0} (t : ℕ → A → Bool) where
   count-all k zero (x ∷ xs) h = absurd (omega arith)
   count-all k (suc n) [] h = refl
   count-all k (suc n) (x ∷ xs) h = ap (λ (m : ℕ). asBit (t k x) + m) (count-all (suc k) n xs (omega arith))
+
+-- one more value, where there is a place for it
+pub padded-snoc : {A : Type 0} (z : A) (n : ℕ) (l : List A) (a : A) → length l < n → padded z n (l ++ (a ∷ [])) ≡ set (padded z n l) (length l) a
+padded-snoc z zero l a h = absurd (omega arith)
+padded-snoc z (suc n) [] a h = refl
+padded-snoc z (suc n) (b ∷ l) a h = ap (λ t. b ∷ t) (padded-snoc z n l a (omega arith))

@@ -1,7 +1,7 @@
 -- What an entry meets at a place of the receiver is what it meets at the one-call receiver's half. Assumes nothing.
 use mathlib.Core.Path.{_≡_, refl, ap}
 use mathlib.Core.Bool.{Bool, true, false, not}
-use mathlib.Core.Option.{some}
+use mathlib.Core.Option.{none, some}
 use Prim.Native.Nat.{ℕ, zero, suc, _^_, _≤_, _<_}
 use native.Mathlib.Omega.{arith}
 use lib.Dec.{eqb}
@@ -10,9 +10,12 @@ use Rattle.csn1.specs.Told.{there}
 use Rattle.receiver.specs.declared.Record.{Record}
 use Rattle.receiver.specs.declared.Slot.{Slot}
 use Rattle.receiver.specs.declared.Met.{Met}
+use Rattle.receiver.specs.Channels.{Channel, numberOf, leads}
 use Rattle.receiver.specs.Model.{emptySlot, wrapSub, classOf, isCiphered, agree, joinedOf, only, complete, storing, meetHalf, meetOf}
-use Rattle.receiver.specs.One.{Channel, onNch, onFacch, Kind, clear, piece, first, second, bare, unusable, nchKind, facchKind, kindOf, theFirst, theSecond, Half, Heard, says, met, meetKind, meetOne}
-use Rattle.receiver.specs.Promises.{numberOf, halfOf, heldOf}
+use Rattle.receiver.specs.One.{hasSegments, mayLead, Kind, clear, piece, first, second, bare, unusable, withSegments, withoutSegments, kindOf}
+use Rattle.receiver.specs.One.{theFirst, theSecond, Half, Heard, says, stored, met, meetKind, meetOne}
+use Rattle.receiver.specs.Promises.{halfOf, heldOf}
+use Rattle.receiver.proofs.Tables.{asks-same, leads-same}
 use Rattle.receiver.proofs.Clock.{ageless}
 
 -- ## What an entry is: the tests against the tables
@@ -40,7 +43,7 @@ described true = refl
 described false = refl
 
 -- o: Segment Id is there, s: it is 1
-nch-table : (y d o s g f : Bool) → tests y d g (both o (not s)) (both o s) f ≡ classNumber (nchKind y d (there o s) g f)
+nch-table : (y d o s g f : Bool) → tests y d g (both o (not s)) (both o s) f ≡ classNumber (withSegments y d (there o s) g f)
 nch-table false true o s g f = refl
 nch-table false false o s g true = refl
 nch-table false false o s g false = refl
@@ -62,7 +65,7 @@ nch-table true false true false true false = refl
 nch-table true false true false false true = refl
 nch-table true false true false false false = refl
 
-facch-table : (y d g f : Bool) → tests y d g true true f ≡ classNumber (facchKind y d g f)
+facch-table : (y d g f : Bool) → tests y d g true true f ≡ classNumber (withoutSegments y d g f)
 facch-table false true g f = refl
 facch-table false false g true = refl
 facch-table false false g false = refl
@@ -74,8 +77,14 @@ facch-table true false false false = refl
 
 class-kind : (c : Channel) (e : Record) → classOf (numberOf c) e ≡ classNumber (kindOf c e)
 unfolding classOf kindOf
-class-kind onNch e = nch-table (isCiphered e) (e .call .described) (e .segmented) (e .segment) (e .given) (e .full)
-class-kind onFacch e = facch-table (isCiphered e) (e .call .described) (e .given) (e .full)
+class-kind c e = rw (asks-same c) (by-segments (hasSegments c))
+  where
+    by-segments : (b : Bool)
+        → tests (isCiphered e) (e .call .described) (e .given) (pick b (both (e .segmented) (not (e .segment))) true) (pick b (both (e .segmented) (e .segment)) true) (e .full)
+        ≡ classNumber
+        (pick b (withSegments (isCiphered e) (e .call .described) (there (e .segmented) (e .segment)) (e .given) (e .full)) (withoutSegments (isCiphered e) (e .call .described) (e .given) (e .full)))
+    by-segments true = nch-table (isCiphered e) (e .call .described) (e .segmented) (e .segment) (e .given) (e .full)
+    by-segments false = facch-table (isCiphered e) (e .call .described) (e .given) (e .full)
 
 -- ## What an entry meets
 
@@ -88,7 +97,7 @@ meetClass n ch now s e =
     pick (eqb n 1) (complete 1 e s)
     (pick (eqb n 2) (complete 2 e s)
     (pick (eqb n 3) (meetHalf 1 s e (joinedOf e (s .«record»)) (only 4 (storing 1 now e)))
-    (pick (eqb n 4) (meetHalf 2 s e (joinedOf (s .«record») e) (pick (eqb ch 0) (only 4 (storing 2 now e)) (only 8 s))) (only n s))))
+    (pick (eqb n 4) (meetHalf 2 s e (joinedOf (s .«record») e) (pick (leads ch) (only 4 (storing 2 now e)) (only 8 s))) (only n s))))
 
 -- the opposite half is held: do they agree?
 opposite : (now : ℕ) (w : Bool) (j : Record) (n since : ℕ) (x : Record) (h : Half)
@@ -107,12 +116,13 @@ met-first c now (suc (suc (suc n))) since x e l = absurd (omega arith)
 
 met-second : (c : Channel) (now n since : ℕ) (x e : Record) → n ≤ 2
     → heardOf now (meetClass 4 (numberOf c) now (storing n since x) e) ≡ meetKind c second (halfOf n (wrapSub now since) x) e
-met-second onNch now zero since x e l = ap (λ (a : ℕ). says 4 (some (record { which = theSecond; age = a; entry = e }))) (ageless now)
-met-second onFacch now zero since x e l = refl
-met-second onNch now (suc zero) since x e l = opposite now (agree x e) (joinedOf x e) 1 since x _ refl
-met-second onFacch now (suc zero) since x e l = opposite now (agree x e) (joinedOf x e) 1 since x _ refl
-met-second onNch now (suc (suc zero)) since x e l = refl
-met-second onFacch now (suc (suc zero)) since x e l = refl
+met-second c now zero since x e l = rw (leads-same c) (early (mayLead c))
+  where
+    early : (b : Bool) → heardOf now (pick b (only 4 (storing 2 now e)) (only 8 (storing 0 since x))) ≡ pick b (says 4 (stored theSecond e)) (says 8 none)
+    early true = ap (λ (a : ℕ). says 4 (some (record { which = theSecond; age = a; entry = e }))) (ageless now)
+    early false = refl
+met-second c now (suc zero) since x e l = opposite now (agree x e) (joinedOf x e) 1 since x _ refl
+met-second c now (suc (suc zero)) since x e l = refl
 met-second c now (suc (suc (suc n))) since x e l = absurd (omega arith)
 
 met-kind : (c : Channel) (k : Kind) (now : ℕ) (s : Slot) (e : Record) → s .half ≤ 2
@@ -156,8 +166,11 @@ module _ (now timer : ℕ) (t : now < 2 ^ 32) (l : 1 ≤ timer) where
 
   second-sound : (c : Channel) (n since : ℕ) (x e : Record) → Sound now timer (storing n since x)
       → Sound now timer (meetClass 4 (numberOf c) now (storing n since x) e .held)
-  second-sound onNch zero since x e p = storing-sound now timer 2 e (omega arith) t l
-  second-sound onFacch zero since x e p = p
+  second-sound c zero since x e p = early (leads (numberOf c))
+    where
+      early : (b : Bool) → Sound now timer (pick b (only 4 (storing 2 now e)) (only 8 (storing zero since x)) .held)
+      early true = storing-sound now timer 2 e (omega arith) t l
+      early false = p
   second-sound c (suc zero) since x e p = opposite-sound (agree x e) (joinedOf x e) (storing 1 since x) p
   second-sound c (suc (suc zero)) since x e p = p
   second-sound c (suc (suc (suc n))) since x e p = absurd (omega (arith, p .half))

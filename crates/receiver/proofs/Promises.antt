@@ -6,24 +6,25 @@ use lib.Dec.{eqb}
 use borrow.Author.Tests.{eqb-false}
 use Rattle.csn1.specs.declared.Refusal.{Refusal}
 use Rattle.receiver.specs.Model.{noRecord, timerAt, sweptSlots, expiredOf, droppedOf}
-use Rattle.receiver.specs.Step.{tickOf, refusalOf, ruleOf, stepOf}
-use Rattle.receiver.specs.One.{Half, One, spared, entriesIn, passed, stepSaid, fresh}
+use Rattle.receiver.specs.Step.{refusalOf, ruleOf, stepOf}
+use Rattle.receiver.specs.One.{Half, One, spared, passed, stepSaid, fresh}
 use Rattle.receiver.specs.History.{Moment, untilEntry, pastOf}
-use Rattle.receiver.specs.Promises.{No-call-disturbs-another, Joins-exactly-when, oneAfter, Held-is-history, Joins-exactly-when-over-history, A-refused-event-changes-nothing, The-number-is-on-its-ground, The-wrapped-difference-is-the-sum, Every-lost-half-is-counted-once, Expiries-and-drops-are-counted-apart}
+use Rattle.receiver.specs.Promises.{No-call-disturbs-another, Joins-exactly-when, oneAfter, Held-is-history, Joins-exactly-when-over-history, A-refused-event-changes-nothing}
+use Rattle.receiver.specs.Promises.{The-number-is-on-its-ground, The-wrapped-difference-is-the-sum, Every-lost-half-is-counted-once, Expiries-and-drops-are-counted-apart}
 use Rattle.receiver.proofs.Dropping.{by-test, expired-all, dropped-all, lost-all}
 use Rattle.receiver.proofs.Joining.{young-aged, young-spared, joins-only, joins-then}
 use Rattle.receiver.proofs.Grounds.{refused-as, late-first, in-time, on-ground}
 use Rattle.receiver.proofs.History.{came, stayed, held-after, held-until}
 use Rattle.receiver.proofs.Isolation.{isolated, viewed}
-use Rattle.receiver.proofs.Beginning.{started, starts, started-good, started-view, started-timer}
+use Rattle.receiver.proofs.Beginning.{started, starts, started-good, started-view}
 
 pub no-call-disturbs-another : No-call-disturbs-another
 no-call-disturbs-another s keys t z key h c es ts =
-    rw (starts s keys z, ← started-timer s keys t z key h c, ← started-view s keys t z key h c) (isolated key c (started s keys) (started-good s keys t z key h c) es ts)
+    rw (starts s keys z, ← started-view s keys t z key h c) (isolated key c (started s keys) (started-good s keys t z key h c) es ts)
 
 pub the-wrapped-difference-is-the-sum : The-wrapped-difference-is-the-sum
 the-wrapped-difference-is-the-sum s keys t z key h c es ts =
-    rw (starts s keys z, ← started-timer s keys t z key h c, ← started-view s keys t z key h c)
+    rw (starts s keys z, ← started-view s keys t z key h c)
     (ap (λ (o : One). o .held) (viewed key c (started s keys) (started-good s keys t z key h c) es ts))
 
 pub joins-exactly-when : Joins-exactly-when
@@ -31,7 +32,7 @@ unfolding stepSaid
 joins-exactly-when key c timer long s v k l =
     let h : Option Half = spared key c (passed timer s (v .step)) (v .sight) in
     let y = young-spared timer key c (passed timer s (v .step)) (v .sight) (young-aged timer (v .step) (s .held)) in
-    (joins-only c timer long h y (entriesIn (v .sight)) k l _ noRecord, joins-then c timer long h y (entriesIn (v .sight)) k l _ noRecord)
+    (joins-only c timer long h y (v .sight .entries) k l _ noRecord, joins-then c timer long h y (v .sight .entries) k l _ noRecord)
 
 pub held-is-history : Held-is-history
 held-is-history key c timer long vs h =
@@ -65,13 +66,13 @@ a-refused-event-changes-nothing r e n =
 pub the-number-is-on-its-ground : The-number-is-on-its-ground
 the-number-is-on-its-ground r e =
     let w = ap (λ (x : Refusal). x .number) (refused-as r e) in
-    (λ h. w ∙ late-first r e h, λ h. on-ground e (stepOf r e .refusal .number) (w ∙ in-time r e h), refused-as r e)
+    (λ h. w ∙ late-first r e h, λ h. on-ground (e .happening) (stepOf r e .refusal .number) (w ∙ in-time r e h), refused-as r e)
 
 pub every-lost-half-is-counted-once : Every-lost-half-is-counted-once
 unfolding stepOf sweptSlots expiredOf droppedOf
 every-lost-half-is-counted-once r e z =
     by-test (eqb (refusalOf r e .number) 0)
-    (λ p. rw p (lost-all (tickOf e) (timerAt (r .t3206) (r .t3208)) (ruleOf r e) 0 (r .slots)))
+    (λ p. rw p (lost-all (e .tick) (timerAt r) (ruleOf r e) 0 (r .slots)))
     (λ p. absurd (eqb-false (refusalOf r e .number) 0 p (rw p at z)))
 
 pub expiries-and-drops-are-counted-apart : Expiries-and-drops-are-counted-apart
@@ -79,7 +80,7 @@ unfolding stepOf sweptSlots expiredOf droppedOf
 expiries-and-drops-are-counted-apart r e z =
     by-test (eqb (refusalOf r e .number) 0)
     (λ p. rw p (
-      expired-all (tickOf e) (timerAt (r .t3206) (r .t3208)) (ruleOf r e) 0 (r .slots),
-      dropped-all (tickOf e) (timerAt (r .t3206) (r .t3208)) (ruleOf r e) 0 (r .slots),
+      expired-all (e .tick) (timerAt r) (ruleOf r e) 0 (r .slots),
+      dropped-all (e .tick) (timerAt r) (ruleOf r e) 0 (r .slots),
     ))
     (λ p. absurd (eqb-false (refusalOf r e .number) 0 p (rw p at z)))

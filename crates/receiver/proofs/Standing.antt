@@ -3,7 +3,7 @@ use mathlib.Core.Path.{_≡_, refl, sym, ap, ap₂, _∙_}
 use mathlib.Core.Bool.{true, false}
 use mathlib.Core.List.{List, [], _∷_}
 use mathlib.Core.Option.{Option}
-use Prim.Native.Nat.{ℕ, zero, suc, _+_, _*_, _/_, _%_, _^_, _≤_, _<_}
+use Prim.Native.Nat.{ℕ, zero, suc, _+_, _^_, _≤_, _<_}
 use native.Mathlib.Nat.{add-zero, add-suc, suc-add}
 use native.Mathlib.Omega.{arith}
 use lib.Dec.{eqb}
@@ -15,8 +15,11 @@ use Rattle.receiver.specs.declared.Slot.{Slot}
 use Rattle.receiver.specs.declared.Told.{Told}
 use Rattle.receiver.specs.Model.{emptySlot, keyOf, indexOf, mapAt, meetOf}
 use Rattle.receiver.specs.Step.{placeOf, ours, metAt, slotsAfter, toldOf, allAfter, allTold}
-use Rattle.receiver.specs.One.{Channel, onNch, onFacch, Half, Said, Heard, meetOne, mine, heldAfter, saidOf}
-use Rattle.receiver.specs.Promises.{under, numberOf, heldOf}
+use Rattle.receiver.specs.Channels.{keyCount, places, placeOn, Channel, numberOf}
+use Rattle.receiver.specs.One.{Half, Said, Heard, meetOne, mine, heldAfter, saidOf}
+use Rattle.receiver.specs.Promises.{under, heldOf}
+use Rattle.receiver.proofs.Places.{place-lt, same-place, same-side}
+use Rattle.receiver.proofs.Keys.{same-index}
 use Rattle.receiver.proofs.Meets.{meet-same, Sound, meet-sound}
 use Rattle.receiver.proofs.Dropping.{by-test}
 
@@ -31,41 +34,10 @@ pub length-mapAt : {A B : Type 0} (f : ℕ → A → B) (k : ℕ) (l : List A) �
 length-mapAt f k [] = refl
 length-mapAt f k (x ∷ l) = ap suc (length-mapAt f (suc k) l)
 
-pub fewer : {a b : ℕ} → suc a < suc b → a < b
-fewer h = omega arith
-
--- a key that is there stands at its place
-at-index : (ks : List ℕ) (key : ℕ) → indexOf ks key < length ks → getD ks (indexOf ks key) 0 ≡ key
-unfolding indexOf
-at-index [] key h = absurd (omega arith)
-at-index (k ∷ ks) key h =
-    by-test (eqb k key) (λ p. simp p (eqb-true k key p)) (λ p. simp p (at-index ks key (fewer (rw p at h))))
-
-pub same-index : (ks : List ℕ) (a b : ℕ) → indexOf ks a < length ks → indexOf ks a ≡ indexOf ks b → a ≡ b
-same-index ks a b h e = sym (at-index ks a h) ∙ rw e (at-index ks b (rw e at h))
-
 -- ## The place of a key on a channel
 
 abbrev pub placeAt : List ℕ → ℕ → Channel → ℕ
-placeAt keys key c = 2 * indexOf keys key + numberOf c
-
-pub side-of : (n : ℕ) (c : Channel) → (2 * n + numberOf c) % 2 ≡ numberOf c
-side-of n onNch = omega arith
-side-of n onFacch = omega arith
-
-pub index-of : (n : ℕ) (c : Channel) → (2 * n + numberOf c) / 2 ≡ n
-index-of n onNch = omega arith
-index-of n onFacch = omega arith
-
-pub place-lt : (n : ℕ) (c : Channel) → n < 50 → 2 * n + numberOf c < 100
-place-lt n onNch h = omega arith
-place-lt n onFacch h = omega arith
-
-same-place : (a b : ℕ) (c d : Channel) → 2 * a + numberOf c ≡ 2 * b + numberOf d → a ≡ b
-same-place a b c d e = sym (index-of a c) ∙ ap (λ (n : ℕ). n / 2) e ∙ index-of b d
-
-same-side : (a b : ℕ) (c d : Channel) → 2 * a + numberOf c ≡ 2 * b + numberOf d → numberOf c ≡ numberOf d
-same-side a b c d e = sym (side-of a c) ∙ ap (λ (n : ℕ). n % 2) e ∙ side-of b d
+placeAt keys key c = placeOn (indexOf keys key) (numberOf c)
 
 -- ## The entries of a message
 
@@ -99,7 +71,7 @@ module _ (keys : List ℕ) (now : ℕ) where
         other-channel d n (slotsAfter keys (numberOf d) now l e) es
         ∙ missed (numberOf d) (placeAt keys key c) l e (λ p. n (same-side (indexOf keys key) (indexOf keys (keyOf (e .call))) c d p))
 
-    module _ (keyed : length keys ≡ 50) (subscribed : indexOf keys key < 50) where
+    module _ (keyed : length keys ≡ keyCount) (subscribed : indexOf keys key < keyCount) where
       -- an entry under another key
       other-key : (l : List Slot) (e : Record) → (keyOf (e .call) ≡ key → ⊥)
           → getD (slotsAfter keys (numberOf c) now l e) (placeAt keys key c) emptySlot ≡ getD l (placeAt keys key c) emptySlot
@@ -108,14 +80,14 @@ module _ (keys : List ℕ) (now : ℕ) where
           (λ p. n (sym (same-index keys key (keyOf (e .call)) (omega arith) (same-place (indexOf keys key) (indexOf keys (keyOf (e .call))) c c p))))
 
       -- an entry under the key
-      our-slot : (l : List Slot) (e : Record) → length l ≡ 100 → keyOf (e .call) ≡ key
+      our-slot : (l : List Slot) (e : Record) → length l ≡ places → keyOf (e .call) ≡ key
           → getD (slotsAfter keys (numberOf c) now l e) (placeAt keys key c) emptySlot ≡ meetOf (numberOf c) now (getD l (placeAt keys key c) emptySlot) e .held
       unfolding slotsAfter
       our-slot l e n p =
-          rw (p, lt-ltb (indexOf keys key) 50 subscribed)
+          rw (p, lt-ltb (indexOf keys key) keyCount subscribed)
           (getD-set-same l (placeAt keys key c) (meetOf (numberOf c) now (getD l (placeAt keys key c) emptySlot) e .held) emptySlot (rw n (place-lt (indexOf keys key) c subscribed)))
 
-      our-held : (l : List Slot) (e : Record) → length l ≡ 100 → getD l (placeAt keys key c) emptySlot .half ≤ 2 → keyOf (e .call) ≡ key
+      our-held : (l : List Slot) (e : Record) → length l ≡ places → getD l (placeAt keys key c) emptySlot .half ≤ 2 → keyOf (e .call) ≡ key
           → heldOf now (getD (slotsAfter keys (numberOf c) now l e) (placeAt keys key c) emptySlot) ≡ meetOne c (heldOf now (getD l (placeAt keys key c) emptySlot)) e .held
       our-held l e n h p = ap (heldOf now) (our-slot l e n p) ∙ ap (λ (x : Heard). x .held) (meet-same c now (getD l (placeAt keys key c) emptySlot) e h)
 
@@ -127,7 +99,7 @@ module _ (keys : List ℕ) (now : ℕ) where
           → saidIn (toldOf keys (numberOf c) now l e) ≡ meetOne c (heldOf now (getD l (placeAt keys key c) emptySlot)) e .said
       unfolding toldOf
       our-said l e h p =
-          rw (p, lt-ltb (indexOf keys key) 50 subscribed) (ap (λ (x : Heard). x .said) (meet-same c now (getD l (placeAt keys key c) emptySlot) e h))
+          rw (p, lt-ltb (indexOf keys key) keyCount subscribed) (ap (λ (x : Heard). x .said) (meet-same c now (getD l (placeAt keys key c) emptySlot) e h))
 
       module _ (timer : ℕ) (t : now < 2 ^ 32) (some : 1 ≤ timer) where
         -- what the entries do to the half and are told, beside what they do at the one-call receiver
@@ -136,7 +108,7 @@ module _ (keys : List ℕ) (now : ℕ) where
           pub said : under key (allTold keys (numberOf c) now l es) ≡ saidOf c (heldOf now (getD l (placeAt keys key c) emptySlot)) (mine key es)
           pub sound : Sound now timer (getD (allAfter keys (numberOf c) now l es) (placeAt keys key c) emptySlot)
 
-        hit : (l : List Slot) (e : Record) (es : List Record) → length l ≡ 100 → Sound now timer (getD l (placeAt keys key c) emptySlot) → eqb (keyOf (e .call)) key ≡ true
+        hit : (l : List Slot) (e : Record) (es : List Record) → length l ≡ places → Sound now timer (getD l (placeAt keys key c) emptySlot) → eqb (keyOf (e .call)) key ≡ true
             → Same (slotsAfter keys (numberOf c) now l e) es → Same l (e ∷ es)
         unfolding allAfter allTold mine heldAfter saidOf under
         hit l e es n p q r =
@@ -158,11 +130,11 @@ module _ (keys : List ℕ) (now : ℕ) where
               sound = r .sound;
             }
 
-        pub entries : (l : List Slot) (es : List Record) → length l ≡ 100 → Sound now timer (getD l (placeAt keys key c) emptySlot) → Same l es
+        pub entries : (l : List Slot) (es : List Record) → length l ≡ places → Sound now timer (getD l (placeAt keys key c) emptySlot) → Same l es
         unfolding allAfter allTold mine heldAfter saidOf under
         entries l [] n p = record { held = refl; said = refl; sound = p }
         entries l (e ∷ es) n p =
-            let m : length (slotsAfter keys (numberOf c) now l e) ≡ 100 = length-after (numberOf c) l e ∙ n in
+            let m : length (slotsAfter keys (numberOf c) now l e) ≡ places = length-after (numberOf c) l e ∙ n in
             by-test (eqb (keyOf (e .call)) key)
             (λ q. hit l e es n p q (entries (slotsAfter keys (numberOf c) now l e) es m
             (rw (our-slot l e n (eqb-true (keyOf (e .call)) key q)) (meet-sound now timer t some c (getD l (placeAt keys key c) emptySlot) e p))))

@@ -44,7 +44,7 @@ out-not-taken now timer rule i s e = rw e (not-both (isHeld s) (not (spares rule
 -- the sweep of a receiver at a tick by a rule
 module _ (r₀ : Receiver) (now : ℕ) (rule : Rule) where
   abbrev timer : ℕ → ℕ
-  timer i = timerAt (r₀ .t3206) (r₀ .t3208) i
+  timer i = timerAt r₀ i
 
   abbrev keeps : ℕ → Slot → Slot
   keeps i s = keptOf now (timer i) rule i s
@@ -81,7 +81,7 @@ module _ (r₀ : Receiver) (now : ℕ) (rule : Rule) where
     counts-low = (rw (w .expiries) (count-le expires 0 n (r₀ .slots)), rw (w .drops) (count-le takes 0 n (r₀ .slots)))
 
     -- the timer t and the fate f that the code works out, at a place that there is
-    module _ (t : ℕ) (k : t ≡ timerAt (r .t3206) (r .t3208) n) (f : Fate) (g : f ≡ fateOf now t rule n (getD (r .slots) n z)) (h : n < length (r₀ .slots)) where
+    module _ (t : ℕ) (k : t ≡ timerAt r n) (f : Fate) (g : f ≡ fateOf now t rule n (getD (r .slots) n z)) (h : n < length (r₀ .slots)) where
       -- it is the fate of the place as it was before the sweep
       fate-before : f ≡ pick (expires n old) RanOut (pick (takes n old) Taken Stays)
       unfolding fateOf

@@ -99,7 +99,7 @@ reducedEntry m j r = entryOf false (reducedCall r) (randomOfReduced m j) false (
 unfoldable pub nchEntries : Notification → List Record
 nchEntries m = mapAt (callEntry m) 0 (callsOf m) ++ mapAt (reducedEntry m) 0 (take (m .release6 .reducedcount) (m .release6 .reduced))
 
--- ## FACCH: one call, no Segment Id; its uplink is there exactly if Release 7 is
+-- ## FACCH: its call, without Segment Id; its uplink is there exactly if Release 7 is
 
 abbrev pub facchCommon : Message → Common
 facchCommon m =
@@ -131,3 +131,6 @@ facchEntry m =
       emergency = m .release7 .emergency;
       common = facchCommon m;
     }
+
+unfoldable pub facchEntries : Message → List Record
+facchEntries m = facchEntry m ∷ []

@@ -2,35 +2,24 @@
 use mathlib.Core.Path.{_≡_}
 use mathlib.Core.Logic.{_⊎_}
 use mathlib.Core.List.{List, [], _∷_, _++_, map}
-use mathlib.Core.Bool.{true}
+use mathlib.Core.Bool.{true, false}
 use mathlib.Core.Option.{Option, none, some}
 use Prim.Native.Nat.{ℕ, _+_, _-_, _≤_, _<_}
 use lib.ListN.{take}
 use Rattle.receiver.specs.declared.Record.{Record}
 use Rattle.receiver.specs.Model.{agree}
-use Rattle.receiver.specs.One.{Channel, onNch, onFacch, Kind, clear, piece, first, second, bare, unusable, kindOf, Which, theFirst, theSecond, Half, Sight, nothing, joins, leavesCell, handsOver, reconfigures, message, Seen, entriesIn}
+use Rattle.receiver.specs.Channels.{Channel}
+use Rattle.receiver.specs.Step.{Cause, nothing, joining, moving, numbered}
+use Rattle.receiver.specs.One.{mayLead, goneBy, Kind, clear, piece, first, second, bare, unusable, kindOf, Which, theFirst, theSecond, Half, Known, knownAfter, Seen}
 
 -- ## Moments
 
 pub data Moment : Type 0 where
   -- milliseconds from one accepted event to the next
   wait : ℕ → Moment
-  -- a call of a key is joined
-  join : ℕ → Moment
-  reselection handover reconfiguration : Moment
-  -- a message's NLN, before its entries
-  nln : ℕ → Moment
+  -- what an event is before its entries: nothing, a join, a move of the mobile, a message's NLN
+  happens : Cause → Moment
   entry : Record → Moment
-
--- what an event is besides its entries
-abbrev pub opening : Sight → List Moment
-opening nothing = []
-opening (joins k) = join k ∷ []
-opening leavesCell = reselection ∷ []
-opening handsOver = handover ∷ []
-opening reconfigures = reconfiguration ∷ []
-opening (message none es) = []
-opening (message (some n) es) = nln n ∷ []
 
 -- a past, its latest moment first, followed by moments in order
 abbrev pub followed : List Moment → List Moment → List Moment
@@ -39,38 +28,30 @@ followed past (m ∷ ms) = followed (m ∷ past) ms
 
 -- an event before its entries, as far as its first k, and the whole of it
 abbrev pub opened : List Moment → Seen → List Moment
-opened past v = followed (wait (v .step) ∷ past) (opening (v .sight))
+opened past v = happens (v .sight .cause) ∷ wait (v .step) ∷ past
 
 abbrev pub untilEntry : List Moment → Seen → ℕ → List Moment
-untilEntry past v k = followed (opened past v) (map entry (take k (entriesIn (v .sight))))
+untilEntry past v k = followed (opened past v) (map entry (take k (v .sight .entries)))
 
 abbrev pub afterEvent : List Moment → Seen → List Moment
-afterEvent past v = followed (opened past v) (map entry (entriesIn (v .sight)))
+afterEvent past v = followed (opened past v) (map entry (v .sight .entries))
 
 -- all moments of what was seen
 unfoldable pub pastOf : List Moment → List Seen → List Moment
 pastOf past [] = past
 pastOf past (v ∷ vs) = pastOf (afterEvent past v) vs
 
--- the last NLN seen, unknown at the start
-abbrev pub lastNln : List Moment → Option ℕ
-lastNln [] = none
-lastNln (wait t ∷ past) = lastNln past
-lastNln (join k ∷ past) = lastNln past
-lastNln (reselection ∷ past) = lastNln past
-lastNln (handover ∷ past) = lastNln past
-lastNln (reconfiguration ∷ past) = lastNln past
-lastNln (nln n ∷ past) = some n
-lastNln (entry e ∷ past) = lastNln past
+-- what is known of the cell: the last NLN seen
+abbrev pub lastKnown : List Moment → Known
+lastKnown [] = record { nln = none }
+lastKnown (wait t ∷ past) = lastKnown past
+lastKnown (happens x ∷ past) = knownAfter (lastKnown past) x
+lastKnown (entry e ∷ past) = lastKnown past
 
 -- the sum of the steps
 abbrev pub took : Moment → ℕ
 took (wait t) = t
-took (join k) = 0
-took reselection = 0
-took handover = 0
-took reconfiguration = 0
-took (nln n) = 0
+took (happens x) = 0
 took (entry e) = 0
 
 abbrev pub elapsed : List Moment → ℕ
@@ -90,15 +71,14 @@ Opposite second theSecond = ⊥
 Opposite bare w = ⊥
 Opposite unusable w = ⊥
 
--- a half that is stored where nothing is held: on the FACCH the first only
+-- a half that is stored where nothing is held: the second only where it may come first
 abbrev pub Storable : Channel → Kind → Which → Type 0
 Storable c clear w = ⊥
 Storable c piece w = ⊥
 Storable c first theFirst = Unit {0}
 Storable c first theSecond = ⊥
 Storable c second theFirst = ⊥
-Storable onNch second theSecond = Unit {0}
-Storable onFacch second theSecond = ⊥
+Storable c second theSecond = mayLead c ≡ true
 Storable c bare w = ⊥
 Storable c unusable w = ⊥
 
@@ -107,23 +87,17 @@ abbrev pub Same-nln : Option ℕ → ℕ → Type 0
 Same-nln none n = Unit {0}
 Same-nln (some l) n = l ≡ n
 
-abbrev pub Not-nch : Channel → Type 0
-Not-nch onNch = ⊥
-Not-nch onFacch = Unit {0}
+-- a cause does not discard the half: no join of another key, no move that discards halves of the channel, no change of NLN (only the NCH shows one)
+abbrev pub Leaves : ℕ → Channel → Known → Cause → Type 0
+Leaves key c l nothing = Unit {0}
+Leaves key c l (joining k) = k ≡ key
+Leaves key c l (moving m) = goneBy c m ≡ false
+Leaves key c l (numbered n) = Same-nln (l .nln) n
 
-abbrev pub Not-facch : Channel → Type 0
-Not-facch onNch = Unit {0}
-Not-facch onFacch = ⊥
-
--- the moment after a past does not discard the half w of entry e: no join of another key, no change of cell on the NCH, no handover or reconfiguration
--- on the FACCH, no change of NLN (only the NCH shows one), no entry that joined with it. Time is counted apart.
+-- the moment after a past does not discard the half w of entry e: its cause leaves it, and no entry joined with it. Time is counted apart.
 abbrev pub Spares : ℕ → Channel → List Moment → Which → Record → Moment → Type 0
 Spares key c past w e (wait t) = Unit {0}
-Spares key c past w e (join k) = k ≡ key
-Spares key c past w e reselection = Not-nch c
-Spares key c past w e handover = Not-facch c
-Spares key c past w e reconfiguration = Not-facch c
-Spares key c past w e (nln n) = Same-nln (lastNln past) n
+Spares key c past w e (happens x) = Leaves key c (lastKnown past) x
 Spares key c past w e (entry x) = Opposite (kindOf c x) w → agree e x ≡ true → ⊥
 
 -- ## The half that stands
@@ -131,11 +105,7 @@ Spares key c past w e (entry x) = Opposite (kindOf c x) w → agree e x ≡ true
 -- the moment is the coming of the half
 abbrev pub Begins : Channel → Half → Moment → Type 0
 Begins c h (wait t) = ⊥
-Begins c h (join k) = ⊥
-Begins c h reselection = ⊥
-Begins c h handover = ⊥
-Begins c h reconfiguration = ⊥
-Begins c h (nln n) = ⊥
+Begins c h (happens x) = ⊥
 Begins c h (entry e) = (e ≡ h .entry) × (h .age ≡ 0) × Storable c (kindOf c e) (h .which)
 
 abbrev pub younger : ℕ → Half → Half

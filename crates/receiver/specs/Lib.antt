@@ -1,3 +1,4 @@
+pub mod Channels
 pub mod Model
 pub mod Store
 pub mod Entries

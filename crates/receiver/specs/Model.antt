@@ -1,9 +1,9 @@
 -- The receiver's parts: clock, places, what drops a half, and what a half meets (document 01, "Setup, clock and store", "What each notified call is told"). Assumes nothing.
 use mathlib.Core.List.{List, [], _∷_}
 use mathlib.Core.Bool.{Bool, true, false, not}
-use Prim.Native.Nat.{ℕ, zero, suc, _+_, _-_, _*_, _/_, _%_, _^_}
-use lib.ListN.{length, getD, set, replicate}
-use lib.Dec.{leb, ltb, eqb}
+use Prim.Native.Nat.{ℕ, zero, suc, _+_, _-_, _*_, _%_, _^_}
+use lib.ListN.{length, replicate}
+use lib.Dec.{leb, eqb}
 use Rattle.bits.specs.Field.{both, pick}
 use Rattle.csn1.specs.Format.{noRefusal, ground}
 use Rattle.csn1.specs.Told.{asBit}
@@ -13,12 +13,12 @@ use Rattle.receiver.specs.declared.Common.{Common}
 use Rattle.receiver.specs.declared.Record.{Record}
 use Rattle.receiver.specs.declared.Slot.{Slot}
 use Rattle.receiver.specs.declared.Receiver.{Receiver}
-use Rattle.receiver.specs.declared.Told.{Told}
+use Rattle.receiver.specs.declared.Cell.{Cell}
 use Rattle.receiver.specs.declared.Rule.{Rule}
-use Rattle.receiver.specs.declared.Rule.the-variants.{Keep, Others, Side}
 use Rattle.receiver.specs.declared.Met.{Met}
 use Rattle.receiver.specs.declared.Setup.{Setup}
 use Rattle.receiver.specs.declared.Started.{Started}
+use Rattle.receiver.specs.Channels.{keyCount, places, sideOf, indexIn, byNumber, asks, leads, Channel, onNch, onFacch}
 
 -- ## Nothing yet
 
@@ -46,9 +46,12 @@ noRecord = record { full = false; call = noCall; segmented = false; segment = fa
 abbrev pub emptySlot : Slot
 emptySlot = record { half = 0; since = 0; «record» = noRecord }
 
--- a key place that no subscription uses
-abbrev pub noKey : ℕ
-noKey = 4294967295
+-- an NLN has two bits: this says that none is known
+abbrev pub noNln : ℕ
+noNln = 4
+
+abbrev pub noCell : Cell
+noCell = record { nln = noNln }
 
 -- ## The clock: a 32-bit millisecond counter that wraps
 
@@ -56,10 +59,20 @@ abbrev pub wrapSub : ℕ → ℕ → ℕ
 wrapSub a b = (a + 2 ^ 32 - b) % 2 ^ 32
 
 -- a step of 2^31 or more is refused
+abbrev pub lateStep : ℕ
+lateStep = 2147483648
+
 unfoldable pub late : ℕ → ℕ → Bool
-late now last = leb 2147483648 (wrapSub now last)
+late now last = leb lateStep (wrapSub now last)
 
 -- ## Keys and places
+
+-- the highest key, and what a key place holds that no subscription uses
+abbrev pub lastKey : ℕ
+lastKey = 199999999
+
+abbrev pub noKey : ℕ
+noKey = 4294967295
 
 -- reference times 2 plus service flag
 abbrev pub keyOf : Call → ℕ
@@ -72,15 +85,23 @@ indexOf (k ∷ ks) key = pick (eqb k key) 0 (suc (indexOf ks key))
 
 -- ## What drops a half
 
--- what an event drops: nothing, the halves under other keys than the one at an index, or those of one channel
-abbrev pub spares : Rule → ℕ → Bool
-spares Keep i = true
-spares (Others k) i = eqb (i / 2) k
-spares (Side ch) i = not (eqb (i % 2) ch)
+-- what an event drops: the halves of some channels, save those under the key at an index
+abbrev pub ruleFor : (Channel → Bool) → ℕ → Rule
+ruleFor goes but = record { nch = goes onNch; facch = goes onFacch; but = but }
+
+-- none of them; and all of some channels, for no key has the index `keyCount`
+abbrev pub keep : Rule
+keep = ruleFor (λ c. false) keyCount
+
+abbrev pub takes : Rule → ℕ → Bool
+takes rule ch = byNumber ch (rule .nch) (rule .facch)
+
+unfoldable pub spares : Rule → ℕ → Bool
+spares rule i = pick (takes rule (sideOf i)) (eqb (indexIn i) (rule .but)) true
 
 -- T3206 runs for the NCH, T3208 for the FACCH
-abbrev pub timerAt : ℕ → ℕ → ℕ → ℕ
-timerAt t3206 t3208 i = pick (eqb (i % 2) 0) t3206 t3208
+abbrev pub timerAt : Receiver → ℕ → ℕ
+timerAt r i = byNumber (sideOf i) (r .t3206) (r .t3208)
 
 abbrev pub isHeld : Slot → Bool
 isHeld s = not (eqb (s .half) 0)
@@ -107,22 +128,22 @@ countAt t k [] = 0
 countAt t k (x ∷ xs) = asBit (t k x) + countAt t (suc k) xs
 
 unfoldable pub sweptSlots : Receiver → ℕ → Rule → List Slot
-sweptSlots r now rule = mapAt (λ i s. keptOf now (timerAt (r .t3206) (r .t3208) i) rule i s) 0 (r .slots)
+sweptSlots r now rule = mapAt (λ i s. keptOf now (timerAt r i) rule i s) 0 (r .slots)
 
 unfoldable pub expiredOf : Receiver → ℕ → List Slot → ℕ
-expiredOf r now l = countAt (λ i s. ranOutOf now (timerAt (r .t3206) (r .t3208) i) s) 0 l
+expiredOf r now l = countAt (λ i s. ranOutOf now (timerAt r i) s) 0 l
 
 unfoldable pub droppedOf : Receiver → ℕ → Rule → ℕ
-droppedOf r now rule = countAt (λ i s. takenOf now (timerAt (r .t3206) (r .t3208) i) rule i s) 0 (r .slots)
+droppedOf r now rule = countAt (λ i s. takenOf now (timerAt r i) rule i s) 0 (r .slots)
 
 -- ## What an entry is, on channel ch
 
 abbrev pub isCiphered : Record → Bool
 isCiphered e = pick (e .full) (ciphered (e .call)) true
 
--- Segment Id as it must be on the NCH; the FACCH has none
+-- Segment Id as it must be where the channel has it
 abbrev pub segmentIs : ℕ → Bool → Record → Bool
-segmentIs ch b e = pick (eqb ch 0) (both (e .segmented) (pick b (e .segment) (not (e .segment)))) true
+segmentIs ch b e = pick (asks ch) (both (e .segmented) (pick b (e .segment) (not (e .segment)))) true
 
 abbrev pub isClear : Record → Bool
 isClear e = both (not (isCiphered e)) (e .call .described)
@@ -207,41 +228,51 @@ meetHalf half s e joined unheld =
     pick (eqb (s .half) 0) unheld
     (pick (eqb (s .half) half) (only 5 s) (pick (agree (s .«record») e) (complete 3 joined emptySlot) (only 7 s)))
 
--- a second half that meets nothing is stored on the NCH, and told 8 on the FACCH
+-- a second half that meets nothing is stored where it may come first, and told 8 elsewhere
 unfoldable pub meetOf : ℕ → ℕ → Slot → Record → Met
 meetOf ch now s e =
     pick (eqb (classOf ch e) 1) (complete 1 e s)
     (pick (eqb (classOf ch e) 2) (complete 2 e s)
     (pick (eqb (classOf ch e) 3) (meetHalf 1 s e (joinedOf e (s .«record»)) (only 4 (storing 1 now e)))
-    (pick (eqb (classOf ch e) 4) (meetHalf 2 s e (joinedOf (s .«record») e) (pick (eqb ch 0) (only 4 (storing 2 now e)) (only 8 s))) (only (classOf ch e) s))))
+    (pick (eqb (classOf ch e) 4) (meetHalf 2 s e (joinedOf (s .«record») e) (pick (leads ch) (only 4 (storing 2 now e)) (only 8 s))) (only (classOf ch e) s))))
 
 -- ## Setup
 
-abbrev pub newReceiver : ℕ → ℕ → ℕ → List ℕ → Receiver
-newReceiver tick t3206 t3208 keys = record { slots = replicate 100 emptySlot; keys = keys; tick = tick; t3206 = t3206; t3208 = t3208; nln = 4 }
+abbrev pub newReceiver : Setup → List ℕ → Receiver
+newReceiver s keys = record { slots = replicate places emptySlot; keys = keys; tick = s .tick; t3206 = s .t3206; t3208 = s .t3208; cell = noCell }
 
--- the fifty key places: the keys as they were lent, then unused ones
+-- the receiver with other places, at another tick, with what is known of another cell
+abbrev pub remade : Receiver → List Slot → ℕ → Cell → Receiver
+remade r l now cell = record { slots = l; keys = r .keys; tick = now; t3206 = r .t3206; t3208 = r .t3208; cell = cell }
+
+-- the key places: the keys as they were lent, then unused ones
 abbrev pub keyPlaces : ℕ → List ℕ → List ℕ
 keyPlaces zero l = []
 keyPlaces (suc n) [] = noKey ∷ keyPlaces n []
 keyPlaces (suc n) (k ∷ ks) = k ∷ keyPlaces n ks
 
-abbrev pub isTimer : ℕ → Bool
-isTimer t = both (leb 1 t) (leb t 60000)
+abbrev pub longestTimer : ℕ
+longestTimer = 60000
 
--- each is at most 199,999,999 and none comes again
+abbrev pub isTimer : ℕ → Bool
+isTimer t = both (leb 1 t) (leb t longestTimer)
+
+-- none is above the highest, and none comes again
 unfoldable pub keysRight : List ℕ → Bool
 keysRight [] = true
-keysRight (k ∷ ks) = both (leb k 199999999) (both (eqb (indexOf ks k) (length ks)) (keysRight ks))
+keysRight (k ∷ ks) = both (leb k lastKey) (both (eqb (indexOf ks k) (length ks)) (keysRight ks))
 
 unfoldable pub setupRight : Setup → List ℕ → Bool
-setupRight s keys = both (leb (length keys) 50) (both (isTimer (s .t3206)) (both (isTimer (s .t3208)) (keysRight keys)))
+setupRight s keys = both (leb (length keys) keyCount) (both (isTimer (s .t3206)) (both (isTimer (s .t3208)) (keysRight keys)))
+
+abbrev pub noSetup : Setup
+noSetup = record { tick = 0; t3206 = 0; t3208 = 0 }
 
 -- a refused setup is its number alone
 unfoldable pub startedOf : Setup → List ℕ → Started
 startedOf s keys =
-    pick (setupRight s keys) (record { refusal = noRefusal; receiver = newReceiver (s .tick) (s .t3206) (s .t3208) (keyPlaces 50 keys) })
-    (record { refusal = ground 10; receiver = newReceiver 0 0 0 (replicate 50 noKey) })
+    pick (setupRight s keys) (record { refusal = noRefusal; receiver = newReceiver s (keyPlaces keyCount keys) })
+    (record { refusal = ground 10; receiver = newReceiver noSetup (replicate keyCount noKey) })
 
 -- the ready defaults
 abbrev pub readySetup : ℕ → Setup

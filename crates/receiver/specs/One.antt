@@ -1,21 +1,64 @@
--- The receiver of one call on one channel, and what it sees of the events. Written apart from the receiver: only the record of an entry, its key,
--- the comparison of references and the joined record are shared with it. Assumes nothing.
+-- The receiver of one call on one channel, and what it sees of the events. It is written apart from the receiver, with tables of its own for what tells the
+-- channels apart and for what each event shows, discards and forgets. What both share, and no more: the types Record, Channel, Move, Event, Happening and Cause; a message
+-- as it is read, and its entries (readOf, nchEntries, facchEntries, noRecord); an entry's key (keyOf), whether it is ciphered (isCiphered), the comparison of references
+-- (agree) and the joined record (joinedOf); and what beside the clock refuses an event (groundsOf). Assumes nothing.
 use mathlib.Core.List.{List, [], _∷_, _++_}
 use mathlib.Core.Bool.{Bool, true, false, not}
 use mathlib.Core.Option.{Option, none, some}
-use Prim.Native.Nat.{ℕ, _+_, _-_, _*_, _%_, _^_}
-use lib.Dec.{leb, ltb, eqb}
+use Prim.Native.Nat.{ℕ, _+_, _-_, _%_, _^_}
+use lib.Dec.{ltb, eqb}
 use Rattle.bits.specs.Field.{both, pick}
 use Rattle.csn1.specs.Told.{there}
 use Rattle.nch.specs.Told.{readOf}
 use Rattle.facch.specs.Told.{readOf as readFacch}
 use Rattle.receiver.specs.declared.Record.{Record}
 use Rattle.receiver.specs.Model.{noRecord, keyOf, isCiphered, agree, joinedOf}
-use Rattle.receiver.specs.Entries.{nchEntries, facchEntry}
-use Rattle.receiver.specs.Step.{Event, nch, facch, joined, reselected, handedOver, reconfigured, tick, tickOf, groundsOf}
+use Rattle.receiver.specs.declared.Move.{Move}
+use Rattle.receiver.specs.declared.Move.the-variants.{Reselection, Handover, Reconfiguration}
+use Rattle.receiver.specs.Channels.{Channel, onNch, onFacch}
+use Rattle.receiver.specs.Entries.{nchEntries, facchEntries}
+use Rattle.receiver.specs.Step.{Event, Happening, heardNch, heardFacch, joins, moves, passes, Cause, nothing, joining, moving, numbered, groundsOf}
 
-pub data Channel : Type 0 where
-  onNch onFacch : Channel
+-- ## What tells the channels apart
+
+-- halves are told apart by Segment Id too
+abbrev pub hasSegments : Channel → Bool
+hasSegments onNch = true
+hasSegments onFacch = false
+
+-- a second half may come first
+abbrev pub mayLead : Channel → Bool
+mayLead onNch = true
+mayLead onFacch = false
+
+-- an NLN is shown
+abbrev pub showsNln : Channel → Bool
+showsNln onNch = true
+showsNln onFacch = false
+
+-- a message on the second is heard on the first
+abbrev pub hears : Channel → Channel → Bool
+hears onNch onNch = true
+hears onNch onFacch = false
+hears onFacch onNch = false
+hears onFacch onFacch = true
+
+-- ## What a move of the mobile does
+
+-- it discards the channel's halves
+abbrev pub goneBy : Channel → Move → Bool
+goneBy onNch Reselection = true
+goneBy onNch Handover = false
+goneBy onNch Reconfiguration = false
+goneBy onFacch Reselection = false
+goneBy onFacch Handover = true
+goneBy onFacch Reconfiguration = true
+
+-- it makes the NLN unknown
+abbrev pub forgottenBy : Move → Bool
+forgottenBy Reselection = false
+forgottenBy Handover = false
+forgottenBy Reconfiguration = false
 
 -- ## What an entry is (document 01, "What each notified call is told")
 
@@ -23,36 +66,37 @@ pub data Kind : Type 0 where
   clear piece first second bare unusable : Kind
 
 -- ciphered, described, Segment Id if there, VSTK_RAND there, a call and no reduced reference
-abbrev pub nchKind : Bool → Bool → Option Bool → Bool → Bool → Kind
-nchKind false true s g c = clear
-nchKind true true (some false) true c = piece
-nchKind true true (some false) false c = first
-nchKind true true (some true) g c = unusable
-nchKind true true none g c = unusable
-nchKind true false (some true) true c = second
-nchKind true false (some true) false true = bare
-nchKind true false (some true) false false = unusable
-nchKind true false (some false) g true = bare
-nchKind true false (some false) g false = unusable
-nchKind true false none g true = bare
-nchKind true false none g false = unusable
-nchKind false false s g true = bare
-nchKind false false s g false = unusable
+abbrev pub withSegments : Bool → Bool → Option Bool → Bool → Bool → Kind
+withSegments false true s g c = clear
+withSegments true true (some false) true c = piece
+withSegments true true (some false) false c = first
+withSegments true true (some true) g c = unusable
+withSegments true true none g c = unusable
+withSegments true false (some true) true c = second
+withSegments true false (some true) false true = bare
+withSegments true false (some true) false false = unusable
+withSegments true false (some false) g true = bare
+withSegments true false (some false) g false = unusable
+withSegments true false none g true = bare
+withSegments true false none g false = unusable
+withSegments false false s g true = bare
+withSegments false false s g false = unusable
 
 -- the same without Segment Id
-abbrev pub facchKind : Bool → Bool → Bool → Bool → Kind
-facchKind false true g c = clear
-facchKind true true true c = piece
-facchKind true true false c = first
-facchKind true false true c = second
-facchKind true false false true = bare
-facchKind true false false false = unusable
-facchKind false false g true = bare
-facchKind false false g false = unusable
+abbrev pub withoutSegments : Bool → Bool → Bool → Bool → Kind
+withoutSegments false true g c = clear
+withoutSegments true true true c = piece
+withoutSegments true true false c = first
+withoutSegments true false true c = second
+withoutSegments true false false true = bare
+withoutSegments true false false false = unusable
+withoutSegments false false g true = bare
+withoutSegments false false g false = unusable
 
 unfoldable pub kindOf : Channel → Record → Kind
-kindOf onNch e = nchKind (isCiphered e) (e .call .described) (there (e .segmented) (e .segment)) (e .given) (e .full)
-kindOf onFacch e = facchKind (isCiphered e) (e .call .described) (e .given) (e .full)
+kindOf c e =
+    pick (hasSegments c) (withSegments (isCiphered e) (e .call .described) (there (e .segmented) (e .segment)) (e .given) (e .full))
+    (withoutSegments (isCiphered e) (e .call .described) (e .given) (e .full))
 
 -- ## The half that is held
 
@@ -65,12 +109,16 @@ pub record Half : Type 0 where
   pub age : ℕ
   pub entry : Record
 
-pub record One : Type 0 where
-  pub held : Option Half
+-- what is known of the cell: the last NLN seen
+pub record Known : Type 0 where
   pub nln : Option ℕ
 
+pub record One : Type 0 where
+  pub held : Option Half
+  pub cell : Known
+
 abbrev pub holding : One → Option Half → One
-holding s h = record { held = h; nln = s .nln }
+holding s h = record { held = h; cell = s .cell }
 
 -- ## What it is told
 
@@ -104,10 +152,9 @@ meetFirst (some h) e = byHalf (h .which)
     byHalf theFirst = says 5 (some h)
     byHalf theSecond = met (agree (h .entry) e) (joinedOf e (h .entry)) h
 
--- on the NCH a second half may come first; on the FACCH it is told 8
+-- where a second half may not come first, it is told 8
 abbrev pub meetSecond : Channel → Option Half → Record → Heard
-meetSecond onNch none e = says 4 (stored theSecond e)
-meetSecond onFacch none e = says 8 none
+meetSecond c none e = pick (mayLead c) (says 4 (stored theSecond e)) (says 8 none)
 meetSecond c (some h) e = byHalf (h .which)
   where
     byHalf : Which → Heard
@@ -127,12 +174,10 @@ meetOne c h e = meetKind c (kindOf c e) h e
 
 -- ## What it sees
 
--- what an accepted event is to the call: nothing, a join of a key, a change of cell or channel, or a message on its channel with its own entries
-pub data Sight : Type 0 where
-  nothing : Sight
-  joins : ℕ → Sight
-  leavesCell handsOver reconfigures : Sight
-  message : Option ℕ → List Record → Sight
+-- what an accepted event is to the call: what may discard its half, and the entries of its own on its channel
+pub record Sight : Type 0 where
+  pub cause : Cause
+  pub entries : List Record
 
 pub record Seen : Type 0 where
   -- milliseconds since the last accepted event
@@ -144,16 +189,26 @@ unfoldable pub mine : ℕ → List Record → List Record
 mine key [] = []
 mine key (e ∷ es) = pick (eqb (keyOf (e .call)) key) (e ∷ mine key es) (mine key es)
 
-unfoldable pub sightOf : ℕ → Channel → Event → Sight
-sightOf key onNch (nch t s) = message (there (readOf s .«record» .numbered) (readOf s .«record» .nln)) (mine key (nchEntries (readOf s .«record»)))
-sightOf key onFacch (nch t s) = nothing
-sightOf key onNch (facch t s) = nothing
-sightOf key onFacch (facch t s) = message none (mine key (facchEntry (readFacch s .«record») ∷ []))
-sightOf key c (joined t k) = joins k
-sightOf key c (reselected t) = leavesCell
-sightOf key c (handedOver t) = handsOver
-sightOf key c (reconfigured t) = reconfigures
-sightOf key c (tick t) = nothing
+-- a message's NLN; w: the channel shows it, b: the message has one
+abbrev pub nlnSeen : Bool → Bool → ℕ → Cause
+nlnSeen true true n = numbered n
+nlnSeen true false n = nothing
+nlnSeen false b n = nothing
+
+-- the call's own among the entries of a message on a channel
+abbrev pub entriesSeen : ℕ → Channel → Channel → List Record → List Record
+entriesSeen key c d es = pick (hears c d) (mine key es) []
+
+unfoldable pub sightOf : ℕ → Channel → Happening → Sight
+sightOf key c (heardNch s) =
+    record {
+      cause = nlnSeen (showsNln c) (readOf s .«record» .numbered) (readOf s .«record» .nln);
+      entries = entriesSeen key c onNch (nchEntries (readOf s .«record»));
+    }
+sightOf key c (heardFacch s) = record { cause = nothing; entries = entriesSeen key c onFacch (facchEntries (readFacch s .«record»)) }
+sightOf key c (joins k) = record { cause = joining k; entries = [] }
+sightOf key c (moves m) = record { cause = moving m; entries = [] }
+sightOf key c passes = record { cause = nothing; entries = [] }
 
 -- the step from one tick to another on a 32-bit counter that wraps
 abbrev pub stepBetween : ℕ → ℕ → ℕ
@@ -161,13 +216,13 @@ stepBetween last now = (now + 2 ^ 32 - last) % 2 ^ 32
 
 -- an event is accepted where its step is below 2^31 and nothing else refuses it
 unfoldable pub accepts : ℕ → Event → Bool
-accepts last e = both (ltb (stepBetween last (tickOf e)) (2 ^ 31)) (eqb (groundsOf e .number) 0)
+accepts last e = both (ltb (stepBetween last (e .tick)) (2 ^ 31)) (eqb (groundsOf (e .happening) .number) 0)
 
 -- what a call sees of the events from a tick on: refused ones are not seen, and do not move the clock
 unfoldable pub seen : ℕ → Channel → ℕ → List Event → List Seen
 seen key c last [] = []
 seen key c last (e ∷ es) =
-    pick (accepts last e) (record { step = stepBetween last (tickOf e); sight = sightOf key c e } ∷ seen key c (tickOf e) es) (seen key c last es)
+    pick (accepts last e) (record { step = stepBetween last (e .tick); sight = sightOf key c (e .happening) } ∷ seen key c (e .tick) es) (seen key c last es)
 
 -- ## What it does
 
@@ -180,14 +235,15 @@ aged timer d none = none
 aged timer d (some h) = older timer d h
 
 -- another NLN than the last one seen
-abbrev pub changed : Option ℕ → Option ℕ → Bool
+abbrev pub changed : Option ℕ → ℕ → Bool
 changed none n = false
-changed (some l) none = false
-changed (some l) (some n) = not (eqb l n)
+changed (some l) n = not (eqb l n)
 
-abbrev pub latest : Option ℕ → Option ℕ → Option ℕ
-latest l none = l
-latest l (some n) = some n
+abbrev pub knownAfter : Known → Cause → Known
+knownAfter l nothing = l
+knownAfter l (joining k) = l
+knownAfter l (moving m) = record { nln = pick (forgottenBy m) none (l .nln) }
+knownAfter l (numbered n) = record { nln = some n }
 
 -- its entries in order
 unfoldable pub heldAfter : Channel → Option Half → List Record → Option Half
@@ -198,33 +254,15 @@ unfoldable pub saidOf : Channel → Option Half → List Record → List Said
 saidOf c h [] = []
 saidOf c h (e ∷ es) = meetOne c h e .said ∷ saidOf c (meetOne c h e .held) es
 
--- what is left of the half before a message's own entries, and for the other events after all
+-- what is left of the half before the entries
+abbrev pub sparedBy : ℕ → Channel → Known → Cause → Option Half → Option Half
+sparedBy key c l nothing h = h
+sparedBy key c l (joining k) h = pick (eqb k key) h none
+sparedBy key c l (moving m) h = pick (goneBy c m) none h
+sparedBy key c l (numbered n) h = pick (changed (l .nln) n) none h
+
 abbrev pub spared : ℕ → Channel → One → Sight → Option Half
-spared key c s nothing = s .held
-spared key c s (joins k) = pick (eqb k key) (s .held) none
-spared key onNch s leavesCell = none
-spared key onFacch s leavesCell = s .held
-spared key onNch s handsOver = s .held
-spared key onFacch s handsOver = none
-spared key onNch s reconfigures = s .held
-spared key onFacch s reconfigures = none
-spared key c s (message n es) = pick (changed (s .nln) n) none (s .held)
-
-abbrev pub entriesIn : Sight → List Record
-entriesIn nothing = []
-entriesIn (joins k) = []
-entriesIn leavesCell = []
-entriesIn handsOver = []
-entriesIn reconfigures = []
-entriesIn (message n es) = es
-
-abbrev pub nlnIn : One → Sight → Option ℕ
-nlnIn s nothing = s .nln
-nlnIn s (joins k) = s .nln
-nlnIn s leavesCell = s .nln
-nlnIn s handsOver = s .nln
-nlnIn s reconfigures = s .nln
-nlnIn s (message n es) = latest (s .nln) n
+spared key c s v = sparedBy key c (s .cell) (v .cause) (s .held)
 
 abbrev pub passed : ℕ → One → ℕ → One
 passed timer s d = holding s (aged timer d (s .held))
@@ -232,12 +270,12 @@ passed timer s d = holding s (aged timer d (s .held))
 unfoldable pub stepOne : ℕ → Channel → ℕ → One → Seen → One
 stepOne key c timer s v =
     record {
-      held = heldAfter c (spared key c (passed timer s (v .step)) (v .sight)) (entriesIn (v .sight));
-      nln = nlnIn s (v .sight);
+      held = heldAfter c (spared key c (passed timer s (v .step)) (v .sight)) (v .sight .entries);
+      cell = knownAfter (s .cell) (v .sight .cause);
     }
 
 unfoldable pub stepSaid : ℕ → Channel → ℕ → One → Seen → List Said
-stepSaid key c timer s v = saidOf c (spared key c (passed timer s (v .step)) (v .sight)) (entriesIn (v .sight))
+stepSaid key c timer s v = saidOf c (spared key c (passed timer s (v .step)) (v .sight)) (v .sight .entries)
 
 unfoldable pub runOne : ℕ → Channel → ℕ → One → List Seen → List Said
 runOne key c timer s [] = []
@@ -245,4 +283,4 @@ runOne key c timer s (v ∷ vs) = stepSaid key c timer s v ++ runOne key c timer
 
 -- at the start nothing is held and no NLN is known
 abbrev pub fresh : One
-fresh = record { held = none; nln = none }
+fresh = record { held = none; cell = record { nln = none } }

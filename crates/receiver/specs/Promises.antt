@@ -1,9 +1,10 @@
--- What is promised of the receiver (demand 3, and the identity of refused events). Assumes nothing.
+-- What is promised of the receiver (demand 3, and the identity of refused events). The paper's figures are written out here, not by the receiver's names for them.
+-- Assumes nothing.
 use mathlib.Core.Path.{_≡_}
 use mathlib.Core.List.{List, [], _∷_, _++_}
 use mathlib.Core.Bool.{true, not}
 use mathlib.Core.Option.{Option, none, some}
-use Prim.Native.Nat.{ℕ, zero, suc, _+_, _*_, _<_, _≤_}
+use Prim.Native.Nat.{ℕ, zero, suc, _+_, _<_, _≤_}
 use lib.ListN.{length, take, getD}
 use lib.Dec.{eqb}
 use Rattle.bits.specs.Field.{both, pick}
@@ -16,10 +17,10 @@ use Rattle.receiver.specs.declared.Slot.{Slot}
 use Rattle.receiver.specs.declared.Told.{Told}
 use Rattle.receiver.specs.declared.Answer.{Answer}
 use Rattle.receiver.specs.declared.Setup.{Setup}
-use Rattle.receiver.specs.declared.Rule.the-variants.{Keep}
-use Rattle.receiver.specs.Model.{noRecord, emptySlot, wrapSub, indexOf, isHeld, sweptSlots, agree, joinedOf, startedOf}
-use Rattle.receiver.specs.Step.{Event, nch, facch, joined, reselected, handedOver, reconfigured, tick, tickOf, refusalOf, ruleOf, stepOf}
-use Rattle.receiver.specs.One.{Channel, onNch, onFacch, kindOf, Which, theFirst, theSecond, Half, One, Said, Seen, seen, heldAfter, spared, entriesIn, passed, stepOne, stepSaid, runOne, fresh}
+use Rattle.receiver.specs.Channels.{placeOn, Channel, numberOf, byChannel, same}
+use Rattle.receiver.specs.Model.{noRecord, emptySlot, wrapSub, indexOf, isHeld, sweptSlots, agree, joinedOf, keep, startedOf}
+use Rattle.receiver.specs.Step.{Event, Happening, heardNch, heardFacch, joins, moves, passes, contentOf, refusalOf, ruleOf, stepOf}
+use Rattle.receiver.specs.One.{kindOf, Which, theFirst, theSecond, Half, One, Said, Seen, seen, heldAfter, spared, passed, stepOne, stepSaid, runOne, fresh}
 use Rattle.receiver.specs.History.{Moment, untilEntry, pastOf, Opposite, Came-and-stayed}
 
 -- ## 1. Isolation
@@ -31,15 +32,7 @@ under key (t ∷ ts) = pick (eqb (t .key) key) (record { number = t .number; tol
 
 -- an event's answers are on the channel of its message
 unfoldable pub answersOn : ℕ → Channel → Event → Answer → List Said
-answersOn key onNch (nch t s) a = under key (take (a .count) (a .entries))
-answersOn key onFacch (facch t s) a = under key (take (a .count) (a .entries))
-answersOn key onFacch (nch t s) a = []
-answersOn key onNch (facch t s) a = []
-answersOn key c (joined t k) a = []
-answersOn key c (reselected t) a = []
-answersOn key c (handedOver t) a = []
-answersOn key c (reconfigured t) a = []
-answersOn key c (tick t) a = []
+answersOn key c e a = pick (same c (contentOf (e .happening) .channel)) (under key (take (a .count) (a .entries))) []
 
 unfoldable pub answers : ℕ → Channel → Receiver → List Event → List Said
 answers key c r [] = []
@@ -47,13 +40,12 @@ answers key c r (e ∷ es) = answersOn key c e (stepOf r e) ++ answers key c (st
 
 -- T3206 runs on the NCH, T3208 on the FACCH
 abbrev pub timerOf : Channel → Setup → ℕ
-timerOf onNch s = s .t3206
-timerOf onFacch s = s .t3208
+timerOf c s = byChannel c (s .t3206) (s .t3208)
 
 -- every tick is a number of 32 bits
 abbrev pub Ticks : List Event → Type 0
 Ticks [] = Unit {0}
-Ticks (e ∷ es) = (tickOf e < 4294967296) × Ticks es
+Ticks (e ∷ es) = (e .tick < 4294967296) × Ticks es
 
 -- For every accepted setup, every list of events, every subscribed key and both channels: the answers under that key on that channel are
 -- exactly those of the one-call receiver run on what that call sees.
@@ -88,10 +80,10 @@ joinedWith h e = byHalf (h .which)
 
 -- what is held when the k-th entry of a sight comes
 abbrev pub heldBefore : ℕ → Channel → ℕ → One → Seen → ℕ → Option Half
-heldBefore key c timer s v k = heldAfter c (spared key c (passed timer s (v .step)) (v .sight)) (take k (entriesIn (v .sight)))
+heldBefore key c timer s v k = heldAfter c (spared key c (passed timer s (v .step)) (v .sight)) (take k (v .sight .entries))
 
 abbrev pub entryAt : Seen → ℕ → Record
-entryAt v k = getD (entriesIn (v .sight)) k noRecord
+entryAt v k = getD (v .sight .entries) k noRecord
 
 -- what the k-th entry is told
 abbrev pub saidAt : ℕ → Channel → ℕ → One → Seen → ℕ → Said
@@ -103,7 +95,7 @@ Joins-exactly-when =
     (key : ℕ) (c : Channel) (timer : ℕ)
     → 1 ≤ timer
     → (s : One) (v : Seen) (k : ℕ)
-    → k < length (entriesIn (v .sight))
+    → k < length (v .sight .entries)
     → (saidAt key c timer s v k .number ≡ 3 → Opposite-held c timer (heldBefore key c timer s v k) (entryAt v k))
     × ((o : Opposite-held c timer (heldBefore key c timer s v k) (entryAt v k))
     → (saidAt key c timer s v k ≡ record { number = 3; told = joinedWith (o .half) (entryAt v k) }) × (heldBefore key c timer s v (suc k) ≡ none))
@@ -135,7 +127,7 @@ Joins-exactly-when-over-history =
     (key : ℕ) (c : Channel) (timer : ℕ)
     → 1 ≤ timer
     → (vs : List Seen) (v : Seen) (k : ℕ)
-    → k < length (entriesIn (v .sight))
+    → k < length (v .sight .entries)
     → (saidAt key c timer (oneAfter key c timer fresh vs) v k .number ≡ 3
     → Opposite-came key c timer (untilEntry (pastOf [] vs) v k) (entryAt v k))
     × ((o : Opposite-came key c timer (untilEntry (pastOf [] vs) v k) (entryAt v k))
@@ -147,21 +139,19 @@ abbrev pub A-refused-event-changes-nothing : Type 0
 A-refused-event-changes-nothing = (r : Receiver) (e : Event) → (stepOf r e .refusal .number ≡ 0 → ⊥) → stepOf r e .receiver ≡ r
 
 -- the number that an event in time carries: its message's own, 4 exactly where a joined key is above 199,999,999, none otherwise
-abbrev pub On-ground : Event → ℕ → Type 0
-On-ground (nch t s) n = n ≡ readOf s .refusal .number
-On-ground (facch t s) n = n ≡ readFacch s .refusal .number
-On-ground (joined t k) n = (k ≤ 199999999 → n ≡ 0) × (199999999 < k → n ≡ 4)
-On-ground (reselected t) n = n ≡ 0
-On-ground (handedOver t) n = n ≡ 0
-On-ground (reconfigured t) n = n ≡ 0
-On-ground (tick t) n = n ≡ 0
+abbrev pub On-ground : Happening → ℕ → Type 0
+On-ground (heardNch s) n = n ≡ readOf s .refusal .number
+On-ground (heardFacch s) n = n ≡ readFacch s .refusal .number
+On-ground (joins k) n = (k ≤ 199999999 → n ≡ 0) × (199999999 < k → n ≡ 4)
+On-ground (moves m) n = n ≡ 0
+On-ground passes n = n ≡ 0
 
 -- a step of 2^31 or more is 9 whatever else is wrong; else the number is on the event's own ground; and it is the one that `refusalOf` names
 abbrev pub The-number-is-on-its-ground : Type 0
 The-number-is-on-its-ground =
     (r : Receiver) (e : Event)
-    → (2147483648 ≤ wrapSub (tickOf e) (r .tick) → stepOf r e .refusal .number ≡ 9)
-    × (wrapSub (tickOf e) (r .tick) < 2147483648 → On-ground e (stepOf r e .refusal .number))
+    → (2147483648 ≤ wrapSub (e .tick) (r .tick) → stepOf r e .refusal .number ≡ 9)
+    × (wrapSub (e .tick) (r .tick) < 2147483648 → On-ground (e .happening) (stepOf r e .refusal .number))
     × (stepOf r e .refusal ≡ refusalOf r e)
 
 -- ## 4. Time that has passed
@@ -170,10 +160,6 @@ The-number-is-on-its-ground =
 unfoldable pub after : Receiver → List Event → Receiver
 after r [] = r
 after r (e ∷ es) = after (stepOf r e .receiver) es
-
-abbrev pub numberOf : Channel → ℕ
-numberOf onNch = 0
-numberOf onFacch = 1
 
 abbrev pub halfOf : ℕ → ℕ → Record → Option Half
 halfOf zero age e = none
@@ -185,7 +171,7 @@ abbrev pub heldOf : ℕ → Slot → Option Half
 heldOf now s = halfOf (s .half) (wrapSub now (s .since)) (s .«record»)
 
 abbrev pub slotIn : ℕ → Channel → Receiver → Slot
-slotIn key c r = getD (r .slots) (2 * indexOf (r .keys) key + numberOf c) emptySlot
+slotIn key c r = getD (r .slots) (placeOn (indexOf (r .keys) key) (numberOf c)) emptySlot
 
 -- After any events the place of a call holds what its own receiver holds, and the wrapped difference of the ticks is the sum of the accepted steps.
 abbrev pub The-wrapped-difference-is-the-sum : Type 0
@@ -213,12 +199,12 @@ abbrev pub Every-lost-half-is-counted-once : Type 0
 Every-lost-half-is-counted-once =
     (r : Receiver) (e : Event)
     → stepOf r e .refusal .number ≡ 0
-    → stepOf r e .expired + stepOf r e .dropped ≡ lostBetween (r .slots) (sweptSlots r (tickOf e) (ruleOf r e))
+    → stepOf r e .expired + stepOf r e .dropped ≡ lostBetween (r .slots) (sweptSlots r (e .tick) (ruleOf r e))
 
 -- an expiry is a half held before the event and not after its clock alone; a drop is one held after that and not after the event's own rule
 abbrev pub Expiries-and-drops-are-counted-apart : Type 0
 Expiries-and-drops-are-counted-apart =
     (r : Receiver) (e : Event)
     → stepOf r e .refusal .number ≡ 0
-    → (stepOf r e .expired ≡ lostBetween (r .slots) (sweptSlots r (tickOf e) Keep))
-    × (stepOf r e .dropped ≡ lostBetween (sweptSlots r (tickOf e) Keep) (sweptSlots r (tickOf e) (ruleOf r e)))
+    → (stepOf r e .expired ≡ lostBetween (r .slots) (sweptSlots r (e .tick) keep))
+    × (stepOf r e .dropped ≡ lostBetween (sweptSlots r (e .tick) keep) (sweptSlots r (e .tick) (ruleOf r e)))

@@ -1,14 +1,13 @@
 -- One event: refused with its number, or expiry, the event's own drops, then its entries in order. Assumes nothing.
 use mathlib.Core.List.{List, [], _∷_}
 use mathlib.Core.Bool.{Bool, true, false, not}
-use Prim.Native.Nat.{ℕ, zero, suc, _+_, _*_}
-use lib.ListN.{length, getD, set, replicate}
+use Prim.Native.Nat.{ℕ}
+use lib.ListN.{length, getD, set}
 use lib.Dec.{leb, ltb, eqb}
 use Rattle.bits.specs.Field.{both, pick}
 use Rattle.csn1.specs.declared.Refusal.{Refusal}
 use Rattle.csn1.specs.Format.{noRefusal, ground}
 use Rattle.csn1.specs.Told.{padded}
-use Rattle.nch.specs.declared.Notification.{Notification}
 use Rattle.nch.specs.Told.{readOf}
 use Rattle.facch.specs.Told.{readOf as readFacch}
 use Rattle.receiver.specs.declared.Record.{Record}
@@ -17,18 +16,31 @@ use Rattle.receiver.specs.declared.Receiver.{Receiver}
 use Rattle.receiver.specs.declared.Told.{Told}
 use Rattle.receiver.specs.declared.Answer.{Answer}
 use Rattle.receiver.specs.declared.Rule.{Rule}
-use Rattle.receiver.specs.declared.Rule.the-variants.{Keep, Others, Side}
+use Rattle.receiver.specs.declared.Cell.{Cell}
+use Rattle.receiver.specs.declared.Move.{Move}
+use Rattle.receiver.specs.declared.Move.the-variants.{Reselection, Handover, Reconfiguration}
+use Rattle.receiver.specs.Channels.{keyCount, placeOn, Channel, onNch, onFacch, numberOf, hasNln, drops, forgets}
 use Rattle.receiver.specs.declared.Met.{Met}
-use Rattle.receiver.specs.Model.{noRecord, emptySlot, late, keyOf, indexOf, sweptSlots, expiredOf, droppedOf, meetOf}
-use Rattle.receiver.specs.Entries.{nchEntries, facchEntry}
+use Rattle.receiver.specs.declared.messages.Entries.{Entries}
+use Rattle.receiver.specs.Model.{noRecord, emptySlot, noNln, lastKey, late, keyOf, indexOf, ruleFor, sweptSlots, expiredOf, droppedOf, meetOf, remade}
+use Rattle.receiver.specs.Entries.{nchEntries, facchEntries}
 
--- ## The entries of a message, in order, against the places as the earlier ones left them
+-- ## The entries of a message
+
+-- an answer has a place for each of so many
+abbrev pub mostEntries : ℕ
+mostEntries = 9
+
+abbrev pub entriesIn : List Record → Entries
+entriesIn es = record { items = padded noRecord mostEntries es; count = length es }
+
+-- ## What they meet: in order, against the places as the earlier ones left them
 
 abbrev pub placeOf : List ℕ → ℕ → Record → ℕ
-placeOf keys ch e = 2 * indexOf keys (keyOf (e .call)) + ch
+placeOf keys ch e = placeOn (indexOf keys (keyOf (e .call))) ch
 
 abbrev pub ours : List ℕ → Record → Bool
-ours keys e = ltb (indexOf keys (keyOf (e .call))) 50
+ours keys e = ltb (indexOf keys (keyOf (e .call))) keyCount
 
 abbrev pub metAt : List ℕ → ℕ → ℕ → List Slot → Record → Met
 metAt keys ch now slots e = meetOf ch now (getD slots (placeOf keys ch e) emptySlot) e
@@ -55,105 +67,138 @@ noTold = record { key = 0; number = 0; «record» = noRecord }
 
 -- ## Events
 
-pub data Event : Type 0 where
-  nch : ℕ → List ℕ → Event
-  facch : ℕ → List ℕ → Event
-  joined : ℕ → ℕ → Event
-  reselected : ℕ → Event
-  handedOver : ℕ → Event
-  reconfigured : ℕ → Event
-  tick : ℕ → Event
+pub data Happening : Type 0 where
+  -- the octets of a message
+  heardNch heardFacch : List ℕ → Happening
+  -- the call of a key is joined
+  joins : ℕ → Happening
+  moves : Move → Happening
+  passes : Happening
 
-abbrev pub tickOf : Event → ℕ
-tickOf (nch t s) = t
-tickOf (facch t s) = t
-tickOf (joined t k) = t
-tickOf (reselected t) = t
-tickOf (handedOver t) = t
-tickOf (reconfigured t) = t
-tickOf (tick t) = t
+pub record Event : Type 0 where
+  pub tick : ℕ
+  pub happening : Happening
 
--- why an event is refused, the clock aside
-abbrev pub groundsOf : Event → Refusal
-groundsOf (nch t s) = readOf s .refusal
-groundsOf (facch t s) = readFacch s .refusal
-groundsOf (joined t k) = pick (leb k 199999999) noRefusal (ground 4)
-groundsOf (reselected t) = noRefusal
-groundsOf (handedOver t) = noRefusal
-groundsOf (reconfigured t) = noRefusal
-groundsOf (tick t) = noRefusal
+abbrev pub nch : ℕ → List ℕ → Event
+nch t s = record { tick = t; happening = heardNch s }
+
+abbrev pub facch : ℕ → List ℕ → Event
+facch t s = record { tick = t; happening = heardFacch s }
+
+abbrev pub joined : ℕ → ℕ → Event
+joined t k = record { tick = t; happening = joins k }
+
+abbrev pub moved : ℕ → Move → Event
+moved t m = record { tick = t; happening = moves m }
+
+abbrev pub reselected : ℕ → Event
+reselected t = moved t Reselection
+
+abbrev pub handedOver : ℕ → Event
+handedOver t = moved t Handover
+
+abbrev pub reconfigured : ℕ → Event
+reconfigured t = moved t Reconfiguration
+
+abbrev pub tick : ℕ → Event
+tick t = record { tick = t; happening = passes }
+
+-- ## What an event is refused for
+
+-- the clock aside
+abbrev pub groundsOf : Happening → Refusal
+groundsOf (heardNch s) = readOf s .refusal
+groundsOf (heardFacch s) = readFacch s .refusal
+groundsOf (joins k) = pick (leb k lastKey) noRefusal (ground 4)
+groundsOf (moves m) = noRefusal
+groundsOf passes = noRefusal
 
 -- 9 goes before the rest
 unfoldable pub refusalOf : Receiver → Event → Refusal
-refusalOf r e = pick (late (tickOf e) (r .tick)) (ground 9) (groundsOf e)
+refusalOf r e = pick (late (e .tick) (r .tick)) (ground 9) (groundsOf (e .happening))
 
--- the NLN of a message is a change where one was seen before and it is another
-abbrev pub nlnChanges : ℕ → Notification → Bool
-nlnChanges last m = both (m .numbered) (both (not (eqb last 4)) (not (eqb last (m .nln))))
+-- ## What is in an event: what may discard halves, then entries on a channel
 
-abbrev pub nlnAfter : ℕ → Notification → ℕ
-nlnAfter last m = pick (m .numbered) (m .nln) last
+pub data Cause : Type 0 where
+  nothing : Cause
+  joining : ℕ → Cause
+  moving : Move → Cause
+  -- a message's NLN
+  numbered : ℕ → Cause
+
+pub record Content : Type 0 where
+  pub cause : Cause
+  pub channel : Channel
+  pub entries : List Record
+
+-- b: there is an NLN
+abbrev pub numbering : Bool → ℕ → Cause
+numbering b n = pick b (numbered n) nothing
+
+-- an event without entries
+abbrev pub plainly : Cause → Content
+plainly x = record { cause = x; channel = onNch; entries = [] }
+
+abbrev pub contentOf : Happening → Content
+contentOf (heardNch s) =
+    record { cause = numbering (readOf s .«record» .numbered) (readOf s .«record» .nln); channel = onNch; entries = nchEntries (readOf s .«record») }
+contentOf (heardFacch s) = record { cause = nothing; channel = onFacch; entries = facchEntries (readFacch s .«record») }
+contentOf (joins k) = plainly (joining k)
+contentOf (moves m) = plainly (moving m)
+contentOf passes = plainly nothing
+
+-- ## What is known of the cell
+
+-- another NLN than the last one seen
+abbrev pub changes : Cell → ℕ → Bool
+changes l n = both (not (eqb (l .nln) noNln)) (not (eqb (l .nln) n))
+
+abbrev pub cellAfter : Cell → Cause → Cell
+cellAfter l nothing = l
+cellAfter l (joining k) = l
+cellAfter l (moving m) = record { nln = pick (forgets m) noNln (l .nln) }
+cellAfter l (numbered n) = record { nln = n }
+
+-- ## What is dropped
+
+-- the channels whose halves go
+abbrev pub taking : Cell → Cause → Channel → Bool
+taking l nothing c = false
+taking l (joining k) c = true
+taking l (moving m) c = drops c m
+taking l (numbered n) c = both (hasNln c) (changes l n)
+
+-- the index of the key whose halves stay
+abbrev pub sparing : List ℕ → Cause → ℕ
+sparing keys nothing = keyCount
+sparing keys (joining k) = indexOf keys k
+sparing keys (moving m) = keyCount
+sparing keys (numbered n) = keyCount
+
+abbrev pub ruleBy : Receiver → Cause → Rule
+ruleBy r x = ruleFor (taking (r .cell) x) (sparing (r .keys) x)
 
 abbrev pub ruleOf : Receiver → Event → Rule
-ruleOf r (nch t s) = pick (nlnChanges (r .nln) (readOf s .«record»)) (Side 0) Keep
-ruleOf r (facch t s) = Keep
-ruleOf r (joined t k) = Others (indexOf (r .keys) k)
-ruleOf r (reselected t) = Side 0
-ruleOf r (handedOver t) = Side 1
-ruleOf r (reconfigured t) = Side 1
-ruleOf r (tick t) = Keep
-
-abbrev pub nlnOf : Receiver → Event → ℕ
-nlnOf r (nch t s) = nlnAfter (r .nln) (readOf s .«record»)
-nlnOf r (facch t s) = r .nln
-nlnOf r (joined t k) = r .nln
-nlnOf r (reselected t) = r .nln
-nlnOf r (handedOver t) = r .nln
-nlnOf r (reconfigured t) = r .nln
-nlnOf r (tick t) = r .nln
-
-abbrev pub channelOf : Event → ℕ
-channelOf (facch t s) = 1
-channelOf (nch t s) = 0
-channelOf (joined t k) = 0
-channelOf (reselected t) = 0
-channelOf (handedOver t) = 0
-channelOf (reconfigured t) = 0
-channelOf (tick t) = 0
-
-abbrev pub entriesOf : Event → List Record
-entriesOf (nch t s) = nchEntries (readOf s .«record»)
-entriesOf (facch t s) = facchEntry (readFacch s .«record») ∷ []
-entriesOf (joined t k) = []
-entriesOf (reselected t) = []
-entriesOf (handedOver t) = []
-entriesOf (reconfigured t) = []
-entriesOf (tick t) = []
+ruleOf r e = ruleBy r (contentOf (e .happening) .cause)
 
 -- ## The step
 
 abbrev pub refusedWith : Receiver → Refusal → Answer
-refusedWith r w = record { refusal = w; expired = 0; dropped = 0; count = 0; entries = padded noTold 9 []; receiver = r }
+refusedWith r w = record { refusal = w; expired = 0; dropped = 0; count = 0; entries = padded noTold mostEntries []; receiver = r }
 
-abbrev pub acceptedWith : Receiver → ℕ → Rule → ℕ → ℕ → List Record → Answer
-acceptedWith r now rule nln ch es =
+abbrev pub acceptedWith : Receiver → ℕ → Rule → Cell → ℕ → List Record → Answer
+acceptedWith r now rule cell ch es =
     record {
       refusal = noRefusal;
       expired = expiredOf r now (r .slots);
       dropped = droppedOf r now rule;
       count = length es;
-      entries = padded noTold 9 (allTold (r .keys) ch now (sweptSlots r now rule) es);
-      receiver =
-          record {
-            slots = allAfter (r .keys) ch now (sweptSlots r now rule) es;
-            keys = r .keys;
-            tick = now;
-            t3206 = r .t3206;
-            t3208 = r .t3208;
-            nln = nln;
-          };
+      entries = padded noTold mostEntries (allTold (r .keys) ch now (sweptSlots r now rule) es);
+      receiver = remade r (allAfter (r .keys) ch now (sweptSlots r now rule) es) now cell;
     }
 
+abbrev pub acceptedAs : Receiver → ℕ → Content → Answer
+acceptedAs r now x = acceptedWith r now (ruleBy r (x .cause)) (cellAfter (r .cell) (x .cause)) (numberOf (x .channel)) (x .entries)
+
 unfoldable pub stepOf : Receiver → Event → Answer
-stepOf r e =
-    pick (eqb (refusalOf r e .number) 0) (acceptedWith r (tickOf e) (ruleOf r e) (nlnOf r e) (channelOf e) (entriesOf e)) (refusedWith r (refusalOf r e))
+stepOf r e = pick (eqb (refusalOf r e .number) 0) (acceptedAs r (e .tick) (contentOf (e .happening))) (refusedWith r (refusalOf r e))

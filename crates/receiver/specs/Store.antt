@@ -10,11 +10,11 @@ use Rattle.receiver.specs.declared.Receiver.{Receiver}
 use Rattle.receiver.specs.declared.Rule.{Rule}
 use Rattle.receiver.specs.declared.store.Fate.{Fate}
 use Rattle.receiver.specs.declared.store.Fate.the-variants.{Stays, RanOut, Taken}
-use Rattle.receiver.specs.Model.{indexOf, ranOutOf, takenOf}
+use Rattle.receiver.specs.Model.{indexOf, ranOutOf, takenOf, remade}
 
--- the receiver with other places
+-- a receiver with other places
 abbrev pub withSlots : Receiver → List Slot → Receiver
-withSlots r l = record { slots = l; keys = r .keys; tick = r .tick; t3206 = r .t3206; t3208 = r .t3208; nln = r .nln }
+withSlots r l = remade r l (r .tick) (r .cell)
 
 -- what becomes of a place
 unfoldable pub fateOf : ℕ → ℕ → Rule → ℕ → Slot → Fate

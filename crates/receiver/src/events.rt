@@ -1,22 +1,31 @@
 // Events: each is refused with its number and changes nothing, or drops what ran out, then what it takes itself, then tells its entries in order.
 ghost use mathlib.Core.Path.{_≡_};
-ghost use mathlib.Core.List.{[], _∷_};
-ghost use mathlib.Core.Bool.{not};
-ghost use lib.Dec.{eqb};
+ghost use mathlib.Core.List.{[]};
+ghost use mathlib.Core.Bool.{true};
 ghost use Prim.Native.Nat.{_<_, _≤_};
-ghost use Rattle.bits.specs.Field.{both, pick};
-ghost use Rattle.receiver.specs.declared.Rule.the-variants.{Keep, Side};
-ghost use lib.ListN.{take, length};
+ghost use Rattle.bits.specs.Field.{both};
+ghost use Rattle.receiver.specs.Channels.{channels, keyCount, Channel, hasNln, drops, forgets};
+ghost use Rattle.receiver.specs.Model.{ruleFor};
+ghost use lib.ListN.{take};
 ghost use Rattle.csn1.specs.Told.{padded};
 ghost use Rattle.receiver.specs.Store.{withSlots};
-ghost use Rattle.receiver.specs.Step.{noTold, toldOf, slotsAfter, allAfter, allTold, refusedWith, acceptedWith, nlnChanges, nlnAfter, ruleOf, nlnOf, stepOf, nch, facch, joined, reselected, handedOver, reconfigured, tick};
+ghost use Rattle.receiver.specs.Step.{mostEntries, noTold, toldOf, slotsAfter, allAfter, allTold, refusedWith, acceptedWith, changes, numbering, moving};
+ghost use Rattle.receiver.specs.Step.{cellAfter, stepOf, nch, facch, joined, moved, reselected, handedOver, reconfigured, tick};
 use crate::Answer;
+use crate::Cell;
+use crate::LAST_KEY;
+use crate::MOST_ENTRIES;
+use crate::Move;
+use crate::NO_NLN;
 use crate::Receiver;
 use crate::Record;
 use crate::Rule;
+use crate::Setup;
 use crate::Told;
+use crate::channels;
 use crate::meeting;
 use crate::messages;
+use crate::messages::Entries;
 use crate::store;
 use csn1::Refusal;
 
@@ -37,14 +46,14 @@ struct Entry {
 
 // One entry: what it is told, and the receiver then.
 fn tell(r: Receiver, ch: usize, now: u32, e: Record) -> Entry
-    requires { ⌜ ch < 2 ⌝ }
+    requires { ⌜ ch < channels ⌝ }
     ensures { λ t. ⌜ (t .told ≡ toldOf (r .keys) ch now (r .slots) e) × (t .receiver ≡ withSlots r (slotsAfter (r .keys) ch now (r .slots) e)) ⌝ }
 {
     let call = e.call;
     let key = meeting::key_of(call);
     let keys = r.keys;
     let i = store::index_of(keys, key);
-    if 50 <= i {
+    if Setup::KEYS <= i {
         return Entry {
             told: Told {
                 key,
@@ -54,7 +63,7 @@ fn tell(r: Receiver, ch: usize, now: u32, e: Record) -> Entry
             receiver: r,
         };
     }
-    let at = 2 * i + ch;
+    let at = channels::place_on(i, ch);
     let held = r.slots[at];
     let m = meeting::meet(ch, now, held, e);
     let mut after = r;
@@ -72,27 +81,24 @@ fn tell(r: Receiver, ch: usize, now: u32, e: Record) -> Entry
 }
 
 struct Telling {
-    entries: [Told; 9],
+    entries: [Told; MOST_ENTRIES],
     receiver: Receiver,
 }
 
 // All entries of a message, in order.
-fn tell_all(r: Receiver, ch: usize, now: u32, items: [Record; 9], count: usize) -> Telling
-    requires { ⌜ ch < 2 ⌝ }
-    ensures { λ t. ⌜ (t .entries ≡ padded noTold 9 (allTold (r .keys) ch now (r .slots) (take count items)))
-        × (t .receiver ≡ withSlots r (allAfter (r .keys) ch now (r .slots) (take count items))) ⌝ }
+fn tell_all(r: Receiver, ch: usize, now: u32, e: Entries) -> Telling
+    requires { ⌜ (ch < channels) × (e .count ≤ mostEntries) ⌝ }
+    ensures { λ t. ⌜ (t .entries ≡ padded noTold mostEntries (allTold (r .keys) ch now (r .slots) (take (e .count) (e .items))))
+        × (t .receiver ≡ withSlots r (allAfter (r .keys) ch now (r .slots) (take (e .count) (e .items)))) ⌝ }
 {
-    let mut entries = [no_told(); 9];
+    let mut entries = [no_told(); MOST_ENTRIES];
     let mut after = r;
     let mut i: usize = 0;
-    while i < 9 {
-        if i < count {
-            let e = items[i];
-            let t = tell(after, ch, now, e);
-            let told = t.told;
-            entries[i] = told;
-            after = t.receiver;
-        }
+    while i < e.count {
+        let t = tell(after, ch, now, e.items[i]);
+        let told = t.told;
+        entries[i] = told;
+        after = t.receiver;
         i += 1;
     }
     Telling {
@@ -109,72 +115,144 @@ fn refused(r: Receiver, refusal: Refusal) -> Answer
         expired: 0,
         dropped: 0,
         count: 0,
-        entries: [no_told(); 9],
+        entries: [no_told(); MOST_ENTRIES],
         receiver: r,
     }
 }
 
-// An accepted event: one sweep, the new tick and NLN, then the entries.
-fn accepted(
-    r: Receiver,
-    now: u32,
-    rule: Rule,
-    nln: u8,
-    ch: usize,
-    items: [Record; 9],
-    count: usize,
-) -> Answer
-    requires { ⌜ (ch < 2) × (count ≤ 9) ⌝ }
-    ensures { λ a. ⌜ a ≡ acceptedWith r now rule nln ch (take count items) ⌝ }
+// An accepted event: one sweep, the new tick, what is known of the cell, then the entries.
+fn accepted(r: Receiver, now: u32, rule: Rule, cell: Cell, ch: usize, e: Entries) -> Answer
+    requires { ⌜ (ch < channels) × (e .count ≤ mostEntries) ⌝ }
+    ensures { λ a. ⌜ a ≡ acceptedWith r now rule cell ch (take (e .count) (e .items)) ⌝ }
 {
     let swept = store::sweep(r, now, rule);
-    let t = tell_all(swept.receiver, ch, now, items, count);
+    let t = tell_all(swept.receiver, ch, now, e);
     let entries = t.entries;
     let mut after = t.receiver;
     after.tick = now;
-    after.nln = nln;
+    after.cell = cell;
     Answer {
         refusal: csn1::no_refusal(),
         expired: swept.expired,
         dropped: swept.dropped,
-        count,
+        count: e.count,
         entries,
         receiver: after,
     }
 }
 
 // An event without entries.
-fn plain(r: Receiver, now: u32, rule: Rule) -> Answer
-    ensures { λ a. ⌜ a ≡ acceptedWith r now rule (r .nln) 0 [] ⌝ }
+fn plain(r: Receiver, now: u32, rule: Rule, cell: Cell) -> Answer
+    ensures { λ a. ⌜ a ≡ acceptedWith r now rule cell 0 [] ⌝ }
 {
-    accepted(r, now, rule, r.nln, 0, [meeting::no_record(); 9], 0)
+    accepted(r, now, rule, cell, channels::NCH, messages::no_entries())
 }
 
-// NCH halves go where a message has another NLN than the last one seen; the first one seen is no change.
-pub fn nln_rule(last: u8, numbered: bool, nln: u8) -> Rule
-    ensures { λ r. ⌜ r ≡ pick (both numbered (both (not (eqb last 4)) (not (eqb last nln)))) (Side 0) Keep ⌝ }
+// ## A message's NLN
+
+// Whether a message has another NLN than the last one seen; the first one seen is no change.
+pub fn nln_changes(cell: Cell, numbered: bool, nln: u8) -> bool
+    ensures { λ r. ⌜ r ≡ both numbered (changes cell nln) ⌝ }
 {
     if !numbered {
-        return Rule::Keep;
+        return false;
     }
-    if last == 4 {
-        return Rule::Keep;
+    if cell.nln == NO_NLN {
+        return false;
     }
-    if last == nln {
-        return Rule::Keep;
-    }
-    Rule::Side(0)
+    cell.nln != nln
 }
 
-// The last NLN seen, behind a message.
-pub fn nln_after(last: u8, numbered: bool, nln: u8) -> u8
-    ensures { λ r. ⌜ r ≡ pick numbered nln last ⌝ }
+// NCH halves go where the NLN changes.
+pub fn nln_rule(cell: Cell, numbered: bool, nln: u8) -> Rule
+    ensures { λ r. ⌜ r ≡ ruleFor (λ (c : Channel). both (hasNln c) (both numbered (changes cell nln))) keyCount ⌝ }
+{
+    Rule {
+        nch: nln_changes(cell, numbered, nln),
+        facch: false,
+        but: Setup::KEYS,
+    }
+}
+
+// What is known of the cell, behind a message.
+pub fn cell_after(cell: Cell, numbered: bool, nln: u8) -> Cell
+    ensures { λ r. ⌜ r ≡ cellAfter cell (numbering numbered nln) ⌝ }
 {
     if numbered {
-        return nln;
+        return Cell { nln };
     }
-    last
+    cell
 }
+
+// ## Joins and moves
+
+// A join costs the halves of all channels, save those under the key at an index.
+pub fn join_rule(but: usize) -> Rule
+    ensures { λ r. ⌜ r ≡ ruleFor (λ (c : Channel). true) but ⌝ }
+{
+    Rule {
+        nch: true,
+        facch: true,
+        but,
+    }
+}
+
+// The halves that a move of the mobile costs.
+pub fn move_rule(m: Move) -> Rule
+    ensures { λ r. ⌜ r ≡ ruleFor (λ (c : Channel). drops c m) keyCount ⌝ }
+{
+    match m {
+        Move::Reselection => Rule {
+            nch: true,
+            facch: false,
+            but: Setup::KEYS,
+        },
+        Move::Handover => Rule {
+            nch: false,
+            facch: true,
+            but: Setup::KEYS,
+        },
+        Move::Reconfiguration => Rule {
+            nch: false,
+            facch: true,
+            but: Setup::KEYS,
+        },
+    }
+}
+
+// Whether a move makes the NLN unknown.
+fn forgets(m: Move) -> bool
+    ensures { λ r. ⌜ r ≡ forgets m ⌝ }
+{
+    match m {
+        Move::Reselection => false,
+        Move::Handover => false,
+        Move::Reconfiguration => false,
+    }
+}
+
+// What is known of the cell, behind a move.
+pub fn move_cell(cell: Cell, m: Move) -> Cell
+    ensures { λ r. ⌜ r ≡ cellAfter cell (moving m) ⌝ }
+{
+    if forgets(m) {
+        return Cell { nln: NO_NLN };
+    }
+    cell
+}
+
+// The mobile moved.
+fn move_on(r: Receiver, tick: u32, m: Move) -> Answer
+    ensures { λ a. ⌜ a ≡ stepOf r (moved tick m) ⌝ }
+{
+    if store::is_late(tick, r.tick) {
+        return refused(r, csn1::ground(9));
+    }
+    let cell = r.cell;
+    plain(r, tick, move_rule(m), move_cell(cell, m))
+}
+
+// ## The events
 
 impl Receiver {
     // NT/N Rest Octets.
@@ -189,11 +267,17 @@ impl Receiver {
             return refused(self, m.refusal);
         }
         let n = m.record;
-        let e = messages::nch_entries(n);
-        let items = e.items;
-        let rule = nln_rule(self.nln, n.numbered, n.nln);
-        let nln = nln_after(self.nln, n.numbered, n.nln);
-        accepted(self, tick, rule, nln, 0, items, e.count)
+        let last = self.cell;
+        let rule = nln_rule(last, n.numbered, n.nln);
+        let cell = cell_after(last, n.numbered, n.nln);
+        accepted(
+            self,
+            tick,
+            rule,
+            cell,
+            channels::NCH,
+            messages::nch_entries(n),
+        )
     }
 
     // NOTIFICATION/FACCH.
@@ -208,59 +292,52 @@ impl Receiver {
             return refused(self, m.refusal);
         }
         let n = m.record;
+        let cell = self.cell;
         accepted(
             self,
             tick,
-            Rule::Keep,
-            self.nln,
-            1,
-            [messages::facch_entry(n); 9],
-            1,
+            store::keep(),
+            cell,
+            channels::FACCH,
+            messages::facch_entries(n),
         )
     }
 
-    // The mobile joined the call of a key: halves under other keys go, on both channels.
+    // The mobile joined the call of a key: halves under other keys go, on all channels.
     pub fn joined(self, tick: u32, key: u32) -> Answer
         ensures { λ a. ⌜ a ≡ stepOf self (joined tick key) ⌝ }
     {
         if store::is_late(tick, self.tick) {
             return refused(self, csn1::ground(9));
         }
-        if 199999999 < key {
+        if LAST_KEY < key {
             return refused(self, csn1::ground(4));
         }
         let keys = self.keys;
-        plain(self, tick, Rule::Others(store::index_of(keys, key as u64)))
+        let cell = self.cell;
+        let but = store::index_of(keys, key as u64);
+        plain(self, tick, join_rule(but), cell)
     }
 
-    // Another cell was selected: NCH halves go.
+    // Another cell was selected.
     pub fn reselected(self, tick: u32) -> Answer
         ensures { λ a. ⌜ a ≡ stepOf self (reselected tick) ⌝ }
     {
-        if store::is_late(tick, self.tick) {
-            return refused(self, csn1::ground(9));
-        }
-        plain(self, tick, Rule::Side(0))
+        move_on(self, tick, Move::Reselection)
     }
 
-    // Handed over to another cell: FACCH halves go.
+    // Handed over to another cell.
     pub fn handed_over(self, tick: u32) -> Answer
         ensures { λ a. ⌜ a ≡ stepOf self (handedOver tick) ⌝ }
     {
-        if store::is_late(tick, self.tick) {
-            return refused(self, csn1::ground(9));
-        }
-        plain(self, tick, Rule::Side(1))
+        move_on(self, tick, Move::Handover)
     }
 
-    // The group call was reconfigured: FACCH halves go.
+    // The group call was reconfigured.
     pub fn reconfigured(self, tick: u32) -> Answer
         ensures { λ a. ⌜ a ≡ stepOf self (reconfigured tick) ⌝ }
     {
-        if store::is_late(tick, self.tick) {
-            return refused(self, csn1::ground(9));
-        }
-        plain(self, tick, Rule::Side(1))
+        move_on(self, tick, Move::Reconfiguration)
     }
 
     // Time passed.
@@ -270,6 +347,7 @@ impl Receiver {
         if store::is_late(now, self.tick) {
             return refused(self, csn1::ground(9));
         }
-        plain(self, now, Rule::Keep)
+        let cell = self.cell;
+        plain(self, now, store::keep(), cell)
     }
 }

@@ -2,6 +2,7 @@
 use call::Call;
 use csn1::Refusal;
 
+pub mod channels;
 pub mod events;
 pub mod meeting;
 pub mod messages;
@@ -49,15 +50,31 @@ pub struct Slot {
     pub record: Record,
 }
 
-// The place of subscription i on channel ch (0 NCH, 1 FACCH) is 2 * i + ch. An unused key place holds 2^32 - 1, which is no key.
+// An NLN has two bits: this says that none is known.
+pub const NO_NLN: u8 = 4;
+
+// What is known of the cell.
+pub struct Cell {
+    // The last NLN seen, or NO_NLN.
+    pub nln: u8,
+}
+
+// The highest key: reference 99,999,999 times 2, plus the service flag.
+pub const LAST_KEY: u32 = 199999999;
+
+// What an unused key place holds: no key.
+pub const NO_KEY: u32 = 4294967295;
+
+pub const PLACES: usize = channels::CHANNELS * Setup::KEYS;
+
+// The place of subscription i on channel ch is channels::place_on(i, ch).
 pub struct Receiver {
-    pub slots: [Slot; 100],
-    pub keys: [u32; 50],
+    pub slots: [Slot; PLACES],
+    pub keys: [u32; Setup::KEYS],
     pub tick: u32,
     pub t3206: u32,
     pub t3208: u32,
-    // The last NLN seen, and 4 while none is known.
-    pub nln: u8,
+    pub cell: Cell,
 }
 
 // What an entry is told: document 01's number, and for 1 to 3 the record.
@@ -68,13 +85,16 @@ pub struct Told {
     pub record: Record,
 }
 
+// A message has at most this many entries: four calls and five reduced references.
+pub const MOST_ENTRIES: usize = 9;
+
 // What an event is answered. A refusal is its number alone, and the receiver as it stood.
 pub struct Answer {
     pub refusal: Refusal,
     pub expired: usize,
     pub dropped: usize,
     pub count: usize,
-    pub entries: [Told; 9],
+    pub entries: [Told; MOST_ENTRIES],
     pub receiver: Receiver,
 }
 
@@ -84,11 +104,18 @@ pub struct Started {
     pub receiver: Receiver,
 }
 
-// What an event drops beside what ran out: nothing, the halves under other keys than the one at an index, or those of one channel.
-pub enum Rule {
-    Keep,
-    Others(usize),
-    Side(usize),
+// What an event drops beside what ran out: the halves of some channels, save those under the key at an index. No key has the index KEYS.
+pub struct Rule {
+    pub nch: bool,
+    pub facch: bool,
+    pub but: usize,
+}
+
+// What moves the mobile: another cell was selected, it was handed over to another cell, or the group call was reconfigured.
+pub enum Move {
+    Reselection,
+    Handover,
+    Reconfiguration,
 }
 
 // What an entry met: the number told, the record for 1 to 3, and what its place holds then.

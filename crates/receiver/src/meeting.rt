@@ -1,11 +1,11 @@
 // What an entry is, and what it meets at its place.
 ghost use mathlib.Core.Path.{_≡_};
-ghost use Rattle.csn1.specs.Told.{asBit};
-ghost use Rattle.receiver.specs.Model.{noCommon, noRecord, emptySlot, keyOf, isCiphered, segmentIs, isSecond, classOf, sameReference, agree, withCount, joinedOf, meetHalf, meetOf, only, complete, storing};
+ghost use Rattle.receiver.specs.Model.{noCommon, noRecord, emptySlot, keyOf, isCiphered, segmentIs, isSecond, classOf, sameReference, agree, withCount, joinedOf, meetHalf, meetOf, only};
 use crate::Common;
 use crate::Met;
 use crate::Record;
 use crate::Slot;
+use crate::channels;
 use call::Call;
 
 pub fn no_common() -> Common
@@ -64,11 +64,11 @@ fn is_ciphered(e: Record) -> bool
     1 <= e.call.cipher
 }
 
-// Segment Id as it must be on the NCH; the FACCH has none.
+// Segment Id as it must be where the channel has it.
 fn segment_is(ch: usize, b: bool, e: Record) -> bool
     ensures { λ r. ⌜ r ≡ segmentIs ch b e ⌝ }
 {
-    if ch != 0 {
+    if !channels::asks(ch) {
         return true;
     }
     if !e.segmented {
@@ -80,7 +80,7 @@ fn segment_is(ch: usize, b: bool, e: Record) -> bool
     !e.segment
 }
 
-// A second half: ciphered, not described, with VSTK_RAND, and Segment Id 1 on the NCH.
+// A second half: ciphered, not described, with VSTK_RAND, and Segment Id 1 where the channel has it.
 fn is_second(ch: usize, e: Record) -> bool
     ensures { λ r. ⌜ r ≡ isSecond ch e ⌝ }
 {
@@ -239,7 +239,7 @@ pub fn meet(ch: usize, now: u32, held: Slot, e: Record) -> Met
         return meet_half(2, held, e, join(h, e));
     }
     if c == 4 {
-        if ch != 0 {
+        if !channels::leads(ch) {
             return only_number(8, held);
         }
     }

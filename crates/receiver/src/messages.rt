@@ -1,8 +1,8 @@
 // The entries of a message, each with all that belongs to it.
 ghost use mathlib.Core.Path.{_≡_};
 ghost use mathlib.Core.Bool.{false};
+ghost use mathlib.Core.List.{[]};
 ghost use mathlib.Core.Option.{none};
-ghost use Prim.Native.Nat.{min};
 ghost use lib.ListN.{length};
 ghost use Rattle.bits.specs.Field.{pick};
 ghost use Rattle.csn1.specs.Told.{asBit, padded};
@@ -11,20 +11,31 @@ ghost use Rattle.nch.specs.Octets.{count};
 ghost use Rattle.nch.specs.Write.{callsOf, isDescribed};
 ghost use Rattle.nch.specs.Owners.{nth, orNot, randomsOf, marksOf};
 ghost use Rattle.receiver.specs.Model.{noRecord, mapAt};
-ghost use Rattle.receiver.specs.Entries.{nchCommon, ownedOf, callWith, reducedWith, callEntry, nchEntries, facchEntry};
+ghost use Rattle.receiver.specs.Entries.{nchCommon, ownedOf, callWith, reducedWith, callEntry, nchEntries, facchEntry, facchEntries};
+ghost use Rattle.receiver.specs.Step.{mostEntries, entriesIn};
 use crate::Common;
+use crate::MOST_ENTRIES;
 use crate::Record;
 use crate::meeting;
 use call::Call;
 use nch::Reduced;
 
-// At most nine entries, in order.
+// The entries of a message, in order.
 pub struct Entries {
-    pub items: [Record; 9],
+    pub items: [Record; MOST_ENTRIES],
     pub count: usize,
 }
 
-// The one entry of a FACCH message.
+pub fn no_entries() -> Entries
+    ensures { λ r. ⌜ r ≡ entriesIn [] ⌝ }
+{
+    Entries {
+        items: [meeting::no_record(); MOST_ENTRIES],
+        count: 0,
+    }
+}
+
+// What a FACCH message says of its call.
 pub fn facch_entry(m: facch::Notification) -> Record
     ensures { λ r. ⌜ r ≡ facchEntry m ⌝ }
 {
@@ -53,6 +64,16 @@ pub fn facch_entry(m: facch::Notification) -> Record
             private: false,
         },
     }
+}
+
+// The entries of a FACCH message: its call.
+pub fn facch_entries(m: facch::Notification) -> Entries
+    ensures { λ r. ⌜ r ≡ entriesIn (facchEntries m) ⌝ }
+{
+    let mut e = no_entries();
+    e.items[0] = facch_entry(m);
+    e.count = 1;
+    e
 }
 
 pub fn nch_common(m: nch::Notification) -> Common
@@ -178,13 +199,6 @@ pub fn reduced_entry(m: nch::Notification, r: Reduced, random: usize) -> Record
     }
 }
 
-// The smaller of two numbers.
-pub fn least(a: usize, b: usize) -> usize
-    ensures { λ r. ⌜ r ≡ min a b ⌝ }
-{
-    if b < a { b } else { a }
-}
-
 fn one_if(b: bool) -> usize
     ensures { λ r. ⌜ r ≡ asBit b ⌝ }
 {
@@ -193,16 +207,16 @@ fn one_if(b: bool) -> usize
 
 // The entries of the calls, and how many of the calls are ciphered.
 struct CallEntries {
-    items: [Record; 9],
+    items: [Record; MOST_ENTRIES],
     count: usize,
     ciphered: usize,
 }
 
 fn call_entries(m: nch::Notification) -> CallEntries
-    ensures { λ r. ⌜ (r .items ≡ padded noRecord 9 (mapAt (callEntry m) 0 (callsOf m))) × ((r .count ≡ length (callsOf m)) × (r .ciphered ≡ count ciphered (callsOf m))) ⌝ }
+    ensures { λ r. ⌜ (r .items ≡ padded noRecord mostEntries (mapAt (callEntry m) 0 (callsOf m))) × ((r .count ≡ length (callsOf m)) × (r .ciphered ≡ count ciphered (callsOf m))) ⌝ }
 {
-    let mut items = [meeting::no_record(); 9];
-    let count = least(m.callcount, 4);
+    let mut items = [meeting::no_record(); MOST_ENTRIES];
+    let count = bits::least(m.callcount, 4);
     let mut random: usize = 0;
     let mut mark: usize = 0;
     let mut i: usize = 0;
@@ -222,13 +236,13 @@ fn call_entries(m: nch::Notification) -> CallEntries
 
 // The entries of an NCH message: its calls, then its reduced references.
 pub fn nch_entries(m: nch::Notification) -> Entries
-    ensures { λ r. ⌜ (r .items ≡ padded noRecord 9 (nchEntries m)) × (r .count ≡ length (nchEntries m)) ⌝ }
+    ensures { λ r. ⌜ r ≡ entriesIn (nchEntries m) ⌝ }
 {
     let calls = call_entries(m);
     let mut items = calls.items;
     let first = calls.count;
     let six = m.release6;
-    let count = least(six.reducedcount, 5);
+    let count = bits::least(six.reducedcount, 5);
     let mut j: usize = 0;
     while j < count {
         let r = six.reduced[j];

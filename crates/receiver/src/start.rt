@@ -1,8 +1,13 @@
 // Setting up: the numbers and the lent keys are tested, and a receiver that holds nothing is made.
 ghost use mathlib.Core.Path.{_≡_};
-ghost use lib.ListN.{length};
-ghost use Rattle.receiver.specs.Model.{newReceiver, keyPlaces, isTimer, keysRight, setupRight, startedOf, readySetup};
+ghost use Rattle.receiver.specs.Channels.{keyCount};
+ghost use Rattle.receiver.specs.Model.{newReceiver, noSetup, keyPlaces, isTimer, keysRight, setupRight, startedOf, readySetup};
 ghost use Rattle.receiver.specs.Store.{standsFrom};
+use crate::Cell;
+use crate::LAST_KEY;
+use crate::NO_KEY;
+use crate::NO_NLN;
+use crate::PLACES;
 use crate::Receiver;
 use crate::Setup;
 use crate::Started;
@@ -35,28 +40,38 @@ impl Setup {
         if !is_right(self, keys) {
             return Started {
                 refusal: csn1::ground(10),
-                receiver: made(0, 0, 0, [4294967295u32; 50]),
+                receiver: made(no_setup(), [NO_KEY; Setup::KEYS]),
             };
         }
         let places = key_places(keys);
         Started {
             refusal: csn1::no_refusal(),
-            receiver: made(self.tick, self.t3206, self.t3208, places),
+            receiver: made(self, places),
         }
     }
 }
 
-fn made(tick: u32, t3206: u32, t3208: u32, keys: [u32; 50]) -> Receiver
-    ensures { λ r. ⌜ r ≡ newReceiver tick t3206 t3208 keys ⌝ }
+fn no_setup() -> Setup
+    ensures { λ r. ⌜ r ≡ noSetup ⌝ }
+{
+    Setup {
+        tick: 0,
+        t3206: 0,
+        t3208: 0,
+    }
+}
+
+fn made(s: Setup, keys: [u32; Setup::KEYS]) -> Receiver
+    ensures { λ r. ⌜ r ≡ newReceiver s keys ⌝ }
 {
     let e = meeting::empty_slot();
     Receiver {
-        slots: [e; 100],
+        slots: [e; PLACES],
         keys,
-        tick,
-        t3206,
-        t3208,
-        nln: 4,
+        tick: s.tick,
+        t3206: s.t3206,
+        t3208: s.t3208,
+        cell: Cell { nln: NO_NLN },
     }
 }
 
@@ -69,7 +84,7 @@ fn is_timer(t: u32) -> bool
     t <= Setup::LONGEST
 }
 
-// Whether a setup is accepted: at most 50 keys, both timers, each key in range and none twice.
+// Whether a setup is accepted: at most KEYS keys, the timers, each key in range and none twice.
 pub fn is_right(s: Setup, keys: &[u32]) -> bool
     ensures { λ r. ⌜ r ≡ setupRight s (now (keys .entry)) ⌝ }
 {
@@ -105,7 +120,7 @@ fn keys_right(keys: &[u32]) -> bool
     let mut i: usize = 0;
     while i < keys.len() {
         let key = keys[i];
-        if 199999999 < key {
+        if LAST_KEY < key {
             return false;
         }
         if stands_from(keys, key, i + 1) {
@@ -117,12 +132,12 @@ fn keys_right(keys: &[u32]) -> bool
 }
 
 // The keys as they were lent, then unused places.
-fn key_places(keys: &[u32]) -> [u32; 50]
-    ensures { λ r. ⌜ r ≡ keyPlaces 50 (now (keys .entry)) ⌝ }
+fn key_places(keys: &[u32]) -> [u32; Setup::KEYS]
+    ensures { λ r. ⌜ r ≡ keyPlaces keyCount (now (keys .entry)) ⌝ }
 {
-    let mut places = [4294967295u32; 50];
+    let mut places = [NO_KEY; Setup::KEYS];
     let mut i: usize = 0;
-    while i < 50 {
+    while i < Setup::KEYS {
         if i < keys.len() {
             places[i] = keys[i];
         }

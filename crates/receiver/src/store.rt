@@ -1,11 +1,14 @@
 // The clock, the keys, and the one sweep over all places that drops what ran out and what an event takes.
 ghost use mathlib.Core.Path.{_≡_};
-ghost use Prim.Native.Nat.{_<_};
-ghost use Rattle.receiver.specs.Model.{wrapSub, late, indexOf, spares, timerAt, ranOutOf, takenOf, keptOf, sweptSlots, expiredOf, droppedOf};
+ghost use Rattle.receiver.specs.Model.{wrapSub, late, indexOf, keep, takes, spares, ranOutOf, sweptSlots, expiredOf, droppedOf};
+ghost use Rattle.receiver.specs.Channels.{byNumber, sideOf};
 ghost use Rattle.receiver.specs.Store.{fateOf, withSlots};
+use crate::PLACES;
 use crate::Receiver;
 use crate::Rule;
+use crate::Setup;
 use crate::Slot;
+use crate::channels;
 use crate::meeting;
 
 // The milliseconds from one tick to another, on a counter that wraps.
@@ -15,11 +18,14 @@ pub fn elapsed(now: u32, last: u32) -> u32
     std::num::wrapping_sub_u32(now, last)
 }
 
-// Whether a tick is refused: a step of 2^31 or more.
+// A step of 2^31 or more is refused.
+pub const LATE_STEP: u32 = 2147483648;
+
+// Whether a tick is refused.
 pub fn is_late(now: u32, last: u32) -> bool
     ensures { λ r. ⌜ r ≡ late now last ⌝ }
 {
-    2147483648 <= elapsed(now, last)
+    LATE_STEP <= elapsed(now, last)
 }
 
 // A key as a wider number: twice a reference of any 32 bits is one.
@@ -29,12 +35,12 @@ fn wide(key: u32) -> u64
     key as u64
 }
 
-// The first place of a key, and 50 where it is not there.
-pub fn index_of(keys: [u32; 50], key: u64) -> usize
+// The first place of a key, and KEYS where it is not there.
+pub fn index_of(keys: [u32; Setup::KEYS], key: u64) -> usize
     ensures { λ r. ⌜ r ≡ indexOf keys key ⌝ }
 {
     let mut i: usize = 0;
-    while i < 50 {
+    while i < Setup::KEYS {
         if wide(keys[i]) == key {
             return i;
         }
@@ -43,25 +49,39 @@ pub fn index_of(keys: [u32; 50], key: u64) -> usize
     i
 }
 
+// The rule that drops nothing.
+pub fn keep() -> Rule
+    ensures { λ r. ⌜ r ≡ keep ⌝ }
+{
+    Rule {
+        nch: false,
+        facch: false,
+        but: Setup::KEYS,
+    }
+}
+
+// Whether a rule takes halves of a channel.
+fn takes(rule: Rule, ch: usize) -> bool
+    ensures { λ r. ⌜ r ≡ takes rule ch ⌝ }
+{
+    channels::flag_of(ch, rule.nch, rule.facch)
+}
+
 // Whether a rule leaves the half at a place.
 pub fn spared(rule: Rule, i: usize) -> bool
     ensures { λ r. ⌜ r ≡ spares rule i ⌝ }
 {
-    match rule {
-        Rule::Keep => true,
-        Rule::Others(k) => i / 2 == k,
-        Rule::Side(ch) => i % 2 != ch,
+    if !takes(rule, channels::side_of(i)) {
+        return true;
     }
+    channels::index_in(i) == rule.but
 }
 
-// T3206 runs for the NCH, T3208 for the FACCH.
+// The timer of the channel of a place.
 pub fn timer_at(t3206: u32, t3208: u32, i: usize) -> u32
-    ensures { λ r. ⌜ r ≡ timerAt t3206 t3208 i ⌝ }
+    ensures { λ r. ⌜ r ≡ byNumber (sideOf i) t3206 t3208 ⌝ }
 {
-    if i % 2 == 0 {
-        return t3206;
-    }
-    t3208
+    channels::timer_of(channels::side_of(i), t3206, t3208)
 }
 
 fn ran_out(now: u32, timer: u32, s: Slot) -> bool
@@ -110,7 +130,7 @@ pub fn sweep(mut r: Receiver, now: u32, rule: Rule) -> Swept
     let mut expired: usize = 0;
     let mut dropped: usize = 0;
     let mut i: usize = 0;
-    while i < 100 {
+    while i < PLACES {
         let s = r.slots[i];
         match fate_of(now, timer_at(r.t3206, r.t3208, i), rule, i, s) {
             Fate::Stays => {}

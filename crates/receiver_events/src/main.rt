@@ -2,7 +2,7 @@
 //
 // A line is a word and numbers: setup TICK T3206 T3208 KEY.., nch TICK HEX, facch TICK HEX, joined TICK KEY, reselected TICK, handed_over TICK,
 // reconfigured TICK, tick TICK. Its answer is a line: refusal, halves that ran out, halves dropped, entries. A refused setup leaves the receiver.
-ghost use Prim.Native.Nat.{_+_, _≤_};
+ghost use Prim.Native.Nat.{_≤_};
 ghost use lib.ListN.{length};
 use call::Call;
 use call::Description;
@@ -14,111 +14,100 @@ use receiver::Record;
 use receiver::Setup;
 use receiver::Started;
 use receiver::Told;
+use text::Line;
 
-// A word, and a number behind it.
-fn show(word: &[u8], n: u64) {
-    io::write_all(STDOUT_FILENO, word);
-    io::print_decimal(STDOUT_FILENO, n);
-}
-
-fn show_hex(word: &[u8], n: u64, width: usize) {
-    io::write_all(STDOUT_FILENO, word);
-    io::print_hex(STDOUT_FILENO, n, width);
-}
-
-fn show_description(d: Description) {
-    show_hex(b" channel ", d.channel as u64, 6);
+fn show_description(line: Line, d: Description) -> Line {
+    let line = line.hex(b" channel ", d.channel as u64, 6);
     if !d.hopping {
-        return;
+        return line;
     }
     if d.shortlist {
-        show_hex(b" list ", d.frequencies, 16);
-        return;
+        return line.hex(b" list ", d.frequencies, 16);
     }
-    show(b" allocation ", d.length as u64);
-    show_hex(b" ", d.frequencies, 2 * d.length as usize);
+    line.number(b" allocation ", d.length as u64)
+        .hex(b" ", d.frequencies, 2 * d.length as usize)
 }
 
-fn show_call(c: Call) {
-    show(b" call ", c.reference as u64);
-    show(b" ", c.vgcs as u64);
-    show(b" ", c.acknowledged as u64);
-    show(b" ", c.priority as u64);
-    show(b" ", c.cipher as u64);
+fn show_call(line: Line, c: Call) -> Line {
+    let line = line.number(b" call ", c.reference as u64)
+        .number(b" ", c.vgcs as u64)
+        .number(b" ", c.acknowledged as u64)
+        .number(b" ", c.priority as u64)
+        .number(b" ", c.cipher as u64);
     if c.described {
         let d = c.description;
-        show_description(d);
-    } else {
-        io::write_all(STDOUT_FILENO, b" channel -");
+        return show_description(line, d);
     }
+    line.word(b" channel -")
 }
 
 // What a part says that may be absent, with a dash for none.
-fn show_if(there: bool, word: &[u8], n: u64) {
-    io::write_all(STDOUT_FILENO, word);
+fn show_if(line: Line, there: bool, word: &[u8], n: u64) -> Line {
+    let line = line.word(word);
     if there {
-        show(b" ", n);
-    } else {
-        io::write_all(STDOUT_FILENO, b" -");
+        return line.number(b" ", n);
     }
+    line.word(b" -")
 }
 
-fn show_amr(c: Common) {
-    io::write_all(STDOUT_FILENO, b" amr");
+fn show_amr(line: Line, c: Common) -> Line {
+    let line = line.word(b" amr");
     if !c.amr {
-        io::write_all(STDOUT_FILENO, b" -");
-        return;
+        return line.word(b" -");
     }
-    show_if(c.fullrated, b"", c.fullrate as u64);
-    show_if(c.halfrated, b"", c.halfrate as u64);
+    let line = show_if(line, c.fullrated, b"", c.fullrate as u64);
+    show_if(line, c.halfrated, b"", c.halfrate as u64)
 }
 
-fn show_common(c: Common) {
-    show_if(c.counted, b" count", c.cellcount as u64);
+fn show_common(before: Line, c: Common) -> Line {
+    let mut line = show_if(before, c.counted, b" count", c.cellcount as u64);
     if c.counted {
-        show(b" ", c.b22 as u64);
+        line = line.number(b" ", c.b22 as u64);
     }
-    show_if(c.uplinked, b" uplink", c.uplink as u64);
-    show_amr(c);
-    show_if(c.sms, b" sms", c.confidential as u64);
+    line = show_if(line, c.uplinked, b" uplink", c.uplink as u64);
+    line = show_amr(line, c);
+    line = show_if(line, c.sms, b" sms", c.confidential as u64);
     if c.sms {
-        show(b" ", c.private as u64);
+        line = line.number(b" ", c.private as u64);
     }
+    line
 }
 
-fn show_record(r: Record) {
+fn show_record(before: Line, r: Record) -> Line {
     let c = r.call;
-    show_call(c);
-    show_if(r.segmented, b" segment", r.segment as u64);
+    let mut line = show_call(before, c);
+    line = show_if(line, r.segmented, b" segment", r.segment as u64);
     if r.given {
-        show_hex(b" rand ", r.rand, 9);
+        line = line.hex(b" rand ", r.rand, 9);
     } else {
-        io::write_all(STDOUT_FILENO, b" rand -");
+        line = line.word(b" rand -");
     }
-    show(b" emergency ", r.emergency as u64);
+    line = line.number(b" emergency ", r.emergency as u64);
     let common = r.common;
-    show_common(common);
+    show_common(line, common)
 }
 
 // An entry: its key, its number, and the record where it has one.
-fn show_told(t: Told) {
-    show(b"  ", t.key);
-    show(b" ", t.number as u64);
+fn show_told(t: Told) -> Line {
+    let mut line = Line::new()
+        .number(b"  ", t.key)
+        .number(b" ", t.number as u64);
     if 1 <= t.number {
         if t.number <= 3 {
             let r = t.record;
-            show_record(r);
+            line = show_record(line, r);
         }
     }
-    io::write_all(STDOUT_FILENO, b"\n");
+    line
 }
 
 fn show_head(refusal: u8, expired: usize, dropped: usize, count: usize) {
-    show(b"", refusal as u64);
-    show(b" ", expired as u64);
-    show(b" ", dropped as u64);
-    show(b" ", count as u64);
-    io::write_all(STDOUT_FILENO, b"\n");
+    Line::new()
+        .number(b"", refusal as u64)
+        .number(b" ", expired as u64)
+        .number(b" ", dropped as u64)
+        .number(b" ", count as u64)
+        .end(STDOUT_FILENO);
 }
 
 // Shows an answer, and hands on the receiver in it.
@@ -129,30 +118,11 @@ fn answered(a: Answer) -> Receiver {
     while i < 9 {
         if i < a.count {
             let t = entries[i];
-            show_told(t);
+            show_told(t).end(STDOUT_FILENO);
         }
         i += 1;
     }
     a.receiver
-}
-
-// The value of a hexadecimal digit; any other character counts as 0.
-fn digit(c: u8) -> u8
-    ensures { λ r. ⌜ r ≤ 15 ⌝ }
-{
-    if c < b'0' {
-        return 0;
-    }
-    if c <= b'9' {
-        return c - b'0';
-    }
-    if c < b'a' {
-        return 0;
-    }
-    if c <= b'f' {
-        return c - b'a' + 10;
-    }
-    0
 }
 
 // The number whose decimal digits stand from a place on, less whole times 2^32.
@@ -163,7 +133,7 @@ fn number(line: &[u8], from: usize) -> u32 {
         if line[i] == b' ' {
             break;
         }
-        n = (n * 10 + digit(line[i]) as u64) % 4294967296;
+        n = (n * 10 + text::digit(line[i]) as u64) % 4294967296;
         i += 1;
     }
     n as u32
@@ -187,14 +157,7 @@ fn after(line: &[u8], from: usize) -> usize
 // A message of the octets whose hexadecimal digits are given, of which 64 are kept at most.
 fn message(r: Receiver, tick: u32, digits: &[u8], nch: bool) -> Answer {
     let mut octets = [0u8; 64];
-    let mut n: usize = 0;
-    while n < 64 {
-        if digits.len() / 2 <= n {
-            break;
-        }
-        octets[n] = digit(digits[2 * n]) * 16 + digit(digits[2 * n + 1]);
-        n += 1;
-    }
+    let n = text::read_hex(digits, &mut octets);
     if nch {
         return r.nch(tick, &octets[..n]);
     }

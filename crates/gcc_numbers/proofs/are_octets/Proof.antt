@@ -4,7 +4,7 @@ use mathlib.Core.Path.{_≡_, refl}
 use Prim.Native.Nat.{_-_, _≤_}
 use lib.ListN.{length, drop}
 use native.Mathlib.Omega.{arith}
-use Rattle.numbers.specs.Limits.{within}
+use Rattle.arrays.specs.Limits.{within}
 use Rattle.gcc_numbers.proofs.Octets.{Most, octets-next, octets-not, octets-end}
 use borrow.Author.Needs.{needs}
 use Rattle.gcc_numbers.proofs.are_octets.Statement.{statement}

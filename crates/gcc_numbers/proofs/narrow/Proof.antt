@@ -4,7 +4,7 @@ use mathlib.Core.Path.{_≡_, refl, _∙_}
 use Prim.Native.Nat.{_-_, _≤_}
 use lib.ListN.{length, getD, take, length-set}
 use native.Mathlib.Omega.{arith}
-use Rattle.nch_write.proofs.Putting.{copied-next, copied}
+use Rattle.arrays.proofs.Filling.{copied-next, copied}
 use borrow.Author.Needs.{needs}
 use Rattle.gcc_numbers.proofs.narrow.Statement.{statement}
 use Rattle.gcc_numbers.proofs.narrow.Tie as tie

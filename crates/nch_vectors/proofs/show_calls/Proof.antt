@@ -5,10 +5,10 @@ use Rattle.nch_vectors.proofs.show_calls.Statement.{statement}
 use Rattle.nch_vectors.proofs.show_calls.Tie as tie
 
 abbrev Inv-loop : tie.InvT-loop
-Inv-loop m calls i₀ i = i ≤ 4
+Inv-loop m calls line₀ i₀ line i = i ≤ 4
 
 abbrev μ-loop : tie.MeasureT-loop
-μ-loop m calls i₀ i = 4 - i
+μ-loop m calls line₀ i₀ line i = 4 - i
 
 loop-holds : tie.Need-loop-holds Inv-loop μ-loop
 loop-holds c = search needs

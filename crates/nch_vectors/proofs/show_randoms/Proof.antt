@@ -5,10 +5,10 @@ use Rattle.nch_vectors.proofs.show_randoms.Statement.{statement}
 use Rattle.nch_vectors.proofs.show_randoms.Tie as tie
 
 abbrev Inv-loop : tie.InvT-loop
-Inv-loop r randoms i₀ i = i ≤ 9
+Inv-loop r randoms line₀ i₀ line i = i ≤ 9
 
 abbrev μ-loop : tie.MeasureT-loop
-μ-loop r randoms i₀ i = 9 - i
+μ-loop r randoms line₀ i₀ line i = 9 - i
 
 loop-holds : tie.Need-loop-holds Inv-loop μ-loop
 loop-holds c = search needs

@@ -3,7 +3,7 @@ use denote.Ref.{now}
 use mathlib.Core.Path.{_≡_, refl, _∙_}
 use Prim.Native.Nat.{_-_, _≤_}
 use lib.ListN.{length, getD, take, length-set}
-use Rattle.nch_write.proofs.Putting.{copied-next, copied}
+use Rattle.arrays.proofs.Filling.{copied-next, copied}
 use native.Mathlib.Omega.{arith}
 use Rattle.nch_write.proofs.copy.Statement.{statement}
 use Rattle.nch_write.proofs.copy.Tie as tie

@@ -9,7 +9,6 @@ use Rattle.nch.proofs.Releases.{range6, range7}
 use Rattle.nch.proofs.Record.{right, calls-right}
 use Rattle.nch_write.proofs.Putting.{flag-limit}
 use native.Mathlib.Omega.{arith}
-use borrow.Author.Needs.{needs}
 use Rattle.nch_write.proofs.put_all.Statement.{statement}
 use Rattle.nch_write.proofs.put_all.Tie as tie
 

@@ -8,7 +8,6 @@ use Rattle.csn1.proofs.Putting.{put-no, put-yes, put-both}
 use Rattle.nch.specs.Octets.{amr}
 use Rattle.nch.specs.Told.{amrValue}
 use native.Mathlib.Omega.{arith}
-use borrow.Author.Needs.{needs}
 use Rattle.nch_write.proofs.put_amr.Statement.{statement}
 use Rattle.nch_write.proofs.put_amr.Tie as tie
 

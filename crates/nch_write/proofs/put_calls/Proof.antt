@@ -8,7 +8,6 @@ use Rattle.call.specs.Call.{groupCall, callValue, noCall}
 use Rattle.nch.specs.Write.{callRight}
 use Rattle.nch_write.proofs.Putting.{all-at, call-put, call-short}
 use native.Mathlib.Omega.{arith}
-use borrow.Author.Needs.{needs}
 use Rattle.nch_write.proofs.put_calls.Statement.{statement}
 use Rattle.nch_write.proofs.put_calls.Tie as tie
 

@@ -5,7 +5,6 @@ use borrow.Author.Tests.{not-true, not-false}
 use Rattle.csn1.specs.Format.{num}
 use Rattle.csn1.proofs.Putting.{laid, laid-number, put-no, put-yes}
 use native.Mathlib.Omega.{arith}
-use borrow.Author.Needs.{needs}
 use Rattle.nch_write.proofs.put_flagged.Statement.{statement}
 use Rattle.nch_write.proofs.put_flagged.Tie as tie
 

@@ -5,7 +5,6 @@ use Prim.Native.Nat.{ℕ, _-_}
 use Rattle.bits.specs.Field.{afterPut}
 use Rattle.csn1.proofs.Lawful.{pad-lt}
 use native.Mathlib.Omega.{arith}
-use borrow.Author.Needs.{needs}
 use Rattle.nch_write.proofs.put_high.Statement.{statement}
 use Rattle.nch_write.proofs.put_high.Tie as tie
 

@@ -4,7 +4,6 @@ use mathlib.Core.Path.{_∙_, ap}
 use Rattle.bits.specs.Field.{afterPut}
 use Rattle.csn1.proofs.Putting.{low-none, low-bit}
 use native.Mathlib.Omega.{arith}
-use borrow.Author.Needs.{needs}
 use Rattle.nch_write.proofs.put_low.Statement.{statement}
 use Rattle.nch_write.proofs.put_low.Tie as tie
 

@@ -10,7 +10,6 @@ use Rattle.csn1.specs.Format.{num}
 use Rattle.csn1.specs.Told.{asBit}
 use Rattle.nch_write.proofs.Putting.{mark-put}
 use native.Mathlib.Omega.{arith}
-use borrow.Author.Needs.{needs}
 use Rattle.nch_write.proofs.put_marks.Statement.{statement}
 use Rattle.nch_write.proofs.put_marks.Tie as tie
 

@@ -11,7 +11,6 @@ use Rattle.nch.specs.Told.{randomValue, noRandom}
 use Rattle.nch.specs.Write.{randomInRange}
 use Rattle.nch_write.proofs.Putting.{all-at, flag-limit, random-put}
 use native.Mathlib.Omega.{arith}
-use borrow.Author.Needs.{needs}
 use Rattle.nch_write.proofs.put_randoms.Statement.{statement}
 use Rattle.nch_write.proofs.put_randoms.Tie as tie
 

@@ -12,7 +12,6 @@ use Rattle.nch.specs.Told.{reducedValue, noReduced}
 use Rattle.nch.specs.Write.{reducedInRange}
 use Rattle.nch_write.proofs.Putting.{all-at, reduced-put}
 use native.Mathlib.Omega.{arith}
-use borrow.Author.Needs.{needs}
 use Rattle.nch_write.proofs.put_reduceds.Statement.{statement}
 use Rattle.nch_write.proofs.put_reduceds.Tie as tie
 

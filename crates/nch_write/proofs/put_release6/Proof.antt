@@ -9,11 +9,10 @@ use Rattle.csn1.proofs.Putting.{put-low, put-high, put-both}
 use Rattle.nch.specs.Octets.{reduced, random, release6}
 use Rattle.nch.specs.Told.{release6Value}
 use Rattle.nch.specs.Write.{reducedInRange, reducedIsZero, randomInRange, randomIsZero}
-use Rattle.nch.proofs.Places.{places-good}
+use Rattle.nch.proofs.InPlaces.{places-good}
 use Rattle.nch.proofs.Releases.{right6}
 use Rattle.nch_write.proofs.Putting.{flag-limit}
 use native.Mathlib.Omega.{arith}
-use borrow.Author.Needs.{needs}
 use Rattle.nch_write.proofs.put_release6.Statement.{statement}
 use Rattle.nch_write.proofs.put_release6.Tie as tie
 

@@ -12,7 +12,6 @@ use Rattle.nch.specs.Told.{release7Value}
 use Rattle.nch.proofs.Releases.{right7}
 use Rattle.nch_write.proofs.Putting.{flag-limit}
 use native.Mathlib.Omega.{arith}
-use borrow.Author.Needs.{needs}
 use Rattle.nch_write.proofs.put_release7.Statement.{statement}
 use Rattle.nch_write.proofs.put_release7.Tie as tie
 

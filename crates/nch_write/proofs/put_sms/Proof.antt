@@ -8,7 +8,6 @@ use Rattle.csn1.proofs.Writing.{flag-lt}
 use Rattle.csn1.proofs.Putting.{put-no}
 use Rattle.nch_write.proofs.Putting.{sms-put}
 use native.Mathlib.Omega.{arith}
-use borrow.Author.Needs.{needs}
 use Rattle.nch_write.proofs.put_sms.Statement.{statement}
 use Rattle.nch_write.proofs.put_sms.Tie as tie
 

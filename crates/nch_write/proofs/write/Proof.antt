@@ -2,7 +2,6 @@
 use denote.Ref.{now}
 use Rattle.nch_write.proofs.Putting.{write-refused, write-long, write-elsewhere, write-done}
 use native.Mathlib.Omega.{arith}
-use borrow.Author.Needs.{needs}
 use Rattle.nch_write.proofs.write.Statement.{statement}
 use Rattle.nch_write.proofs.write.Tie as tie
 

@@ -25,6 +25,9 @@ array-copy-out-t c = search needs
 show-told-requires : tie.Need-show-told-requires Inv-loop μ-loop
 show-told-requires c κs = search needs
 
+end-requires : tie.Need-end-requires Inv-loop μ-loop
+end-requires c κs = search needs
+
 add-i : tie.Need-add-i Inv-loop μ-loop
 add-i c = search needs
 
@@ -48,6 +51,7 @@ answered-spec =
     mul-t
     array-copy-out-t
     show-told-requires
+    end-requires
     add-i
     loop-less
     loop-again

@@ -7,7 +7,7 @@ use lib.ListN.{length}
 use borrow.Author.Tests.{eq-eqb, ne-eqb, le-leb, lt-leb, not-true, not-false}
 use Rattle.gcc.specs.Octet.{within}
 use Rattle.gcc.specs.Cause.{partsOf, right, writeNumber, writeTo}
-use Rattle.gcc.proofs.Tests.{both-true}
+use Rattle.bits.proofs.Answers.{both-true}
 use borrow.Author.Needs.{needs}
 use Rattle.gcc.proofs.cause.write.Statement.{statement}
 use Rattle.gcc.proofs.cause.write.Tie as tie

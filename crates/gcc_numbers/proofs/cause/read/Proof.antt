@@ -1,6 +1,6 @@
 -- `gcc_numbers::cause::read` meets its contract. Assumes nothing.
 use denote.Ref.{now}
-use mathlib.Core.Path.{refl, sym}
+use mathlib.Core.Path.{refl}
 use lib.ListN.{length}
 use native.Mathlib.Omega.{arith}
 use Rattle.gcc_numbers.proofs.CauseNumbers.{meaning-two, told-cause}

@@ -1,44 +1,52 @@
 -- `lent::events::accept_facch` meets its contract. Assumes nothing.
-use mathlib.Core.Path.{refl}
-use Rattle.lent.proofs.Feeding.{accepted-by}
-use mathlib.Core.List.{[], _∷_}
-use Rattle.lent.specs.Layout.{decodeOf}
-use Rattle.receiver.specs.Entries.{facchEntry}
-use Rattle.receiver.specs.declared.Rule.the-variants.{Keep}
 use native.Mathlib.Omega.{arith}
 use borrow.Author.Needs.{needs}
+use Rattle.receiver.specs.Entries.{facchEntries}
+use Rattle.lent.proofs.Feeding.{accepted-by, cell-read}
 use Rattle.lent.proofs.events.accept_facch.Statement.{statement}
 use Rattle.lent.proofs.events.accept_facch.Tie as tie
 
-slice-read-nln : tie.Need-slice-read-nln
-slice-read-nln c = search needs
+cell-of-requires : tie.Need-cell-of-requires
+cell-of-requires c κs = tt
+
+keep-requires : tie.Need-keep-requires
+keep-requires c κs = tt
 
 sweep-requires : tie.Need-sweep-requires
-sweep-requires c κs = search needs
+sweep-requires c κs = tt
 
 tell-facch-requires : tie.Need-tell-facch-requires
 tell-facch-requires c κs = search needs
 
 put-head-requires : tie.Need-put-head-requires
-put-head-requires c κs = search needs
+put-head-requires c κs = tt
 
 same-length : tie.Need-same-length
 same-length c = search needs
 
 returns : tie.Need-returns
-unfolding decodeOf
+unfolding facchEntries
 returns c =
-    let a = c .before .before .before .before .before .before .before .before .before .before .before .before .before .before .args in
+    let c2 = c .before .before in
+    let c6 = c2 .before .before .before .before in
+    let c10 = c6 .before .before .before .before in
+    let c11 = c10 .before in
+    let c13 = c11 .before .before in
+    let c16 = c13 .before .before .before in
+    let a = c16 .args in
     let l = a .b .now in
-    let s = c .before .before .before .before .before .before .before .before .before .before .sweep in
-    accepted-by l (a .time) Keep (decodeOf l .nln) 1 (facchEntry (a .m) ∷ []) _ _ _ _ _ 1 (c .before .before .before .before .before .before .before .before .before .before .before .before .before .before .pre) (omega arith) (omega (arith, c .before .before .before .before .before .before .before .before .before .before .before .before .before .slice-known .given 12)) (omega arith) (omega arith) (omega arith)
-    (s .ensures .0) (s .ensures .1 .0) refl (s .ensures .1 .1) (c .before .before .before .before .before .before .tell-facch .ensures) (c .before .before .put-head .ensures)
+    let s = c10 .sweep in
+    let t = c6 .tell-facch .ensures in
+    rw (← c11 .keep .ensures, ← cell-read l (c16 .pre) _ (c13 .cell-of .ensures))
+    (accepted-by l (a .time) _ _ 1 (facchEntries (a .m)) (c16 .pre) (omega arith) _ _ _ _ _ _ (s .ensures) (omega (arith, s .ok)) (omega (arith, s .ok)) (t .0)
+    (omega (arith, t .0)) (t .1) (c2 .put-head .ensures))
 
 pub accept-facch-spec : {M : Type 1} → statement M
 accept-facch-spec =
     tie.close
     (tie.spec
-    slice-read-nln
+    cell-of-requires
+    keep-requires
     sweep-requires
     tell-facch-requires
     put-head-requires

@@ -1,42 +1,76 @@
 -- `lent::events::joined` meets its contract. Assumes nothing.
-use mathlib.Core.Path.{sym, _∙_}
-use Rattle.lent.proofs.Feeding.{early-first, early-none, fed-refused, fed-accepted, joined-out, joined-in}
-use Rattle.receiver.specs.Step.{joined}
+use mathlib.Core.Path.{refl, ap, _∙_}
+use mathlib.Core.Bool.{true}
+use Prim.Native.Nat.{ℕ}
 use native.Mathlib.Omega.{arith}
 use borrow.Author.Needs.{needs}
+use Rattle.receiver.specs.Channels.{keyCount, Channel}
+use Rattle.receiver.specs.Model.{indexOf, ruleFor}
+use Rattle.receiver.specs.Step.{joining, plainly, joined}
+use Rattle.layout.specs.Layout.{keysIn}
+use Rattle.layout.proofs.States.{at-state}
+use Rattle.lent.proofs.Feeding.{fed-early, whole-then, fed-refused, cell-then, fed-accepted, joined-out, joined-in}
 use Rattle.lent.proofs.events.joined.Statement.{statement}
 use Rattle.lent.proofs.events.joined.Tie as tie
 
 early-requires : tie.Need-early-requires
-early-requires c κs = search needs
+early-requires c κs = tt
 
 same-length : tie.Need-same-length
 same-length c = search needs
 
 returns : tie.Need-returns
-returns c = let a = c .before .before .before .before .args in let e = joined (a .time) (a .key) in fed-refused (a .b .now) e _ (early-first (a .b .now) e _ (c .before .early .ensures) (c .if1 .taken)) (c .if1 .taken)
+returns c = let a = c .before .before .before .before .args in fed-early (a .b .now) (joined (a .time) (a .key)) _ (c .before .early .ensures) (c .if1 .taken)
 
 same-length-2 : tie.Need-same-length-2
 same-length-2 c = search needs
 
 returns-2 : tie.Need-returns-2
-returns-2 c = let a = c .before .before .before .before .before .args in let e = joined (a .time) (a .key) in fed-refused (a .b .now) e 4 (sym (early-none (a .b .now) e _ (c .before .before .early .ensures) (c .before .if1 .left) .1 ∙ joined-out (a .time) (a .key) (c .if2 .taken))) (λ z. omega (arith, z))
+returns-2 c =
+    let c1 = c .before in
+    let c2 = c1 .before in
+    let c5 = c2 .before .before .before in
+    let a = c5 .args in
+    fed-refused (a .b .now) (joined (a .time) (a .key)) _ (c2 .early .ensures) (c1 .if1 .left) 4 (joined-out (a .key) (c .if2 .taken)) (λ z. omega (arith, z))
+
+cell-of-requires : tie.Need-cell-of-requires
+cell-of-requires c κs = tt
 
 index-of-requires : tie.Need-index-of-requires
-index-of-requires c κs = let a = c .before .before .before .before .before .before .args in early-none (a .b .now) (joined (a .time) (a .key)) _ (c .before .before .before .early .ensures) (c .before .before .if1 .left) .0
+index-of-requires c κs = tt
+
+join-rule-requires : tie.Need-join-rule-requires
+join-rule-requires c κs = tt
 
 accept-requires : tie.Need-accept-requires
-accept-requires c κs = let a = c .before .before .before .before .before .before .before .before .args in early-none (a .b .now) (joined (a .time) (a .key)) _ (c .before .before .before .before .before .early .ensures) (c .before .before .before .before .if1 .left) .0
+accept-requires c κs =
+    let c7 = c .before .before .before .before .before .before .before in
+    let c8 = c7 .before in
+    let c11 = c8 .before .before .before in
+    let a = c11 .args in
+    whole-then (a .b .now) (joined (a .time) (a .key)) _ (c8 .early .ensures) (c7 .if1 .left)
 
 same-length-3 : tie.Need-same-length-3
 same-length-3 c = search needs
 
 returns-3 : tie.Need-returns-3
 returns-3 c =
-    let a = c .before .before .before .before .before .before .before .before .before .before .before .args in
+    let c2 = c .before .before in
+    let c3 = c2 .before in
+    let c5 = c3 .before .before in
+    let c7 = c5 .before .before in
+    let c9 = c7 .before .before in
+    let c10 = c9 .before in
+    let c11 = c10 .before in
+    let c14 = c11 .before .before .before in
+    let a = c14 .args in
     let l = a .b .now in
     let e = joined (a .time) (a .key) in
-    fed-accepted l e _ (early-none l e _ (c .before .before .before .before .before .before .before .before .early .ensures) (c .before .before .before .before .before .before .before .if1 .left) .1 ∙ joined-in (a .time) (a .key) (c .before .before .before .before .before .before .if2 .left)) (rw (← c .before .before .before .before .index-of .ensures) (c .before .before .accept .ensures))
+    let q = c11 .early .ensures in
+    let z = c10 .if1 .left in
+    let i = c5 .index-of .ensures ∙ at-state l (indexOf (keysIn l) (a .key)) keyCount (whole-then l e _ q z) in
+    fed-accepted l e _ q z _ _ _ (joined-in (a .key) (c9 .if2 .left)) (plainly (joining (a .key))) refl
+    (c3 .join-rule .ensures ∙ ap (λ (x : ℕ). ruleFor (λ (y : Channel). true) x) i) (cell-then l e _ q z _ (c7 .cell-of .ensures)) (c2 .accept .ensures)
 
 pub joined-spec : {M : Type 1} → statement M
 joined-spec =
@@ -47,7 +81,9 @@ joined-spec =
     returns
     same-length-2
     returns-2
+    cell-of-requires
     index-of-requires
+    join-rule-requires
     accept-requires
     same-length-3
     returns-3)

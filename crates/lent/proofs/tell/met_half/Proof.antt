@@ -1,116 +1,142 @@
 -- `lent::tell::met_half` meets its contract. Assumes nothing.
-use mathlib.Core.Path.{refl, sym, _∙_}
-use native.Mathlib.Omega.{arith}
+use mathlib.Core.Path.{sym, _∙_}
 use borrow.Author.Tests.{not-true, not-false, eq-eqb, ne-eqb}
 use borrow.Author.Needs.{needs}
 use Rattle.lent.proofs.Outcomes.{left-again, left-apart, left-joined}
 use Rattle.lent.proofs.tell.met_half.Statement.{statement}
 use Rattle.lent.proofs.tell.met_half.Tie as tie
 
-mul-at : tie.Need-mul-at
-mul-at c = search needs
-
-add-at : tie.Need-add-at
-add-at c = search needs
+place-on-requires : tie.Need-place-on-requires
+place-on-requires c κs = search needs
 
 key-of-requires : tie.Need-key-of-requires
-key-of-requires c κs = search needs
+key-of-requires c κs = tt
 
-add-if1 : tie.Need-add-if1
-add-if1 c = search needs
-
-slice-read-if1 : tie.Need-slice-read-if1
-slice-read-if1 c = search needs
+half-at-requires : tie.Need-half-at-requires
+half-at-requires c κs = tt
 
 put-number-requires : tie.Need-put-number-requires
-put-number-requires c κs = search needs
+put-number-requires c κs = tt
 
 same-length : tie.Need-same-length
 same-length c = search needs
 
 returns : tie.Need-returns
 returns c =
-    let s = c .before .before .before .before .before .before .before .before .before in
-    let a = s .args in
-    left-again (a .b .now) (a .ch) (a .j) (a .i) (a .half) (a .e) (s .pre .1 .1 .1 .1 .0) _ _ (c .before .before .before .before .before .before .key-of .ensures) (c .before .before .before .before .if1 .taken) (c .before .before .put-number .ensures)
+    let c2 = c .before .before in
+    let c4 = c2 .before .before in
+    let c5 = c4 .before in
+    let c7 = c5 .before .before in
+    let c9 = c7 .before .before in
+    let c11 = c9 .before .before in
+    let a = c11 .args in
+    let p = c11 .pre in
+    left-again (a .b .now) (a .ch) (a .j) (a .i) _ (a .half) (a .e) (p .0) (p .1 .1 .0) (c9 .place-on .ensures) (p .1 .1 .1 .1 .0) _ (c7 .key-of .ensures) _
+    (c5 .half-at .ensures) _ (c4 .if1 .taken) (c2 .put-number .ensures)
 
-mul-record-at : tie.Need-mul-record-at
-mul-record-at c = search needs
-
-add-record-at : tie.Need-add-record-at
-add-record-at c = search needs
-
-record-at-requires : tie.Need-record-at-requires
-record-at-requires c κs = search needs
+held-at-requires : tie.Need-held-at-requires
+held-at-requires c κs = tt
 
 agrees-requires : tie.Need-agrees-requires
-agrees-requires c κs = search needs
+agrees-requires c κs = tt
 
 put-number-requires-2 : tie.Need-put-number-requires-2
-put-number-requires-2 c κs = search needs
+put-number-requires-2 c κs = tt
 
 same-length-2 : tie.Need-same-length-2
 same-length-2 c = search needs
 
 returns-2 : tie.Need-returns-2
 returns-2 c =
-    let s = c .before .before .before .before .before .before .before .before .before .before .before .before .before in
-    let a = s .args in
-    left-apart (a .b .now) (a .ch) (a .j) (a .i) (a .half) (a .e) (s .pre .1 .1 .1 .1 .0) (c .before .before .before .before .before .before .before .before .if1 .left) _ _ _ (c .before .before .before .before .before .before .before .before .before .before .key-of .ensures) (c .before .before .before .before .before .before .record-at .ensures)
-    (sym (c .before .before .before .before .before .agrees .ensures) ∙ not-true (c .before .before .before .before .before .agrees .result) (c .before .before .before .before .if2 .taken)) (c .before .before .put-number2 .ensures)
+    let c2 = c .before .before in
+    let c4 = c2 .before .before in
+    let c5 = c4 .before in
+    let c6 = c5 .before in
+    let c8 = c6 .before .before in
+    let c9 = c8 .before in
+    let c11 = c9 .before .before in
+    let c13 = c11 .before .before in
+    let c15 = c13 .before .before in
+    let a = c15 .args in
+    let p = c15 .pre in
+    let g = c5 .agrees in
+    left-apart (a .b .now) (a .ch) (a .j) (a .i) _ (a .half) (a .e) (p .0) (p .1 .1 .0) (c13 .place-on .ensures) (p .1 .1 .1 .1 .0) _ (c11 .key-of .ensures) _
+    (c9 .half-at .ensures) (c8 .if1 .left) _ (c6 .held-at .ensures) _ (sym (g .ensures) ∙ not-true (g .result) (c4 .if2 .taken)) (c2 .put-number2 .ensures)
 
 clear-requires : tie.Need-clear-requires
-clear-requires c κs = search needs
+clear-requires c κs = tt
 
 join-requires : tie.Need-join-requires
-join-requires c κs = search needs
+join-requires c κs = tt
 
 put-told-requires : tie.Need-put-told-requires
-put-told-requires c κs = (omega (arith, c .before .before .before .before .b3 .given, c .before .before .before .before .before .before .before .before .before .before .before .before .before .before .before .before .pre .0), (c .before .before .before .before .before .before .before .before .before .before .before .before .before .before .before .before .pre .1 .1 .0, refl))
+put-told-requires c κs = tt
 
 same-length-3 : tie.Need-same-length-3
 same-length-3 c = search needs
 
 returns-3 : tie.Need-returns-3
 returns-3 c =
-    let s = c .before .before .before .before .before .before .before .before .before .before .before .before .before .before .before .before .before .before .before in
-    let a = s .args in
-    left-joined (a .b .now) (a .ch) (a .j) (a .i) (a .half) (a .e) (s .pre .1 .1 .1 .1 .0) (c .before .before .before .before .before .before .before .before .before .before .before .before .before .before .if1 .left) _ _ _ _ _ (c .before .before .before .before .before .before .before .before .before .before .before .before .before .before .before .before .key-of .ensures) (c .before .before .before .before .before .before .before .before .before .before .before .before .record-at .ensures)
-    (sym (c .before .before .before .before .before .before .before .before .before .before .before .agrees .ensures) ∙ not-false (c .before .before .before .before .before .before .before .before .before .before .before .agrees .result) (c .before .before .before .before .before .before .before .before .before .before .if2 .left)) (rw (eq-eqb (a .half) 1 (c .before .before .before .before .before .if3 .taken)) (c .before .before .before .join .ensures))
-    (c .before .before .before .before .before .before .before .before .clear .ensures) (c .before .before .put-told .ensures)
+    let c2 = c .before .before in
+    let c3 = c2 .before in
+    let c5 = c3 .before .before in
+    let c8 = c5 .before .before .before in
+    let c10 = c8 .before .before in
+    let c11 = c10 .before in
+    let c12 = c11 .before in
+    let c14 = c12 .before .before in
+    let c15 = c14 .before in
+    let c17 = c15 .before .before in
+    let c19 = c17 .before .before in
+    let c21 = c19 .before .before in
+    let a = c21 .args in
+    let p = c21 .pre in
+    let g = c11 .agrees in
+    left-joined (a .b .now) (a .ch) (a .j) (a .i) _ (a .half) (a .e) (p .0) (p .1 .1 .0) (c19 .place-on .ensures) (p .1 .1 .1 .1 .0) _ (c17 .key-of .ensures) _
+    (c15 .half-at .ensures) (c14 .if1 .left) _ (c12 .held-at .ensures) _ _ _ (sym (g .ensures) ∙ not-false (g .result) (c10 .if2 .left))
+    (rw (eq-eqb (a .half) 1 (c5 .if3 .taken)) (c3 .join .ensures)) (c8 .clear .ensures) (c2 .put-told .ensures)
 
 join-requires-2 : tie.Need-join-requires-2
-join-requires-2 c κs = search needs
+join-requires-2 c κs = tt
 
 put-told-requires-2 : tie.Need-put-told-requires-2
-put-told-requires-2 c κs = (omega (arith, c .before .before .before .before .b3 .given, c .before .before .before .before .before .before .before .before .before .before .before .before .before .before .before .before .pre .0), (c .before .before .before .before .before .before .before .before .before .before .before .before .before .before .before .before .pre .1 .1 .0, refl))
+put-told-requires-2 c κs = tt
 
 same-length-4 : tie.Need-same-length-4
 same-length-4 c = search needs
 
 returns-4 : tie.Need-returns-4
 returns-4 c =
-    let s = c .before .before .before .before .before .before .before .before .before .before .before .before .before .before .before .before .before .before .before in
-    let a = s .args in
-    left-joined (a .b .now) (a .ch) (a .j) (a .i) (a .half) (a .e) (s .pre .1 .1 .1 .1 .0) (c .before .before .before .before .before .before .before .before .before .before .before .before .before .before .if1 .left) _ _ _ _ _ (c .before .before .before .before .before .before .before .before .before .before .before .before .before .before .before .before .key-of .ensures) (c .before .before .before .before .before .before .before .before .before .before .before .before .record-at .ensures)
-    (sym (c .before .before .before .before .before .before .before .before .before .before .before .agrees .ensures) ∙ not-false (c .before .before .before .before .before .before .before .before .before .before .before .agrees .result) (c .before .before .before .before .before .before .before .before .before .before .if2 .left)) (rw (ne-eqb (a .half) 1 (c .before .before .before .before .before .if3 .left)) (c .before .before .before .join2 .ensures))
-    (c .before .before .before .before .before .before .before .before .clear .ensures) (c .before .before .put-told2 .ensures)
+    let c2 = c .before .before in
+    let c3 = c2 .before in
+    let c5 = c3 .before .before in
+    let c8 = c5 .before .before .before in
+    let c10 = c8 .before .before in
+    let c11 = c10 .before in
+    let c12 = c11 .before in
+    let c14 = c12 .before .before in
+    let c15 = c14 .before in
+    let c17 = c15 .before .before in
+    let c19 = c17 .before .before in
+    let c21 = c19 .before .before in
+    let a = c21 .args in
+    let p = c21 .pre in
+    let g = c11 .agrees in
+    left-joined (a .b .now) (a .ch) (a .j) (a .i) _ (a .half) (a .e) (p .0) (p .1 .1 .0) (c19 .place-on .ensures) (p .1 .1 .1 .1 .0) _ (c17 .key-of .ensures) _
+    (c15 .half-at .ensures) (c14 .if1 .left) _ (c12 .held-at .ensures) _ _ _ (sym (g .ensures) ∙ not-false (g .result) (c10 .if2 .left))
+    (rw (ne-eqb (a .half) 1 (c5 .if3 .left)) (c3 .join2 .ensures)) (c8 .clear .ensures) (c2 .put-told2 .ensures)
 
 pub met-half-spec : {M : Type 1} → statement M
 met-half-spec =
     tie.close
     (tie.spec
-    mul-at
-    add-at
+    place-on-requires
     key-of-requires
-    add-if1
-    slice-read-if1
+    half-at-requires
     put-number-requires
     same-length
     returns
-    mul-record-at
-    add-record-at
-    record-at-requires
+    held-at-requires
     agrees-requires
     put-number-requires-2
     same-length-2

@@ -1,116 +1,164 @@
 -- `lent::tell::ours` meets its contract. Assumes nothing.
-use mathlib.Core.Path.{_≡_}
+use mathlib.Core.Path.{_≡_, sym, _∙_}
+use mathlib.Core.Bool.{true}
 use mathlib.Core.Logic.{⊎-elim}
-use Prim.Native.Nat.{_≤_}
 use native.Mathlib.Omega.{arith}
+use borrow.Author.Tests.{not-true, not-false}
 use borrow.Author.Needs.{needs}
-use Rattle.receiver.proofs.Classes.{class-least}
-use Rattle.lent.proofs.Outcomes.{carried, bare, left-whole, left-none, place-held, left-half, left-early, left-stored}
+use Rattle.receiver.specs.Channels.{leads}
+use Rattle.lent.proofs.Outcomes.{left-whole, left-none, place-held, left-half, left-early, left-stored}
 use Rattle.lent.proofs.tell.ours.Statement.{statement}
 use Rattle.lent.proofs.tell.ours.Tie as tie
 
 key-of-requires : tie.Need-key-of-requires
-key-of-requires c κs = search needs
+key-of-requires c κs = tt
 
 class-requires : tie.Need-class-requires
-class-requires c κs = search needs
+class-requires c κs = tt
 
 put-told-requires : tie.Need-put-told-requires
-put-told-requires c κs =
-    let s = c .before .before .before .before .before .before in
-    (s .pre .0, (s .pre .1 .1 .0, carried (c .before .before .class .result) (omega (arith, c .before .before .class .ensures, class-least (s .args .ch) (s .args .e))) (omega (arith, c .before .if1 .taken))))
+put-told-requires c κs = tt
 
 same-length : tie.Need-same-length
 same-length c = search needs
 
 returns : tie.Need-returns
 returns c =
-    let s = c .before .before .before .before .before .before .before .before .before in
-    let a = s .args in
-    left-whole (a .b .now) (a .ch) (a .tick) (a .j) (a .i) (a .e) _ _ (c .before .before .before .before .before .before .key-of .ensures) (c .before .before .before .before .before .class .ensures) _ (c .before .before .before .before .if1 .taken) (c .before .before .put-told .ensures)
+    let c2 = c .before .before in
+    let c4 = c2 .before .before in
+    let c5 = c4 .before in
+    let c6 = c5 .before in
+    let c9 = c6 .before .before .before in
+    let a = c9 .args in
+    let p = c9 .pre in
+    left-whole (a .b .now) (a .ch) (a .tick) (a .j) (a .i) (a .e) (p .0) (p .1 .1 .0) _ _ (c6 .key-of .ensures) (c5 .class .ensures) _
+    (c4 .if1 .taken) (c2 .put-told .ensures)
 
 put-number-requires : tie.Need-put-number-requires
-put-number-requires c κs =
-    let s = c .before .before .before .before .before .before .before in
-    (s .pre .0, (s .pre .1 .1 .0, bare (c .before .before .before .class .result) (omega (arith, c .before .if2 .taken))))
+put-number-requires c κs = tt
 
 same-length-2 : tie.Need-same-length-2
 same-length-2 c = search needs
 
 returns-2 : tie.Need-returns-2
 returns-2 c =
-    let s = c .before .before .before .before .before .before .before .before .before .before in
-    let a = s .args in
-    left-none (a .b .now) (a .ch) (a .tick) (a .j) (a .i) (a .e) _ _ (c .before .before .before .before .before .before .before .key-of .ensures) (c .before .before .before .before .before .before .class .ensures) _ (c .before .before .before .before .if2 .taken) (c .before .before .put-number .ensures)
+    let c2 = c .before .before in
+    let c4 = c2 .before .before in
+    let c6 = c4 .before .before in
+    let c7 = c6 .before in
+    let c10 = c7 .before .before .before in
+    let a = c10 .args in
+    let p = c10 .pre in
+    left-none (a .b .now) (a .ch) (a .tick) (a .j) (a .i) (a .e) (p .0) (p .1 .1 .0) _ _ (c7 .key-of .ensures) (c6 .class .ensures) _
+    (c4 .if2 .taken) (c2 .put-number .ensures)
 
-mul-at : tie.Need-mul-at
-mul-at c = search needs
+place-on-requires : tie.Need-place-on-requires
+place-on-requires c κs = search needs
 
-add-at : tie.Need-add-at
-add-at c = search needs
-
-add-if3 : tie.Need-add-if3
-add-if3 c = search needs
-
-slice-read-if3 : tie.Need-slice-read-if3
-slice-read-if3 c = search needs
+half-at-requires : tie.Need-half-at-requires
+half-at-requires c κs = tt
 
 sub-met-half : tie.Need-sub-met-half
 sub-met-half c = search needs
 
 met-half-requires : tie.Need-met-half-requires
 met-half-requires c κs =
-    let s = c .before .before .before .before .before .before .before .before .before in
-    let a = s .args in
-    let lo : 3 ≤ c .before .before .before .before .before .class .result = omega (arith, c .before .before .before .before .if1 .left) in
-    let hi : c .before .before .before .before .before .class .result ≤ 4 = omega (arith, c .before .before .before .if2 .left) in
-    (s .pre .0, (s .pre .1 .0, (s .pre .1 .1 .0, (s .pre .1 .1 .1, (place-held (a .b .now) (a .ch) (a .tick) (a .j) (a .i) (a .e) _ _ (c .before .before .before .before .before .before .key-of .ensures) (c .before .before .before .before .before .class .ensures) lo hi (c .before .if3 .taken), (omega arith, omega arith))))))
+    let c1 = c .before in
+    let c2 = c1 .before in
+    let c4 = c2 .before .before in
+    let c5 = c4 .before in
+    let c6 = c5 .before in
+    let c7 = c6 .before in
+    let c8 = c7 .before in
+    let c11 = c8 .before .before .before in
+    let a = c11 .args in
+    let p = c11 .pre in
+    let n =
+    place-held (a .b .now) (a .ch) (a .tick) (a .j) (a .i) (a .e) (p .0) (p .1 .1 .0) _ _ (c8 .key-of .ensures) (c7 .class .ensures) _ (c4 .place-on .ensures)
+    (c6 .if1 .left) (c5 .if2 .left) _ (c2 .half-at .ensures) (c1 .if3 .taken)
+    in
+    (p .0, (p .1 .0, (p .1 .1 .0, (p .1 .1 .1, (n, (omega (arith, c6 .if1 .left), omega (arith, c5 .if2 .left)))))))
 
 same-length-3 : tie.Need-same-length-3
 same-length-3 c = search needs
 
 returns-3 : tie.Need-returns-3
 returns-3 c =
-    let s = c .before .before .before .before .before .before .before .before .before .before .before .before in
-    let a = s .args in
-    let lo : 3 ≤ c .before .before .before .before .before .before .before .before .class .result = omega (arith, c .before .before .before .before .before .before .before .if1 .left) in
-    let hi : c .before .before .before .before .before .before .before .before .class .result ≤ 4 = omega (arith, c .before .before .before .before .before .before .if2 .left) in
-    left-half (a .b .now) (a .ch) (a .tick) (a .j) (a .i) (a .e) _ _ (c .before .before .before .before .before .before .before .before .before .key-of .ensures) (c .before .before .before .before .before .before .before .before .class .ensures) lo hi _ (c .before .before .before .before .if3 .taken) (c .before .before .met-half .ensures)
+    let c2 = c .before .before in
+    let c4 = c2 .before .before in
+    let c5 = c4 .before in
+    let c7 = c5 .before .before in
+    let c8 = c7 .before in
+    let c9 = c8 .before in
+    let c10 = c9 .before in
+    let c11 = c10 .before in
+    let c14 = c11 .before .before .before in
+    let a = c14 .args in
+    let p = c14 .pre in
+    left-half (a .b .now) (a .ch) (a .tick) (a .j) (a .i) (a .e) (p .0) (p .1 .1 .0) _ _ (c11 .key-of .ensures) (c10 .class .ensures) _
+    (c7 .place-on .ensures) (c9 .if1 .left) (c8 .if2 .left) _ (c5 .half-at .ensures) _ (c4 .if3 .taken) (c2 .met-half .ensures)
+
+leads-requires : tie.Need-leads-requires
+leads-requires c κs = tt
 
 put-number-requires-2 : tie.Need-put-number-requires-2
-put-number-requires-2 c κs = search needs
+put-number-requires-2 c κs = tt
 
 same-length-4 : tie.Need-same-length-4
 same-length-4 c = search needs
 
 returns-4 : tie.Need-returns-4
 returns-4 c =
-    let s = c .before .before .before .before .before .before .before .before .before .before .before .before .before .before in
-    let a = s .args in
-    let lo : 3 ≤ c .before .before .before .before .before .before .before .before .before .before .class .result = omega (arith, c .before .before .before .before .before .before .before .before .before .if1 .left) in
-    let hi : c .before .before .before .before .before .before .before .before .before .before .class .result ≤ 4 = omega (arith, c .before .before .before .before .before .before .before .before .if2 .left) in
-    left-early (a .b .now) (a .ch) (a .tick) (a .j) (a .i) (a .e) _ _ (c .before .before .before .before .before .before .before .before .before .before .before .key-of .ensures) (c .before .before .before .before .before .before .before .before .before .before .class .ensures) lo hi (c .before .before .before .before .before .before .if3 .left) _ (c .before .before .before .before .before .if4 .taken) (c .before .before .before .before .if5 .taken) (c .before .before .put-number2 .ensures)
+    let c2 = c .before .before in
+    let c4 = c2 .before .before in
+    let c5 = c4 .before in
+    let c6 = c5 .before in
+    let c7 = c6 .before in
+    let c8 = c7 .before in
+    let c10 = c8 .before .before in
+    let c11 = c10 .before in
+    let c12 = c11 .before in
+    let c13 = c12 .before in
+    let c14 = c13 .before in
+    let c17 = c14 .before .before .before in
+    let a = c17 .args in
+    let p = c17 .pre in
+    left-early (a .b .now) (a .ch) (a .tick) (a .j) (a .i) (a .e) (p .0) (p .1 .1 .0) _ _ (c14 .key-of .ensures) (c13 .class .ensures) _
+    (c10 .place-on .ensures) (c12 .if1 .left) (c11 .if2 .left) _ (c8 .half-at .ensures) (c7 .if3 .left) _ (c6 .if4 .taken)
+    (sym (c5 .leads .ensures) ∙ not-true (c5 .leads .result) (c4 .if5 .taken)) (c2 .put-number2 .ensures)
 
 sub-store : tie.Need-sub-store
 sub-store c = search needs
 
 store-requires : tie.Need-store-requires
-store-requires c κs = search needs
+store-requires c κs = tt
 
 put-number-requires-3 : tie.Need-put-number-requires-3
-put-number-requires-3 c κs = search needs
+put-number-requires-3 c κs = tt
 
 same-length-5 : tie.Need-same-length-5
 same-length-5 c = search needs
 
 returns-5 : tie.Need-returns-5
 returns-5 c =
-    let s = c .before .before .before .before .before .before .before .before .before .before .before .before .before .before .before .before .before in
-    let a = s .args in
-    let lo : 3 ≤ c .before .before .before .before .before .before .before .before .before .before .before .before .before .class .result = omega (arith, c .before .before .before .before .before .before .before .before .before .before .before .before .if1 .left) in
-    let hi : c .before .before .before .before .before .before .before .before .before .before .before .before .before .class .result ≤ 4 = omega (arith, c .before .before .before .before .before .before .before .before .before .before .before .if2 .left) in
-    let f : c .before .before .before .before .before .before .before .before .before .before .before .before .before .class .result ≡ 4 → a .ch ≡ 0 = λ q. ⊎-elim (λ w. omega arith) (λ w. omega arith) (c .before .before .before .before .before .before .before .before .if4 .came) in
-    left-stored (a .b .now) (a .ch) (a .tick) (a .j) (a .i) (a .e) _ _ (c .before .before .before .before .before .before .before .before .before .before .before .before .before .before .key-of .ensures) (c .before .before .before .before .before .before .before .before .before .before .before .before .before .class .ensures) lo hi (c .before .before .before .before .before .before .before .before .before .if3 .left) _ _ f (c .before .before .before .before .before .before .store .ensures) (c .before .before .put-number3 .ensures)
+    let c2 = c .before .before in
+    let c6 = c2 .before .before .before .before in
+    let c8 = c6 .before .before in
+    let c9 = c8 .before in
+    let c10 = c9 .before in
+    let c12 = c10 .before .before in
+    let c13 = c12 .before in
+    let c14 = c13 .before in
+    let c15 = c14 .before in
+    let c16 = c15 .before in
+    let c19 = c16 .before .before .before in
+    let a = c19 .args in
+    let p = c19 .pre in
+    let f : c15 .class .result ≡ 4 → leads (a .ch) ≡ true =
+    λ q. ⊎-elim (λ w. sym (w .1 .ensures) ∙ not-false (w .1 .result) (w .2 .left)) (λ w. absurd (w .left q)) (c8 .if4 .came)
+    in
+    left-stored (a .b .now) (a .ch) (a .tick) (a .j) (a .i) (a .e) (p .0) (p .1 .1 .0) _ _ (c16 .key-of .ensures) (c15 .class .ensures) _ (c12 .place-on .ensures)
+    (c14 .if1 .left) (c13 .if2 .left) _ (c10 .half-at .ensures) (c9 .if3 .left) _ _ f (c6 .store .ensures) (c2 .put-number3 .ensures)
 
 pub ours-spec : {M : Type 1} → statement M
 ours-spec =
@@ -124,14 +172,13 @@ ours-spec =
     put-number-requires
     same-length-2
     returns-2
-    mul-at
-    add-at
-    add-if3
-    slice-read-if3
+    place-on-requires
+    half-at-requires
     sub-met-half
     met-half-requires
     same-length-3
     returns-3
+    leads-requires
     put-number-requires-2
     same-length-4
     returns-4

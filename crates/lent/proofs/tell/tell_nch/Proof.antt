@@ -1,183 +1,254 @@
 -- `lent::tell::tell_nch` meets its contract. Assumes nothing.
-use mathlib.Core.Path.{_≡_, refl, sym, ap₂, _∙_}
-use mathlib.Core.Logic.{⊎-elim, inl, inr}
-use Prim.Native.Nat.{_+_, _≤_, _<_, _-_, min}
+use mathlib.Core.List.{List}
+use Prim.Native.Nat.{ℕ, _+_, _≤_, _-_}
 use native.Mathlib.Omega.{arith}
-use lib.ListN.{length, length-map}
-use borrow.Author.Needs.{needs}
-use Rattle.receiver.specs.Entries.{nchEntries}
+use lib.Dec.{leb}
+use lib.ListN.{getD}
+use denote.Ref.{now}
 use Rattle.csn1.proofs.Writing.{byte-lt}
+use Rattle.nch.specs.NotificationNumbers.{recordFrom}
 use Rattle.lent.proofs.Tellings.{all-length}
-use Rattle.lent.proofs.Messages.{entries-count, Told-to, none-told, few-owned, all-told, turn}
+use Rattle.lent.proofs.Messages.{Told-to, none-told, all-told}
+use Rattle.lent.proofs.FromNumbers.{callAt, entries-are, call-asks, call-next, turn-call, reduced-asks, turn-reduced}
 use Rattle.lent.proofs.tell.tell_nch.Statement.{statement}
 use Rattle.lent.proofs.tell.tell_nch.Tie as tie
 
-abbrev Inv-loop : tie.InvT-loop
-Inv-loop b₀ tick m calls reduced randoms marks common n count random₀ mark₀ i₀ b random mark i = (i ≤ count) × Told-to b₀ tick m random mark i b
+abbrev Inv-calls : tie.InvT-calls
+Inv-calls b₀ tick m n count random₀ mark₀ i₀ b random mark i = (i ≤ n) × Told-to b₀ tick (recordFrom m) random mark i b
 
-abbrev μ-loop : tie.MeasureT-loop
-μ-loop b₀ tick m calls reduced randoms marks common n count random₀ mark₀ i₀ b random mark i = count - i
+abbrev μ-calls : tie.MeasureT-calls
+μ-calls b₀ tick m n count random₀ mark₀ i₀ b random mark i = n - i
 
-four : (c : tie.Start Inv-loop μ-loop) → length (c .args .m .calls) ≡ 4
-four c = sym (length-map (c .args .m .calls) _) ∙ c .good .1 .1 .0 .1 .1 .1 .1 .1 .0 .1 .0 .1
+abbrev Inv-reduceds : tie.InvT-reduceds
+Inv-reduceds b₀ tick m n count random₀ mark i₀ b random i =
+    (n ≤ i) × ((i ≤ count) × ((l : List ℕ) → Told-to l tick (recordFrom m) random₀ mark i₀ b₀ → Told-to l tick (recordFrom m) random mark i b))
 
-five : (c : tie.Start Inv-loop μ-loop) → length (c .args .m .release6 .reduced) ≡ 5
-five c = sym (length-map (c .args .m .release6 .reduced) _) ∙ c .good .1 .1 .0 .1 .1 .1 .1 .1 .1 .0 .1 .1 .1 .1 .1 .1 .0 .1 .0 .1
+abbrev μ-reduceds : tie.MeasureT-reduceds
+μ-reduceds b₀ tick m n count random₀ mark i₀ b random i = count - i
 
-nine : (c : tie.Start Inv-loop μ-loop) → length (c .args .m .release6 .randoms) ≡ 9
-nine c = sym (length-map (c .args .m .release6 .randoms) _) ∙ c .good .1 .1 .0 .1 .1 .1 .1 .1 .1 .0 .1 .1 .1 .1 .1 .1 .1 .1 .0 .1 .0 .1
+shared-slice-read-least :
+    tie.Need-shared-slice-read-least Inv-calls μ-calls Inv-reduceds μ-reduceds
+shared-slice-read-least c = omega arith
 
-slots : (c : tie.Start Inv-loop μ-loop) → length (c .args .m .release7 .marks) ≡ 4
-slots c = sym (length-map (c .args .m .release7 .marks) _) ∙ c .good .1 .1 .0 .1 .1 .1 .1 .1 .1 .1 .0 .1 .1 .1 .1 .0 .1 .0 .1
+least-requires : tie.Need-least-requires Inv-calls μ-calls Inv-reduceds μ-reduceds
+least-requires c κs = tt
 
--- the calls are four at most, all entries nine
-few : (c : tie.After-least2 Inv-loop μ-loop) → (c .before .least .result ≤ 4) × (c .least2 .result ≤ 5)
-few c = (omega (arith, c .before .least .ensures), omega (arith, c .least2 .ensures))
+shared-slice-read-least-2 :
+    tie.Need-shared-slice-read-least-2 Inv-calls μ-calls Inv-reduceds μ-reduceds
+shared-slice-read-least-2 c = omega arith
 
-nch-common-requires : tie.Need-nch-common-requires Inv-loop μ-loop
-nch-common-requires c κs = search needs
+least-requires-2 : tie.Need-least-requires-2 Inv-calls μ-calls Inv-reduceds μ-reduceds
+least-requires-2 c κs = tt
 
-least-requires : tie.Need-least-requires Inv-loop μ-loop
-least-requires c κs = search needs
+add-count : tie.Need-add-count Inv-calls μ-calls Inv-reduceds μ-reduceds
+add-count c = omega arith
 
-least-requires-2 : tie.Need-least-requires-2 Inv-loop μ-loop
-least-requires-2 c κs = search needs
+calls-holds : tie.Need-calls-holds Inv-calls μ-calls Inv-reduceds μ-reduceds
+calls-holds c = (omega arith, none-told _ _ _)
 
-add-count : tie.Need-add-count Inv-loop μ-loop
-add-count c = omega (arith, few c)
+mul-at : tie.Need-mul-at Inv-calls μ-calls Inv-reduceds μ-reduceds
+mul-at c = omega arith
 
-loop-holds : tie.Need-loop-holds Inv-loop μ-loop
-loop-holds c = (omega arith, none-told _ _ _)
+add-at : tie.Need-add-at Inv-calls μ-calls Inv-reduceds μ-reduceds
+add-at c = omega arith
 
-no-call-requires : tie.Need-no-call-requires Inv-loop μ-loop
-no-call-requires c κs = search needs
+tell-numbers-requires : tie.Need-tell-numbers-requires Inv-calls μ-calls Inv-reduceds μ-reduceds
+tell-numbers-requires c κs =
+    let c1 = c .before in
+    let c2 = c1 .before in
+    let c5 = c2 .before .before .before in
+    let c9 = c5 .before .before .before .before in
+    let a = c9 .args in
+    let l = c2 .calls in
+    call-asks (now (a .m)) (c9 .pre .1) (a .b .now) (a .tick) (l .random) (l .mark) (l .i) (l .b) (l .inv .1) _ (c5 .least .ensures) (c1 .calls-test .taken) (c9 .pre .0)
 
-mul-c : tie.Need-mul-c Inv-loop μ-loop
-mul-c c = omega (arith, few (c .before .before .before .before), c .if1 .taken)
+add-random : tie.Need-add-random Inv-calls μ-calls Inv-reduceds μ-reduceds
+add-random c = omega arith
 
-array-copy-out-c : tie.Need-array-copy-out-c Inv-loop μ-loop
-array-copy-out-c c = omega (arith, few (c .before .before .before .before), c .if1 .taken)
+mul-random : tie.Need-mul-random Inv-calls μ-calls Inv-reduceds μ-reduceds
+mul-random c = omega arith
 
-mul-r : tie.Need-mul-r Inv-loop μ-loop
-mul-r c = omega (arith, few (c .before .before .before .before), c .before .before .loop-test .taken)
+shared-slice-read-random :
+    tie.Need-shared-slice-read-random Inv-calls μ-calls Inv-reduceds μ-reduceds
+shared-slice-read-random c = omega arith
 
-array-copy-out-r : tie.Need-array-copy-out-r Inv-loop μ-loop
-array-copy-out-r c = omega (arith, few (c .before .before .before .before), c .before .before .loop-test .taken, c .if1 .left)
-
-reduced-call-requires : tie.Need-reduced-call-requires Inv-loop μ-loop
-reduced-call-requires c κs = search needs
-
-owns-random-requires : tie.Need-owns-random-requires Inv-loop μ-loop
-owns-random-requires c κs = search needs
-
-mul-owned : tie.Need-mul-owned Inv-loop μ-loop
-mul-owned c =
-    let a = c .before .before .before .before .before .before .before .before .before .before .before .before .before .before .before .before .args in
-    let l = c .before .before .before .before .before .loop in
-    omega (arith, few (c .before .before .before .before .before .before), c .before .before .before .before .loop-test .taken, few-owned (a .b .now) (a .tick) (a .m) (l .random) (l .mark) (l .i) (l .b) (l .inv .1))
-
-array-copy-out-owned : tie.Need-array-copy-out-owned Inv-loop μ-loop
-array-copy-out-owned c =
-    let a = c .before .before .before .before .before .before .before .before .before .before .before .before .before .before .before .before .args in
-    let l = c .before .before .before .before .before .loop in
-    omega (arith, few (c .before .before .before .before .before .before), c .before .before .before .before .loop-test .taken, few-owned (a .b .now) (a .tick) (a .m) (l .random) (l .mark) (l .i) (l .b) (l .inv .1))
-
-owned-requires : tie.Need-owned-requires Inv-loop μ-loop
-owned-requires c κs = search needs
-
-array-read-marked : tie.Need-array-read-marked Inv-loop μ-loop
-array-read-marked c = omega arith
-
-marked-requires : tie.Need-marked-requires Inv-loop μ-loop
-marked-requires c κs = search needs
-
-tell-entry-requires : tie.Need-tell-entry-requires Inv-loop μ-loop
-tell-entry-requires c κs = (all-length _ _ _ _ _ (c .before .before .before .before .before .before .before .before .before .before .loop .inv .1 .told) ∙ c .before .before .before .before .before .before .before .before .before .before .before .before .before .before .before .before .before .before .before .before .before .pre, (omega arith, omega (arith, few (c .before .before .before .before .before .before .before .before .before .before .before), c .before .before .before .before .before .before .before .before .before .loop-test .taken)))
-
-cast-random : tie.Need-cast-random Inv-loop μ-loop
+cast-random : tie.Need-cast-random Inv-calls μ-calls Inv-reduceds μ-reduceds
 cast-random c = tt
 
-add-random : tie.Need-add-random Inv-loop μ-loop
-add-random c =
-    let a = c .before .before .before .before .before .before .before .before .before .before .before .before .before .before .before .before .before .before .before .before .before .before .before .before .args in
-    let l = c .before .before .before .before .before .before .before .before .before .before .before .before .before .loop in
-    omega (arith, few (c .before .before .before .before .before .before .before .before .before .before .before .before .before .before), l .inv .0, few-owned (a .b .now) (a .tick) (a .m) (l .random) (l .mark) (l .i) (l .b) (l .inv .1), byte-lt (c .before .before .before .before .before .before .before .before .before .owns-random .result))
+add-random-2 : tie.Need-add-random-2 Inv-calls μ-calls Inv-reduceds μ-reduceds
+add-random-2 c =
+    let c5 = c .before .before .before .before .before in
+    let c6 = c5 .before in
+    let c9 = c6 .before .before .before in
+    let c13 = c9 .before .before .before .before in
+    let a = c13 .args in
+    let l = c6 .calls in
+    let f = call-next (now (a .m)) (c13 .pre .1) (a .b .now) (a .tick) (l .random) (l .mark) (l .i) (l .b) (l .inv .1) _ (c9 .least .ensures) (c5 .calls-test .taken) in
+    omega (arith, f, byte-lt (leb 1 (getD (now (a .m)) (callAt (l .i) + 4) 0)))
 
-cast-mark : tie.Need-cast-mark Inv-loop μ-loop
-cast-mark c = tt
+add-mark : tie.Need-add-mark Inv-calls μ-calls Inv-reduceds μ-reduceds
+add-mark c = omega arith
 
-add-mark : tie.Need-add-mark Inv-loop μ-loop
-add-mark c =
-    let a = c .before .before .before .before .before .before .before .before .before .before .before .before .before .before .before .before .before .before .before .before .before .before .before .before .before .args in
-    let l = c .before .before .before .before .before .before .before .before .before .before .before .before .before .before .loop in
-    omega (arith, few (c .before .before .before .before .before .before .before .before .before .before .before .before .before .before .before), l .inv .0, few-owned (a .b .now) (a .tick) (a .m) (l .random) (l .mark) (l .i) (l .b) (l .inv .1), byte-lt (c .before .before .before .before .before .before .before .before .before .before .before .if1 .c .described))
+mul-mark : tie.Need-mul-mark Inv-calls μ-calls Inv-reduceds μ-reduceds
+mul-mark c = omega arith
 
-add-i : tie.Need-add-i Inv-loop μ-loop
-add-i c = omega (arith, few (c .before .before .before .before .before .before .before .before .before .before .before .before .before .before .before), c .before .before .before .before .before .before .before .before .before .before .before .before .before .loop-test .taken)
+shared-slice-read-mark : tie.Need-shared-slice-read-mark Inv-calls μ-calls Inv-reduceds μ-reduceds
+shared-slice-read-mark c = omega arith
 
-loop-less : tie.Need-loop-less Inv-loop μ-loop
-loop-less c = omega (arith, c .before .before .before .before .before .before .before .before .before .before .before .before .before .loop-test .taken)
+add-mark-2 : tie.Need-add-mark-2 Inv-calls μ-calls Inv-reduceds μ-reduceds
+add-mark-2 c =
+    let c6 = c .before .before .before .before .before .before in
+    let c7 = c6 .before in
+    let c10 = c7 .before .before .before in
+    let c14 = c10 .before .before .before .before in
+    let a = c14 .args in
+    let l = c7 .calls in
+    let f = call-next (now (a .m)) (c14 .pre .1) (a .b .now) (a .tick) (l .random) (l .mark) (l .i) (l .b) (l .inv .1) _ (c10 .least .ensures) (c6 .calls-test .taken) in
+    omega (arith, f)
 
-loop-again : tie.Need-loop-again Inv-loop μ-loop
-loop-again c =
-    let s = c .before .before .before .before .before .before .before .before .before .before .before .before .before .before .before .before .before .before .before .before .before .before .before .before .before in
-    let a = s .args in
-    let l = c .before .before .before .before .before .before .before .before .before .before .before .before .before .before .loop in
-    let n = c .before .before .before .before .before .before .before .before .before .before .before .before .before .before .before .before .least in
-    let h : l .i < n .result + min (a .m .release6 .reducedcount) 5 = omega (arith, c .before .before .before .before .before .before .before .before .before .before .before .before .before .loop-test .taken, c .before .before .before .before .before .before .before .before .before .before .before .before .before .before .before .least2 .ensures) in (
-      omega (arith, c .before .before .before .before .before .before .before .before .before .before .before .before .before .loop-test .taken),
-      turn (a .b .now) (a .tick) (a .m) (l .random) (l .mark) (l .i) (l .b) (l .inv .1) (four s) (five s) (nine s) (slots s) (n .result) (n .ensures) h (c .before .before .before .before .before .before .before .before .before .before .before .if1 .c) _ _ _ _ _ _ refl
-          (c .before .before .before .before .before .before .before .before .before .before .owns-random .ensures) (c .before .before .before .before .before .before .before .owned .ensures) (c .before .before .before .before .before .marked .ensures) (c .before .before .before .before .before .before .before .before .before .before .before .before .before .before .before .before .before .nch-common .ensures) (c .before .before .before .tell-entry .ensures)
-          (⊎-elim (λ w. inl (w .0 .taken, w .2)) (λ w. inr (w .0 .left, w .3 ∙ w .2 .ensures)) (c .before .before .before .before .before .before .before .before .before .before .before .if1 .came)),
+add-i : tie.Need-add-i Inv-calls μ-calls Inv-reduceds μ-reduceds
+add-i c = omega arith
+
+calls-less : tie.Need-calls-less Inv-calls μ-calls Inv-reduceds μ-reduceds
+calls-less c = omega arith
+
+calls-again : tie.Need-calls-again Inv-calls μ-calls Inv-reduceds μ-reduceds
+calls-again c =
+    let c4 = c .before .before .before .before in
+    let c6 = c4 .before .before in
+    let c7 = c6 .before in
+    let c10 = c7 .before .before .before in
+    let c14 = c10 .before .before .before .before in
+    let a = c14 .args in
+    let l = c7 .calls in
+    let t = turn-call (now (a .m)) (c14 .pre .1) (a .b .now) (a .tick) (l .random) (l .mark) (l .i) (l .b) (l .inv .1) _ (c10 .least .ensures) (c6 .calls-test .taken) _ (c4 .tell-numbers .ensures) in
+    (omega (arith, c6 .calls-test .taken), t)
+
+reduceds-holds : tie.Need-reduceds-holds Inv-calls μ-calls Inv-reduceds μ-reduceds
+reduceds-holds c = (omega arith, (omega arith, λ l p. p))
+
+sub-tell-numbers : tie.Need-sub-tell-numbers Inv-calls μ-calls Inv-reduceds μ-reduceds
+sub-tell-numbers c = omega (arith, c .before .before .reduceds .inv .0)
+
+mul-tell-numbers : tie.Need-mul-tell-numbers Inv-calls μ-calls Inv-reduceds μ-reduceds
+mul-tell-numbers c = omega arith
+
+add-tell-numbers : tie.Need-add-tell-numbers Inv-calls μ-calls Inv-reduceds μ-reduceds
+add-tell-numbers c = omega arith
+
+tell-numbers-requires-2 :
+    tie.Need-tell-numbers-requires-2 Inv-calls μ-calls Inv-reduceds μ-reduceds
+tell-numbers-requires-2 c κs =
+    let c2 = c .before .before in
+    let c4 = c2 .before .before in
+    let c5 = c4 .before in
+    let c7 = c5 .before .before in
+    let c11 = c7 .before .before .before .before in
+    let a = c11 .args in
+    let r = c2 .reduceds in
+    let p = r .inv .1 .1 (a .b .now) (c4 .calls .inv .1) in
+    reduced-asks (now (a .m)) (c11 .pre .1) (a .b .now) (a .tick) (r .random) _ (r .i) (r .b) p _ (c7 .least .ensures) (r .inv .0) (omega (arith, c5 .least2 .ensures)) (c11 .pre .0)
+
+add-random-3 : tie.Need-add-random-3 Inv-calls μ-calls Inv-reduceds μ-reduceds
+add-random-3 c =
+    let c5 = c .before .before .before .before .before in
+    let c7 = c5 .before .before in
+    let c8 = c7 .before in
+    let c10 = c8 .before .before in
+    let c14 = c10 .before .before .before .before in
+    let a = c14 .args in
+    let r = c5 .reduceds in
+    let p = r .inv .1 .1 (a .b .now) (c7 .calls .inv .1) in
+    let f = reduced-asks (now (a .m)) (c14 .pre .1) (a .b .now) (a .tick) (r .random) _ (r .i) (r .b) p _ (c10 .least .ensures) (r .inv .0) (omega (arith, c8 .least2 .ensures)) (c14 .pre .0) in
+    omega (arith, f .1 .1 .1 .0)
+
+add-i-2 : tie.Need-add-i-2 Inv-calls μ-calls Inv-reduceds μ-reduceds
+add-i-2 c = omega arith
+
+reduceds-less : tie.Need-reduceds-less Inv-calls μ-calls Inv-reduceds μ-reduceds
+reduceds-less c = omega arith
+
+reduceds-again : tie.Need-reduceds-again Inv-calls μ-calls Inv-reduceds μ-reduceds
+reduceds-again c =
+    let c2 = c .before .before in
+    let c5 = c2 .before .before .before in
+    let c8 = c5 .before .before .before in
+    let c10 = c8 .before .before in
+    let c14 = c10 .before .before .before .before in
+    let a = c14 .args in
+    let r = c5 .reduceds in (
+      omega (arith, r .inv .0),
+      (
+        omega arith,
+        λ l p.
+            turn-reduced (now (a .m)) (c14 .pre .1) l (a .tick) (r .random) _ (r .i) (r .b) (r .inv .1 .1 l p) _ (c10 .least .ensures) (r .inv .0)
+            (omega (arith, c8 .least2 .ensures)) _ (c2 .tell-numbers2 .ensures),
+      ),
     )
 
-cast-result : tie.Need-cast-result Inv-loop μ-loop
-cast-result c = omega (arith, few (c .before .before))
+cast-result : tie.Need-cast-result Inv-calls μ-calls Inv-reduceds μ-reduceds
+cast-result c = omega (arith, c .before .before .before .before .before .before .least .ensures, c .before .before .before .before .least2 .ensures)
 
-same-length : tie.Need-same-length Inv-loop μ-loop
-same-length c = all-length _ _ _ _ _ (c .before .loop .inv .1 .told)
+same-length : tie.Need-same-length Inv-calls μ-calls Inv-reduceds μ-reduceds
+same-length c =
+    let c1 = c .before in
+    let c3 = c1 .before .before in
+    let c10 = c3 .before .before .before .before .before .before .before in
+    let p = c1 .reduceds .inv .1 .1 (c10 .args .b .now) (c3 .calls .inv .1) in
+    all-length _ _ _ _ _ (p .told)
 
-returns : tie.Need-returns Inv-loop μ-loop
+returns : tie.Need-returns Inv-calls μ-calls Inv-reduceds μ-reduceds
 returns c =
-    let s = c .before .before .before .before .before .before .before .before .before .before .before .before in
-    let a = s .args in
-    let l = c .before .loop in
-    let n : c .before .before .before .least .result + c .before .before .least2 .result ≡ length (nchEntries (a .m)) =
-    ap₂ (λ x y. x + y) (c .before .before .before .least .ensures) (c .before .before .least2 .ensures) ∙ sym (entries-count (a .m) (four s) (five s))
-    in
-    (n, all-told (a .b .now) (a .tick) (a .m) (l .random) (l .mark) (l .i) (l .b) (l .inv .1) (omega (arith, n, l .inv .0, c .loop-test .left)))
+    let c1 = c .before in
+    let c3 = c1 .before .before in
+    let c4 = c3 .before in
+    let c6 = c4 .before .before in
+    let c10 = c6 .before .before .before .before in
+    let a = c10 .args in
+    let r = c1 .reduceds in
+    let e = entries-are (now (a .m)) _ (c6 .least .ensures) in
+    let d = c4 .least2 .ensures in
+    let p = r .inv .1 .1 (a .b .now) (c3 .calls .inv .1) in
+    (omega (arith, e, d), all-told (a .b .now) (a .tick) (recordFrom (now (a .m))) (r .random) _ (r .i) (r .b) p (omega (arith, e, d, r .inv .1 .0)))
 
 pub tell-nch-spec : {M : Type 1} → statement M
 tell-nch-spec =
     tie.close
     (tie.spec
-    Inv-loop
-    μ-loop
-    nch-common-requires
+    Inv-calls
+    μ-calls
+    Inv-reduceds
+    μ-reduceds
+    shared-slice-read-least
     least-requires
+    shared-slice-read-least-2
     least-requires-2
     add-count
-    loop-holds
-    no-call-requires
-    mul-c
-    array-copy-out-c
-    mul-r
-    array-copy-out-r
-    reduced-call-requires
-    owns-random-requires
-    mul-owned
-    array-copy-out-owned
-    owned-requires
-    array-read-marked
-    marked-requires
-    tell-entry-requires
-    cast-random
+    calls-holds
+    mul-at
+    add-at
+    tell-numbers-requires
     add-random
-    cast-mark
+    mul-random
+    shared-slice-read-random
+    cast-random
+    add-random-2
     add-mark
+    mul-mark
+    shared-slice-read-mark
+    add-mark-2
     add-i
-    loop-less
-    loop-again
+    calls-less
+    calls-again
+    reduceds-holds
+    sub-tell-numbers
+    mul-tell-numbers
+    add-tell-numbers
+    tell-numbers-requires-2
+    add-random-3
+    add-i-2
+    reduceds-less
+    reduceds-again
     cast-result
     same-length
     returns)

@@ -5,7 +5,6 @@ use mathlib.Core.Logic.{⊎-elim}
 use Prim.Native.Nat.{_-_}
 use Rattle.call.specs.Write.{callInRange, callIsZero}
 use Rattle.nch_write.proofs.Testing.{Places, places-begin, places-used, places-unused, places-end, places-failed, fails, passes}
-use borrow.Author.Needs.{needs}
 use Rattle.nch_write.proofs.checks.calls_in_range.Statement.{statement}
 use Rattle.nch_write.proofs.checks.calls_in_range.Tie as tie
 

@@ -9,7 +9,6 @@ use Prim.Native.Nat.{_-_}
 use Rattle.bits.specs.Field.{both}
 use Rattle.call.specs.Write.{callIsLow, callLengthRight, callHopsRight}
 use Rattle.nch_write.proofs.Testing.{Places, places-begin, places-used, places-unused, places-end, all-places}
-use borrow.Author.Needs.{needs}
 use Rattle.nch_write.proofs.checks.calls_tested.Statement.{statement}
 use Rattle.nch_write.proofs.checks.calls_tested.Tie as tie
 

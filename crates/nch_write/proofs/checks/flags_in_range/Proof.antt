@@ -1,7 +1,6 @@
 -- `nch_write::checks::flags_in_range` meets its contract. Assumes nothing.
 use native.Mathlib.Omega.{arith}
 use Rattle.nch_write.proofs.Testing.{fails, passes}
-use borrow.Author.Needs.{needs}
 use Rattle.nch_write.proofs.checks.flags_in_range.Statement.{statement}
 use Rattle.nch_write.proofs.checks.flags_in_range.Tie as tie
 

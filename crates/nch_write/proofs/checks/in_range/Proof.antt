@@ -3,7 +3,6 @@ use native.Mathlib.Omega.{arith}
 use borrow.Author.Tests.{le-leb, lt-leb}
 use Rattle.nch_write.proofs.Testing.{fails, passes}
 use Rattle.nch.specs.Write.{inRange}
-use borrow.Author.Needs.{needs}
 use Rattle.nch_write.proofs.checks.in_range.Statement.{statement}
 use Rattle.nch_write.proofs.checks.in_range.Tie as tie
 

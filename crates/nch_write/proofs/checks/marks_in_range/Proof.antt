@@ -6,7 +6,6 @@ use mathlib.Core.Logic.{⊎-elim}
 use Prim.Native.Nat.{_-_}
 use Rattle.nch.specs.Write.{yes}
 use Rattle.nch_write.proofs.Testing.{Places, places-begin, places-used, places-unused, places-end, places-failed}
-use borrow.Author.Needs.{needs}
 use Rattle.nch_write.proofs.checks.marks_in_range.Statement.{statement}
 use Rattle.nch_write.proofs.checks.marks_in_range.Tie as tie
 

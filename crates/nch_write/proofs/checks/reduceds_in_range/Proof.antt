@@ -7,7 +7,6 @@ use borrow.Author.Tests.{lt-ltb, le-ltb}
 use Rattle.nch.specs.Write.{reducedInRange, reducedIsZero}
 use Rattle.nch_write.proofs.Testing.{Places, places-begin, places-used, places-unused, places-end, places-failed, fails, passes}
 use native.Mathlib.Omega.{arith}
-use borrow.Author.Needs.{needs}
 use Rattle.nch_write.proofs.checks.reduceds_in_range.Statement.{statement}
 use Rattle.nch_write.proofs.checks.reduceds_in_range.Tie as tie
 

@@ -8,7 +8,6 @@ use Prim.Native.Nat.{_-_}
 use borrow.Author.Tests.{le-leb, lt-leb}
 use Rattle.nch.specs.Write.{reducedIsLow}
 use Rattle.nch_write.proofs.Testing.{Places, places-begin, places-used, places-unused, places-end, places-failed, all-places}
-use borrow.Author.Needs.{needs}
 use Rattle.nch_write.proofs.checks.reduceds_low.Statement.{statement}
 use Rattle.nch_write.proofs.checks.reduceds_low.Tie as tie
 

@@ -6,7 +6,6 @@ use Rattle.nch.specs.Write.{recordRefusal, referencesLow, lengthsRight, hopsRig
 use Rattle.nch_write.proofs.InRange.{count-few, in-range-few}
 use Rattle.nch_write.proofs.Testing.{fails, passes}
 use native.Mathlib.Omega.{arith}
-use borrow.Author.Needs.{needs}
 use Rattle.nch_write.proofs.checks.refusal.Statement.{statement}
 use Rattle.nch_write.proofs.checks.refusal.Tie as tie
 

@@ -9,7 +9,6 @@ use Rattle.bits.specs.Field.{both, pick}
 use Rattle.nch_write.proofs.Testing.{fails, passes}
 use Rattle.nch.specs.declared.Release7.{Release7}
 use Rattle.nch.specs.Write.{release7InRange}
-use borrow.Author.Needs.{needs}
 use Rattle.nch_write.proofs.checks.release7_in_range.Statement.{statement}
 use Rattle.nch_write.proofs.checks.release7_in_range.Tie as tie
 

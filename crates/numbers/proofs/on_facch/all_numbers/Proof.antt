@@ -1,5 +1,6 @@
 -- `numbers::on_facch::all_numbers` meets its contract. Assumes nothing.
 use mathlib.Core.Path.{refl}
+use lib.ListN.{replicate}
 use Rattle.numbers.proofs.FacchRuns.{all-runs}
 use native.Mathlib.Omega.{arith}
 use Rattle.numbers.proofs.on_facch.all_numbers.Statement.{statement}
@@ -44,7 +45,11 @@ run-requires-3 c κs = omega arith
 returns : tie.Need-returns
 returns c =
     let a = c .before .before .before .before .before .before .before .before .before .before .before .before .before .before .before .before .before .before .args in
-    all-runs (a .m) (a .used) _ _ _ _ _ _ _ refl (c .before .before .before .before .before .before .before .before .before .before .before .before .before .before .before .before .numbers-of .ensures) (c .before .before .before .before .before .before .before .before .before .before .release6-numbers .ensures) (c .before .before .before .before .last-numbers .ensures) (c .before .before .before .before .before .before .before .before .before .before .before .before .before .run .ensures) (c .before .before .before .before .before .before .before .run2 .ensures) (c .before .run3 .ensures)
+    all-runs (a .m) (a .used) (replicate 22 0) _ _ _ _ _ _ refl
+    (c .before .before .before .before .before .before .before .before .before .before .before .before .before .before .before .before .numbers-of .ensures)
+    (c .before .before .before .before .before .before .before .before .before .before .release6-numbers .ensures) (c .before .before .before .before .last-numbers .ensures)
+    (c .before .before .before .before .before .before .before .before .before .before .before .before .before .run .ensures)
+    (c .before .before .before .before .before .before .before .run2 .ensures) (c .before .run3 .ensures)
 
 pub all-numbers-spec : {M : Type 1} → statement M
 all-numbers-spec =

@@ -1,51 +1,18 @@
 -- `numbers::on_nch::read` meets its contract. Assumes nothing.
-use denote.Ref.{now}
-use lib.ListN.{length}
-use mathlib.Core.Path.{_∙_}
-use Rattle.numbers.proofs.FilledAll.{as-many}
-use native.Mathlib.Omega.{arith}
+use mathlib.Core.Path.{ap}
+use Rattle.csn1.specs.declared.Refusal.{Refusal}
+use borrow.Author.Needs.{needs}
 use Rattle.numbers.proofs.on_nch.read.Statement.{statement}
 use Rattle.numbers.proofs.on_nch.read.Tie as tie
 
-read-wide-requires : tie.Need-read-wide-requires
-read-wide-requires c κs = omega arith
+read-into-requires : tie.Need-read-into-requires
+read-into-requires c κs = search needs
 
 same-length : tie.Need-same-length
-same-length c = omega arith
+same-length c = search needs
 
 returns : tie.Need-returns
-returns c = c .before .before .read-wide .ensures
-
-slice-aggregate-read-wide : tie.Need-slice-aggregate-read-wide
-slice-aggregate-read-wide c = omega arith
-
-read-wide-requires-2 : tie.Need-read-wide-requires-2
-read-wide-requires-2 c κs = omega arith
-
-slice-aggregate-store : tie.Need-slice-aggregate-store
-slice-aggregate-store c = omega arith
-
-store-requires : tie.Need-store-requires
-store-requires c κs = omega arith
-
-same-length-2 : tie.Need-same-length-2
-same-length-2 c = omega arith
-
-returns-2 : tie.Need-returns-2
-returns-2 c =
-    let r = c .before .before .before .before .before .before .read-wide2 in
-    (r .ensures .0, c .before .before .store .ensures ∙ as-many (now (c .before .before .before .before .before .before .before .before .before .before .before .args .octets)) (length (now (c .before .before .before .before .before .before .before .before .before .before .before .args .numbers))) _ (r .ensures .1))
+returns c = let r = c .before .before .read-into in (ap (λ (x : Refusal). x .number) (r .ensures .0), r .ensures .1)
 
 pub read-spec : {M : Type 1} → statement M
-read-spec =
-    tie.close
-    (tie.spec
-    read-wide-requires
-    same-length
-    returns
-    slice-aggregate-read-wide
-    read-wide-requires-2
-    slice-aggregate-store
-    store-requires
-    same-length-2
-    returns-2)
+read-spec = tie.close (tie.spec read-into-requires same-length returns)

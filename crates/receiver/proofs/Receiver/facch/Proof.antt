@@ -1,14 +1,10 @@
 -- `receiver::Receiver::facch` meets its contract. Assumes nothing.
-use Rattle.facch.specs.declared.Reading.{Reading as Facch}
-use mathlib.Core.Path.{sym, ap, _∙_}
-use mathlib.Core.List.{[], _∷_}
+use mathlib.Core.Path.{refl, sym, ap, _∙_}
 use denote.Ref.{now}
-use Rattle.receiver.specs.declared.Rule.the-variants.{Keep}
-use Rattle.receiver.specs.declared.Record.{Record}
-use Rattle.csn1.specs.Format.{ground}
-use Rattle.receiver.specs.Step.{facch, acceptedWith}
-use Rattle.receiver.specs.Entries.{facchEntry}
-use Rattle.receiver.proofs.Entering.{is-late, is-refused, is-accepted}
+use native.Mathlib.Omega.{arith}
+use Rattle.facch.specs.declared.Reading.{Reading as Facch}
+use Rattle.receiver.specs.Step.{heardFacch}
+use Rattle.receiver.proofs.Entering.{is-late, is-refused, is-few, is-accepted}
 use borrow.Author.Needs.{needs}
 use Rattle.receiver.proofs.Receiver.facch.Statement.{statement}
 use Rattle.receiver.proofs.Receiver.facch.Tie as tie
@@ -23,7 +19,9 @@ refused-requires : tie.Need-refused-requires
 refused-requires c κs = search needs
 
 returns : tie.Need-returns
-returns c = c .refused .ensures ∙ is-late _ (facch _ (now (c .before .before .before .before .before .args .octets))) (sym (c .before .before .before .is-late .ensures) ∙ c .before .before .if1 .taken) _ (c .before .ground .ensures)
+returns c =
+    let s = c .before .before .before in
+    c .refused .ensures ∙ is-late _ _ (heardFacch (now (s .before .before .args .octets))) (s .is-late .ensures) (c .before .before .if1 .taken) (c .before .ground .ensures)
 
 read-requires : tie.Need-read-requires
 read-requires c κs = search needs
@@ -33,23 +31,36 @@ refused-requires-2 c κs = search needs
 
 returns-2 : tie.Need-returns-2
 returns-2 c =
-    let a = c .before .before .before .before .before .before .before .args in
-    let m = c .before .before .before .read in
-    c .refused2 .ensures ∙ is-refused (a .self) (facch (a .tick) (now (a .octets))) (sym (c .before .before .before .before .before .is-late .ensures) ∙ c .before .before .before .before .if1 .left) (m .result .refusal) (ap (λ (x : Facch). x .refusal) (m .ensures)) (c .before .if2 .taken)
+    let m = c .before .before .before in
+    let s = m .before .before in
+    c .refused2 .ensures
+    ∙ is-refused _ _ (heardFacch (now (s .before .before .args .octets))) (s .is-late .ensures) (m .before .if1 .left) (ap (λ (x : Facch). x .refusal) (m .read .ensures)) (c .before .if2 .taken)
 
-facch-entry-requires : tie.Need-facch-entry-requires
-facch-entry-requires c κs = search needs
+keep-requires : tie.Need-keep-requires
+keep-requires c κs = search needs
+
+facch-entries-requires : tie.Need-facch-entries-requires
+facch-entries-requires c κs = search needs
 
 accepted-requires : tie.Need-accepted-requires
-accepted-requires c κs = search needs
+accepted-requires c κs =
+    let m = c .before .before .before .before .before .before in
+    let s = m .before .before in
+    let z = ap (λ (x : Facch). x .refusal .number) (sym (m .read .ensures)) ∙ c .before .before .before .before .if2 .left in (
+      omega arith,
+      is-few (s .before .before .args .self) _ (heardFacch (now (s .before .before .args .octets))) (s .is-late .ensures) (m .before .if1 .left) z
+          (rw (m .read .ensures) at (c .facch-entries .ensures)),
+    )
 
 returns-3 : tie.Need-returns-3
 returns-3 c =
-    let a = c .before .before .before .before .before .before .before .before .before .args in
-    let m = c .before .before .before .before .before .read in
+    let m = c .before .before .before .before .before .before .before in
+    let s = m .before .before in
+    let a = s .before .before .args in
+    let z = ap (λ (x : Facch). x .refusal .number) (sym (m .read .ensures)) ∙ c .before .before .before .before .before .if2 .left in
     c .accepted .ensures
-    ∙ ap (λ (x : Record). acceptedWith (a .self) (a .tick) Keep (a .self .nln) 1 (x ∷ [])) (c .before .facch-entry .ensures ∙ ap (λ (x : Facch). facchEntry (x .«record»)) (m .ensures))
-    ∙ is-accepted (a .self) (facch (a .tick) (now (a .octets))) (sym (c .before .before .before .before .before .before .before .is-late .ensures) ∙ c .before .before .before .before .before .before .if1 .left) (ap (λ (x : Facch). x .refusal .number) (sym (m .ensures)) ∙ c .before .before .before .if2 .left)
+    ∙ is-accepted (a .self) _ (heardFacch (now (a .octets))) (s .is-late .ensures) (m .before .if1 .left) z (rw (m .read .ensures) at (c .before .facch-entries .ensures))
+    (c .before .before .keep .ensures) refl
 
 pub facch-spec : {M : Type 1} → statement M
 facch-spec =
@@ -62,6 +73,7 @@ facch-spec =
     read-requires
     refused-requires-2
     returns-2
-    facch-entry-requires
+    keep-requires
+    facch-entries-requires
     accepted-requires
     returns-3)

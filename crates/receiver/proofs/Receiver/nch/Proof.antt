@@ -1,11 +1,10 @@
 -- `receiver::Receiver::nch` meets its contract. Assumes nothing.
-use Rattle.nch.specs.declared.Reading.{Reading as Nch}
 use mathlib.Core.Path.{sym, ap, _∙_}
 use denote.Ref.{now}
-use Rattle.csn1.specs.Format.{ground}
-use Rattle.receiver.specs.Step.{nch}
-use Rattle.receiver.proofs.Entering.{is-late, is-refused, nch-few, nch-accepted}
 use native.Mathlib.Omega.{arith}
+use Rattle.nch.specs.declared.Reading.{Reading as Nch}
+use Rattle.receiver.specs.Step.{heardNch, numbering, ruleBy}
+use Rattle.receiver.proofs.Entering.{is-late, is-refused, is-few, is-accepted, numbering-rule}
 use borrow.Author.Needs.{needs}
 use Rattle.receiver.proofs.Receiver.nch.Statement.{statement}
 use Rattle.receiver.proofs.Receiver.nch.Tie as tie
@@ -20,7 +19,9 @@ refused-requires : tie.Need-refused-requires
 refused-requires c κs = search needs
 
 returns : tie.Need-returns
-returns c = c .refused .ensures ∙ is-late _ (nch _ (now (c .before .before .before .before .before .args .octets))) (sym (c .before .before .before .is-late .ensures) ∙ c .before .before .if1 .taken) _ (c .before .ground .ensures)
+returns c =
+    let s = c .before .before .before in
+    c .refused .ensures ∙ is-late _ _ (heardNch (now (s .before .before .args .octets))) (s .is-late .ensures) (c .before .before .if1 .taken) (c .before .ground .ensures)
 
 read-requires : tie.Need-read-requires
 read-requires c κs = search needs
@@ -30,32 +31,41 @@ refused-requires-2 c κs = search needs
 
 returns-2 : tie.Need-returns-2
 returns-2 c =
-    let a = c .before .before .before .before .before .before .before .args in
-    let m = c .before .before .before .read in
-    c .refused2 .ensures ∙ is-refused (a .self) (nch (a .tick) (now (a .octets))) (sym (c .before .before .before .before .before .is-late .ensures) ∙ c .before .before .before .before .if1 .left) (m .result .refusal) (ap (λ (x : Nch). x .refusal) (m .ensures)) (c .before .if2 .taken)
-
-nch-entries-requires : tie.Need-nch-entries-requires
-nch-entries-requires c κs = search needs
+    let m = c .before .before .before in
+    let s = m .before .before in
+    c .refused2 .ensures
+    ∙ is-refused _ _ (heardNch (now (s .before .before .args .octets))) (s .is-late .ensures) (m .before .if1 .left) (ap (λ (x : Nch). x .refusal) (m .read .ensures)) (c .before .if2 .taken)
 
 nln-rule-requires : tie.Need-nln-rule-requires
 nln-rule-requires c κs = search needs
 
-nln-after-requires : tie.Need-nln-after-requires
-nln-after-requires c κs = search needs
+cell-after-requires : tie.Need-cell-after-requires
+cell-after-requires c κs = search needs
+
+nch-entries-requires : tie.Need-nch-entries-requires
+nch-entries-requires c κs = search needs
 
 accepted-requires : tie.Need-accepted-requires
 accepted-requires c κs =
-    let a = c .before .before .before .before .before .before .before .before .before .before .before .args in
-    let m = c .before .before .before .before .before .before .before .read in
-    (omega arith, nch-few (a .self) (a .tick) (now (a .octets)) (m .result) (m .ensures) (c .before .before .before .before .before .if2 .left) (c .before .before .before .nch-entries .result .count) (c .before .before .before .nch-entries .ensures .1))
+    let m = c .before .before .before .before .before .before .before in
+    let s = m .before .before in
+    let z = ap (λ (x : Nch). x .refusal .number) (sym (m .read .ensures)) ∙ c .before .before .before .before .before .if2 .left in (
+      omega arith,
+      is-few (s .before .before .args .self) _ (heardNch (now (s .before .before .args .octets))) (s .is-late .ensures) (m .before .if1 .left) z
+          (rw (m .read .ensures) at (c .nch-entries .ensures)),
+    )
 
 returns-3 : tie.Need-returns-3
 returns-3 c =
-    let a = c .before .before .before .before .before .before .before .before .before .before .before .before .args in
-    let m = c .before .before .before .before .before .before .before .before .read in
-    let e = c .before .before .before .before .nch-entries in
+    let m = c .before .before .before .before .before .before .before .before in
+    let s = m .before .before in
+    let a = s .before .before .args in
+    let z = ap (λ (x : Nch). x .refusal .number) (sym (m .read .ensures)) ∙ c .before .before .before .before .before .before .if2 .left in
+    let n = m .read .result .«record» in
+    let rule = numbering-rule (a .self) (n .numbered) (n .nln) ∙ ap (λ (x : Nch). ruleBy (a .self) (numbering (x .«record» .numbered) (x .«record» .nln))) (m .read .ensures) in
     c .accepted .ensures
-    ∙ nch-accepted (a .self) (a .tick) (now (a .octets)) (m .result) (m .ensures) (c .before .before .before .before .before .before .if2 .left) (e .result .count) (e .ensures .1) (sym (c .before .before .before .before .before .before .before .before .before .before .is-late .ensures) ∙ c .before .before .before .before .before .before .before .before .before .if1 .left) (c .before .before .nln-rule .result) (c .before .nln-after .result) (e .result .items) (c .before .before .nln-rule .ensures) (c .before .nln-after .ensures) (e .ensures .0)
+    ∙ is-accepted (a .self) _ (heardNch (now (a .octets))) (s .is-late .ensures) (m .before .if1 .left) z (rw (m .read .ensures) at (c .before .nch-entries .ensures))
+    (c .before .before .before .nln-rule .ensures ∙ rule) (rw (m .read .ensures) at (c .before .before .cell-after .ensures))
 
 pub nch-spec : {M : Type 1} → statement M
 nch-spec =
@@ -68,8 +78,8 @@ nch-spec =
     read-requires
     refused-requires-2
     returns-2
-    nch-entries-requires
     nln-rule-requires
-    nln-after-requires
+    cell-after-requires
+    nch-entries-requires
     accepted-requires
     returns-3)

@@ -1,6 +1,6 @@
 -- `receiver::Receiver::tick` meets its contract. Assumes nothing.
-use mathlib.Core.Path.{refl, sym, _∙_}
-use Rattle.receiver.specs.Step.{tick}
+use mathlib.Core.Path.{refl, _∙_}
+use Rattle.receiver.specs.Step.{passes}
 use Rattle.receiver.proofs.Entering.{is-late, is-accepted}
 use borrow.Author.Needs.{needs}
 use Rattle.receiver.proofs.Receiver.tick.Statement.{statement}
@@ -16,15 +16,25 @@ refused-requires : tie.Need-refused-requires
 refused-requires c κs = search needs
 
 returns : tie.Need-returns
-returns c = c .refused .ensures ∙ is-late _ (tick _) (sym (c .before .before .before .is-late .ensures) ∙ c .before .before .if1 .taken) _ (c .before .ground .ensures)
+returns c = c .refused .ensures ∙ is-late _ _ passes (c .before .before .before .is-late .ensures) (c .before .before .if1 .taken) (c .before .ground .ensures)
+
+keep-requires : tie.Need-keep-requires
+keep-requires c κs = search needs
 
 plain-requires : tie.Need-plain-requires
 plain-requires c κs = search needs
 
 returns-2 : tie.Need-returns-2
-returns-2 c = c .plain .ensures ∙ is-accepted _ (tick _) (sym (c .before .before .is-late .ensures) ∙ c .before .if1 .left) refl
+returns-2 c = c .plain .ensures ∙ is-accepted _ _ passes (c .before .before .before .before .is-late .ensures) (c .before .before .before .if1 .left) refl refl (c .before .keep .ensures) refl
 
 pub tick-spec : {M : Type 1} → statement M
 tick-spec =
     tie.close
-    (tie.spec is-late-requires ground-requires refused-requires returns plain-requires returns-2)
+    (tie.spec
+    is-late-requires
+    ground-requires
+    refused-requires
+    returns
+    keep-requires
+    plain-requires
+    returns-2)

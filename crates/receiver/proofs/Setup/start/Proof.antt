@@ -12,12 +12,21 @@ is-right-requires c κs = search needs
 ground-requires : tie.Need-ground-requires
 ground-requires c κs = search needs
 
+no-setup-requires : tie.Need-no-setup-requires
+no-setup-requires c κs = search needs
+
 made-requires : tie.Need-made-requires
 made-requires c κs = search needs
 
 returns : tie.Need-returns
 unfolding startedOf
-returns c = simp (sym (c .before .before .before .is-right .ensures) ∙ not-true _ (c .before .before .if1 .taken), c .before .ground .ensures, c .made .ensures)
+returns c =
+    simp (
+      sym (c .before .before .before .before .is-right .ensures) ∙ not-true _ (c .before .before .before .if1 .taken),
+      c .before .before .ground .ensures,
+      c .made .ensures,
+      c .before .no-setup .ensures,
+    )
 
 key-places-requires : tie.Need-key-places-requires
 key-places-requires c κs = search needs
@@ -30,7 +39,13 @@ made-requires-2 c κs = search needs
 
 returns-2 : tie.Need-returns-2
 unfolding startedOf
-returns-2 c = simp (sym (c .before .before .before .before .is-right .ensures) ∙ not-false _ (c .before .before .before .if1 .left), c .before .no-refusal .ensures, c .made2 .ensures, c .before .before .key-places .ensures)
+returns-2 c =
+    simp (
+      sym (c .before .before .before .before .is-right .ensures) ∙ not-false _ (c .before .before .before .if1 .left),
+      c .before .no-refusal .ensures,
+      c .made2 .ensures,
+      c .before .before .key-places .ensures,
+    )
 
 pub start-spec : {M : Type 1} → statement M
 start-spec =
@@ -38,6 +53,7 @@ start-spec =
     (tie.spec
     is-right-requires
     ground-requires
+    no-setup-requires
     made-requires
     returns
     key-places-requires

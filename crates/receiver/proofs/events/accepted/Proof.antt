@@ -1,6 +1,7 @@
 -- `receiver::events::accepted` meets its contract. Assumes nothing.
 use mathlib.Core.Path.{_≡_, sym, _∙_}
-use lib.ListN.{length, take, length-take}
+use lib.ListN.{length, take, length-take, length-map}
+use Rattle.receiver.specs.Step.{mostEntries}
 use Rattle.receiver.proofs.Entering.{accepted-told}
 use native.Mathlib.Omega.{arith}
 use borrow.Author.Needs.{needs}
@@ -18,11 +19,14 @@ no-refusal-requires c κs = search needs
 
 returns : tie.Need-returns
 returns c =
-    let a = c .before .before .before .before .before .args in
+    let b = c .before .before .before .before .before in
+    let a = b .args in
     let s = c .before .before .before .before .sweep in
     let t = c .before .before .before .tell-all in
-    let n : a .count ≡ length (take (a .count) (a .items)) = sym (length-take (a .count) (a .items) ∙ omega (arith, c .before .before .before .before .before .good .1 .1 .1 .1 .1 .0 .1 .0 .1, c .before .before .before .before .before .pre .1)) in
-    accepted-told (a .r) (a .now) (a .nln) (a .ch) (a .rule) (take (a .count) (a .items)) (c .no-refusal .result) (s .result .expired) (s .result .dropped) (a .count) (s .result .receiver) (t .result .entries) (t .result .receiver) (c .no-refusal .ensures) (s .ensures .0) (s .ensures .1 .0) (s .ensures .1 .1) n (t .ensures .0) (t .ensures .1)
+    let k : length (a .e .items) ≡ mostEntries = sym (length-map (a .e .items) _) ∙ b .good .1 .1 .1 .1 .1 .0 .1 .1 .0 .1 .0 .1 in
+    let n : a .e .count ≡ length (take (a .e .count) (a .e .items)) = sym (length-take (a .e .count) (a .e .items) ∙ omega (arith, b .pre .1)) in
+    accepted-told (a .r) (a .now) (a .ch) (a .cell) (a .rule) (take (a .e .count) (a .e .items)) (c .no-refusal .ensures) (s .ensures .0) (s .ensures .1 .0) (s .ensures .1 .1) n
+    (t .ensures .0) (t .ensures .1)
 
 pub accepted-spec : {M : Type 1} → statement M
 accepted-spec = tie.close (tie.spec sweep-requires tell-all-requires no-refusal-requires returns)

@@ -18,16 +18,15 @@ no-record-requires c κs = search needs
 
 returns : tie.Need-returns
 returns c =
-    let a = c .before .before .before .before .before .before .args in (
-      miss-told (c .before .before .before .before .before .before .args .t1 .keys) (c .before .before .before .before .before .before .args .ch) (c .before .before .before .before .before .before .args .now) (c .before .before .before .before .before .before .args .t1 .slots) (c .before .before .before .before .before .before .args .e) _ _ (c .before .before .before .before .key-of .ensures) (c .before .before .index-of .ensures) (omega arith) _ (c .no-record .ensures),
-      ap (withSlots (a .t1)) (miss-slots (c .before .before .before .before .before .before .args .t1 .keys) (c .before .before .before .before .before .before .args .ch) (c .before .before .before .before .before .before .args .now) (c .before .before .before .before .before .before .args .t1 .slots) (c .before .before .before .before .before .before .args .e) _ _ (c .before .before .before .before .key-of .ensures) (c .before .before .index-of .ensures) (omega arith)),
+    let k = c .before .before .before .before in
+    let a = k .before .before .args in
+    let i = c .before .before .index-of .ensures in (
+      miss-told (a .t1 .keys) (a .ch) (a .now) (a .t1 .slots) (a .e) (k .key-of .ensures) i (omega arith) (c .no-record .ensures),
+      ap (withSlots (a .t1)) (miss-slots (a .t1 .keys) (a .ch) (a .now) (a .t1 .slots) (a .e) (k .key-of .ensures) i (omega arith)),
     )
 
-mul-at : tie.Need-mul-at
-mul-at c = search needs
-
-add-at : tie.Need-add-at
-add-at c = search needs
+place-on-requires : tie.Need-place-on-requires
+place-on-requires c κs = search needs
 
 mul-held : tie.Need-mul-held
 mul-held c = search needs
@@ -46,9 +45,14 @@ element-set-from-left c = search needs
 
 returns-2 : tie.Need-returns-2
 returns-2 c =
-    let a = c .before .before .before .before .before .before .before .before .before .args in (
-      hit-told (c .before .before .before .before .before .before .before .before .before .args .t1 .keys) (c .before .before .before .before .before .before .before .before .before .args .ch) (c .before .before .before .before .before .before .before .before .before .args .now) (c .before .before .before .before .before .before .before .before .before .args .t1 .slots) (c .before .before .before .before .before .before .before .before .before .args .e) _ _ (c .before .before .before .before .before .before .before .key-of .ensures) (c .before .before .before .before .before .index-of .ensures) (omega arith) _ (c .before .before .meet .ensures),
-      ap (withSlots (a .t1)) (hit-slots (c .before .before .before .before .before .before .before .before .before .args .t1 .keys) (c .before .before .before .before .before .before .before .before .before .args .ch) (c .before .before .before .before .before .before .before .before .before .args .now) (c .before .before .before .before .before .before .before .before .before .args .t1 .slots) (c .before .before .before .before .before .before .before .before .before .args .e) _ _ (c .before .before .before .before .before .before .before .key-of .ensures) (c .before .before .before .before .before .index-of .ensures) (omega arith) _ (c .before .before .meet .ensures)),
+    let p = c .before .before .before .before in
+    let i = p .before .before in
+    let k = i .before .before in
+    let a = k .before .before .args in
+    let q = p .place-on .ensures .0 in
+    let m = rw q at (c .before .before .meet .ensures) in (
+      hit-told (a .t1 .keys) (a .ch) (a .now) (a .t1 .slots) (a .e) (k .key-of .ensures) (i .index-of .ensures) (omega arith) m,
+      rw q (ap (withSlots (a .t1)) (hit-slots (a .t1 .keys) (a .ch) (a .now) (a .t1 .slots) (a .e) (k .key-of .ensures) (i .index-of .ensures) (omega arith) m)),
     )
 
 pub tell-spec : {M : Type 1} → statement M
@@ -59,8 +63,7 @@ tell-spec =
     index-of-requires
     no-record-requires
     returns
-    mul-at
-    add-at
+    place-on-requires
     mul-held
     element-copy-out-held
     meet-requires

@@ -18,7 +18,12 @@ same-reference-requires c κs = search needs
 
 returns-3 : tie.Need-returns-3
 unfolding agree
-returns-3 c = simp (not-false (c .before .before .before .before .before .before .before .args .a .full) (c .before .before .before .before .before .if1 .left), not-false (c .before .before .before .before .before .before .before .args .b .full) (c .before .before .before .if2 .left), c .same-reference .ensures)
+returns-3 c =
+    simp (
+      not-false (c .before .before .before .before .before .before .before .args .a .full) (c .before .before .before .before .before .if1 .left),
+      not-false (c .before .before .before .before .before .before .before .args .b .full) (c .before .before .before .if2 .left),
+      c .same-reference .ensures,
+    )
 
 pub agrees-spec : {M : Type 1} → statement M
 agrees-spec = tie.close (tie.spec returns returns-2 same-reference-requires returns-3)

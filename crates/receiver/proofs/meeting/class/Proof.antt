@@ -20,17 +20,31 @@ segment-is-requires c κs = search needs
 returns-2 : tie.Need-returns-2
 returns-2 c =
     let x = c .before .before .before .before .before .before .args in
-    simp (described-class (x .ch) (x .e) (c .before .before .before .before .before .if1 .taken), sym (c .before .before .before .before .is-ciphered .ensures) ∙ not-false _ (c .before .before .before .if2 .left), sym (c .before .before .segment-is .ensures) ∙ c .before .if3 .taken, c .if4 .taken)
+    simp (
+      described-class (x .ch) (x .e) (c .before .before .before .before .before .if1 .taken),
+      sym (c .before .before .before .before .is-ciphered .ensures) ∙ not-false _ (c .before .before .before .if2 .left),
+      sym (c .before .before .segment-is .ensures) ∙ c .before .if3 .taken,
+      c .if4 .taken,
+    )
 
 returns-3 : tie.Need-returns-3
 returns-3 c =
     let x = c .before .before .before .before .before .before .args in
-    simp (described-class (x .ch) (x .e) (c .before .before .before .before .before .if1 .taken), sym (c .before .before .before .before .is-ciphered .ensures) ∙ not-false _ (c .before .before .before .if2 .left), sym (c .before .before .segment-is .ensures) ∙ c .before .if3 .taken, c .if4 .left)
+    simp (
+      described-class (x .ch) (x .e) (c .before .before .before .before .before .if1 .taken),
+      sym (c .before .before .before .before .is-ciphered .ensures) ∙ not-false _ (c .before .before .before .if2 .left),
+      sym (c .before .before .segment-is .ensures) ∙ c .before .if3 .taken,
+      c .if4 .left,
+    )
 
 returns-4 : tie.Need-returns-4
 returns-4 c =
     let x = c .before .before .before .before .before .args in
-    simp (described-class (x .ch) (x .e) (c .before .before .before .before .if1 .taken), sym (c .before .before .before .is-ciphered .ensures) ∙ not-false _ (c .before .before .if2 .left), sym (c .before .segment-is .ensures) ∙ c .if3 .left)
+    simp (
+      described-class (x .ch) (x .e) (c .before .before .before .before .if1 .taken),
+      sym (c .before .before .before .is-ciphered .ensures) ∙ not-false _ (c .before .before .if2 .left),
+      sym (c .before .segment-is .ensures) ∙ c .if3 .left,
+    )
 
 is-second-requires : tie.Need-is-second-requires
 is-second-requires c κs = search needs

@@ -15,13 +15,24 @@ returns-2 : tie.Need-returns-2
 returns-2 c = simp (sym (c .before .before .is-ciphered .ensures) ∙ not-false _ (c .before .if1 .left), c .if2 .taken)
 
 returns-3 : tie.Need-returns-3
-returns-3 c = simp (sym (c .before .before .before .before .is-ciphered .ensures) ∙ not-false _ (c .before .before .before .if1 .left), c .before .before .if2 .left, not-true (c .before .before .before .before .before .args .e .given) (c .if3 .taken))
+returns-3 c =
+    simp (
+      sym (c .before .before .before .before .is-ciphered .ensures) ∙ not-false _ (c .before .before .before .if1 .left),
+      c .before .before .if2 .left,
+      not-true (c .before .before .before .before .before .args .e .given) (c .if3 .taken),
+    )
 
 segment-is-requires : tie.Need-segment-is-requires
 segment-is-requires c κs = search needs
 
 returns-4 : tie.Need-returns-4
-returns-4 c = simp (sym (c .before .before .before .before .before .is-ciphered .ensures) ∙ not-false _ (c .before .before .before .before .if1 .left), c .before .before .before .if2 .left, not-false (c .before .before .before .before .before .before .args .e .given) (c .before .if3 .left), c .segment-is .ensures)
+returns-4 c =
+    simp (
+      sym (c .before .before .before .before .before .is-ciphered .ensures) ∙ not-false _ (c .before .before .before .before .if1 .left),
+      c .before .before .before .if2 .left,
+      not-false (c .before .before .before .before .before .before .args .e .given) (c .before .if3 .left),
+      c .segment-is .ensures,
+    )
 
 pub is-second-spec : {M : Type 1} → statement M
 is-second-spec =

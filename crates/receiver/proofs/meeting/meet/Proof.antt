@@ -1,6 +1,7 @@
 -- `receiver::meeting::meet` meets its contract. Assumes nothing.
 use mathlib.Core.Path.{sym, _∙_}
 use Rattle.receiver.proofs.Classes.{meet-whole, meet-none, meet-first, meet-second, meet-early, meet-stored}
+use borrow.Author.Tests.{not-true, not-false}
 use mathlib.Core.Logic.{inl, inr, ⊎-elim}
 use native.Mathlib.Omega.{arith}
 use borrow.Author.Needs.{needs}
@@ -41,16 +42,21 @@ returns-4 c =
     let k = c .before .before .before .before .before .before .before .before .class .ensures in
     rw (c .meet-half2 .ensures, c .before .join2 .ensures) (meet-second _ _ _ _ (omega arith) (c .before .before .before .before .if3 .taken))
 
+leads-requires : tie.Need-leads-requires
+leads-requires c κs = search needs
+
 only-number-requires-2 : tie.Need-only-number-requires-2
 only-number-requires-2 c κs = search needs
 
 returns-5 : tie.Need-returns-5
 returns-5 c =
-    let k = c .before .before .before .before .before .before .before .class .ensures in
-    c .only-number2 .ensures ∙ meet-early _ _ _ _ (sym (c .before .before .if5 .taken) ∙ k) (c .before .before .before .if3 .left) (c .before .if6 .taken)
+    let k = c .before .before .before .before .before .before .before .before .class .ensures in
+    c .only-number2 .ensures
+    ∙ meet-early _ _ _ _ (sym (c .before .before .before .if5 .taken) ∙ k) (c .before .before .before .before .if3 .left)
+    (sym (c .before .before .leads .ensures) ∙ not-true _ (c .before .if6 .taken))
 
-sub-t12 : tie.Need-sub-t12
-sub-t12 c = search needs
+sub-t13 : tie.Need-sub-t13
+sub-t13 c = search needs
 
 only-number-requires-3 : tie.Need-only-number-requires-3
 only-number-requires-3 c κs = search needs
@@ -59,7 +65,7 @@ returns-6 : tie.Need-returns-6
 returns-6 c =
     let k = c .before .before .before .before .before .before .class .ensures in
     c .only-number3 .ensures
-    ∙ meet-stored _ _ _ _ _ k (c .before .before .if3 .left) (⊎-elim (λ w. inr (w .0 .taken, w .1 .left)) (λ w. inl (omega arith)) (c .before .if5 .came))
+    ∙ meet-stored _ _ _ _ _ k (c .before .before .if3 .left) (⊎-elim (λ w. inr (w .0 .taken, sym (w .1 .ensures) ∙ not-false _ (w .2 .left))) (λ w. inl (omega arith)) (c .before .if5 .came))
 
 pub meet-spec : {M : Type 1} → statement M
 meet-spec =
@@ -75,8 +81,9 @@ meet-spec =
     join-requires-2
     meet-half-requires-2
     returns-4
+    leads-requires
     only-number-requires-2
     returns-5
-    sub-t12
+    sub-t13
     only-number-requires-3
     returns-6)

@@ -18,13 +18,25 @@ only-number-requires-2 : tie.Need-only-number-requires-2
 only-number-requires-2 c κs = search needs
 
 returns-2 : tie.Need-returns-2
-returns-2 c = simp (c .only-number2 .ensures, ne-eqb _ _ (c .before .before .before .before .before .before .pre), ne-eqb _ _ (c .before .before .before .before .if1 .left), sym (c .before .before .agrees .ensures) ∙ not-true _ (c .before .if2 .taken))
+returns-2 c =
+    simp (
+      c .only-number2 .ensures,
+      ne-eqb _ _ (c .before .before .before .before .before .before .pre),
+      ne-eqb _ _ (c .before .before .before .before .if1 .left),
+      sym (c .before .before .agrees .ensures) ∙ not-true _ (c .before .if2 .taken),
+    )
 
 empty-slot-requires : tie.Need-empty-slot-requires
 empty-slot-requires c κs = search needs
 
 returns-3 : tie.Need-returns-3
-returns-3 c = simp (c .empty-slot .ensures, ne-eqb _ _ (c .before .before .before .before .before .before .pre), ne-eqb _ _ (c .before .before .before .before .if1 .left), sym (c .before .before .agrees .ensures) ∙ not-false _ (c .before .if2 .left))
+returns-3 c =
+    simp (
+      c .empty-slot .ensures,
+      ne-eqb _ _ (c .before .before .before .before .before .before .pre),
+      ne-eqb _ _ (c .before .before .before .before .if1 .left),
+      sym (c .before .before .agrees .ensures) ∙ not-false _ (c .before .if2 .left),
+    )
 
 pub meet-half-spec : {M : Type 1} → statement M
 meet-half-spec =

@@ -27,13 +27,20 @@ returns-3 : tie.Need-returns-3
 returns-3 c = simp (eq-eqb _ _ (c .before .before .before .before .before .before .if1 .left), eq-eqb _ _ (c .before .before .before .if2 .left), ne-eqb _ _ (c .if3 .taken))
 
 returns-4 : tie.Need-returns-4
-returns-4 c = simp (eq-eqb _ _ (c .before .before .before .before .before .before .before .before .before .if1 .left), eq-eqb _ _ (c .before .before .before .before .before .before .if2 .left), eq-eqb _ _ (c .before .before .before .if3 .left), ne-eqb _ _ (c .if4 .taken))
+returns-4 c =
+    simp (
+      eq-eqb _ _ (c .before .before .before .before .before .before .before .before .before .if1 .left),
+      eq-eqb _ _ (c .before .before .before .before .before .before .if2 .left),
+      eq-eqb _ _ (c .before .before .before .if3 .left),
+      ne-eqb _ _ (c .if4 .taken),
+    )
 
 returns-5 : tie.Need-returns-5
 returns-5 c =
     let p = c .before .before in
     let x = p .before .before .before .before .before .before .before .before .before .before .before .before .args in
-    same-last (x .a) (x .b) (p .before .before .before .before .before .before .before .before .before .if1 .left) (p .before .before .before .before .before .before .if2 .left) (p .before .before .before .if3 .left) (p .if4 .left)
+    same-last (x .a) (x .b) (p .before .before .before .before .before .before .before .before .before .if1 .left) (p .before .before .before .before .before .before .if2 .left)
+    (p .before .before .before .if3 .left) (p .if4 .left)
 
 pub same-reference-spec : {M : Type 1} → statement M
 same-reference-spec =

@@ -72,8 +72,11 @@ loop-again : tie.Need-loop-again Inv-loop μ-loop
 loop-again c =
     let s = c .before .before .before .before .before .before .before .before .before in
     let l = c .before .before .before .before .before .before .loop in
-    let h : l .i < min (s .args .t1 .callcount) 4 = omega (arith, c .before .before .before .before .before .before .before .least .ensures) in
-    (omega arith, calls-more (s .args .t1) (l .items) (l .random) (l .mark) (l .i) (l .inv .1) (four s) h _ _ _ (c .before .before .before .call-entry .ensures) (c .before .one-if .ensures) (c .one-if2 .ensures))
+    let h : l .i < min (s .args .t1 .callcount) 4 = omega (arith, c .before .before .before .before .before .before .before .least .ensures) in (
+      omega arith,
+      calls-more (s .args .t1) (l .items) (l .random) (l .mark) (l .i) (l .inv .1) (four s) h _ _ _ (c .before .before .before .call-entry .ensures) (c .before .one-if .ensures)
+          (c .one-if2 .ensures),
+    )
 
 returns : tie.Need-returns Inv-loop μ-loop
 returns c =

@@ -23,7 +23,10 @@ returns-2 c =
 returns-3 : tie.Need-returns-3
 returns-3 c =
     let x = c .before .before .before .before .before .args in
-    rw (not-false (x .c .described) (c .before .before .before .if1 .left), nth-past (x .k) (x .m .release7 .markcount) (x .m .release7 .marks) (omega (arith, four (c .before .before .before .before .before))))
+    rw (
+      not-false (x .c .described) (c .before .before .before .if1 .left),
+      nth-past (x .k) (x .m .release7 .markcount) (x .m .release7 .marks) (omega (arith, four (c .before .before .before .before .before))),
+    )
 
 element-copy-out-result : tie.Need-element-copy-out-result
 element-copy-out-result c = search needs
@@ -31,7 +34,10 @@ element-copy-out-result c = search needs
 returns-4 : tie.Need-returns-4
 returns-4 c =
     let x = c .before .before .before .before .before .before .before .args in
-    rw (not-false (x .c .described) (c .before .before .before .before .before .if1 .left), nth-there (x .k) (x .m .release7 .markcount) (x .m .release7 .marks) false (omega arith) (omega (arith, four (c .before .before .before .before .before .before .before))))
+    rw (
+      not-false (x .c .described) (c .before .before .before .before .before .if1 .left),
+      nth-there (x .k) (x .m .release7 .markcount) (x .m .release7 .marks) false (omega arith) (omega (arith, four (c .before .before .before .before .before .before .before))),
+    )
 
 pub emergency-of-call-spec : {M : Type 1} → statement M
 emergency-of-call-spec =

@@ -1,17 +1,18 @@
 -- `receiver::messages::nch_entries` meets its contract. Assumes nothing.
-use mathlib.Core.Path.{ap, _≡_, sym, _∙_}
-use Prim.Native.Nat.{_+_, _≤_, _<_, _-_, min}
+use mathlib.Core.Path.{_≡_, sym, _∙_}
+use Prim.Native.Nat.{_≤_, _<_, _-_, min}
 use native.Mathlib.Omega.{arith}
 use lib.ListN.{length, length-map}
 use borrow.Author.Needs.{needs}
 use Rattle.csn1.specs.Told.{padded}
 use Rattle.receiver.specs.Model.{noRecord}
+use Rattle.receiver.specs.Step.{mostEntries}
 use Rattle.receiver.proofs.MessageEntries.{entriesTo, few-calls, reduceds-begin, reduceds-more, reduceds-end}
 use Rattle.receiver.proofs.messages.nch_entries.Statement.{statement}
 use Rattle.receiver.proofs.messages.nch_entries.Tie as tie
 
 abbrev Inv-loop : tie.InvT-loop
-Inv-loop m calls items₀ first six count j₀ items j = (j ≤ count) × (items ≡ padded noRecord 9 (entriesTo m j))
+Inv-loop m calls items₀ first six count j₀ items j = (j ≤ count) × (items ≡ padded noRecord mostEntries (entriesTo m j))
 
 abbrev μ-loop : tie.MeasureT-loop
 μ-loop m calls items₀ first six count j₀ items j = count - j
@@ -70,8 +71,11 @@ loop-again c =
     let s = c .before .before .before .before .before .before .before .before .before in
     let n = c .before .before .before .before .before .before .before .before .call-entries in
     let l = c .before .before .before .before .loop in
-    let h : l .j < min (s .args .m .release6 .reducedcount) 5 = omega (arith, c .before .before .before .before .before .least .ensures) in
-    (omega arith, reduceds-more (s .args .m) (four s) (five s) (n .result .count) (n .ensures .1 .0) (l .items) (l .j) (l .inv .1) h (n .result .ciphered) (n .ensures .1 .1) _ (c .reduced-entry .ensures))
+    let h : l .j < min (s .args .m .release6 .reducedcount) 5 = omega (arith, c .before .before .before .before .before .least .ensures) in (
+      omega arith,
+      reduceds-more (s .args .m) (four s) (five s) (n .result .count) (n .ensures .1 .0) (l .items) (l .j) (l .inv .1) h (n .result .ciphered) (n .ensures .1 .1) _
+          (c .reduced-entry .ensures),
+    )
 
 add-t9 : tie.Need-add-t9 Inv-loop μ-loop
 add-t9 c = omega (arith, few (c .before .before .before .before .before), c .before .before .least .ensures)
@@ -81,9 +85,8 @@ returns c =
     let s = c .before .before .before .before .before .before in
     let n = c .before .before .before .before .before .call-entries in
     let l = c .before .loop in
-    let e : l .j ≡ c .before .before .least .result = omega arith in
-    let r = reduceds-end (s .args .m) (four s) (five s) (n .result .count) (n .ensures .1 .0) (l .items) (l .j) (l .inv .1) (e ∙ c .before .before .least .ensures) in
-    (r .0, ap (λ k. n .result .count + k) (sym e) ∙ r .1)
+    let k = c .before .before .least in
+    reduceds-end (s .args .m) (four s) (five s) (n .result .count) (n .ensures .1 .0) (l .items) (l .j) (l .inv .1) (k .result) (omega arith) (k .ensures)
 
 pub nch-entries-spec : {M : Type 1} → statement M
 nch-entries-spec =

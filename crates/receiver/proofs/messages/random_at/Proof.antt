@@ -15,13 +15,17 @@ owns-none-requires : tie.Need-owns-none-requires
 owns-none-requires c κs = search needs
 
 returns : tie.Need-returns
-returns c = rw (nth-past (c .before .before .before .args .k) (c .before .before .before .args .m .release6 .randomcount) (c .before .before .before .args .m .release6 .randoms) (omega arith)) (c .owns-none .ensures)
+returns c =
+    let a = c .before .before .before .args in
+    rw (nth-past (a .k) (a .m .release6 .randomcount) (a .m .release6 .randoms) (omega arith)) (c .owns-none .ensures)
 
 owns-none-requires-2 : tie.Need-owns-none-requires-2
 owns-none-requires-2 c κs = search needs
 
 returns-2 : tie.Need-returns-2
-returns-2 c = rw (nth-past (c .before .before .before .before .args .k) (c .before .before .before .before .args .m .release6 .randomcount) (c .before .before .before .before .args .m .release6 .randoms) (omega (arith, nine (c .before .before .before .before)))) (c .owns-none2 .ensures)
+returns-2 c =
+    let s = c .before .before .before .before in
+    rw (nth-past (s .args .k) (s .args .m .release6 .randomcount) (s .args .m .release6 .randoms) (omega (arith, nine s))) (c .owns-none2 .ensures)
 
 mul-one : tie.Need-mul-one
 mul-one c = search needs

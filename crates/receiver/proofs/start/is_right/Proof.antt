@@ -22,14 +22,25 @@ is-timer-requires-2 c κs = search needs
 
 returns-3 : tie.Need-returns-3
 unfolding setupRight
-returns-3 c = simp (le-leb _ _ (c .before .before .before .before .if1 .left), sym (c .before .before .before .is-timer .ensures) ∙ not-false _ (c .before .before .if2 .left), sym (c .before .is-timer2 .ensures) ∙ not-true _ (c .if3 .taken))
+returns-3 c =
+    simp (
+      le-leb _ _ (c .before .before .before .before .if1 .left),
+      sym (c .before .before .before .is-timer .ensures) ∙ not-false _ (c .before .before .if2 .left),
+      sym (c .before .is-timer2 .ensures) ∙ not-true _ (c .if3 .taken),
+    )
 
 keys-right-requires : tie.Need-keys-right-requires
 keys-right-requires c κs = search needs
 
 returns-4 : tie.Need-returns-4
 unfolding setupRight
-returns-4 c = simp (le-leb _ _ (c .before .before .before .before .before .if1 .left), sym (c .before .before .before .before .is-timer .ensures) ∙ not-false _ (c .before .before .before .if2 .left), sym (c .before .before .is-timer2 .ensures) ∙ not-false _ (c .before .if3 .left), c .keys-right .ensures)
+returns-4 c =
+    simp (
+      le-leb _ _ (c .before .before .before .before .before .if1 .left),
+      sym (c .before .before .before .before .is-timer .ensures) ∙ not-false _ (c .before .before .before .if2 .left),
+      sym (c .before .before .is-timer2 .ensures) ∙ not-false _ (c .before .if3 .left),
+      c .keys-right .ensures,
+    )
 
 pub is-right-spec : {M : Type 1} → statement M
 is-right-spec =

@@ -3,19 +3,20 @@ use mathlib.Core.Path.{_≡_, refl, _∙_}
 use mathlib.Core.Logic.{⊎-elim}
 use Prim.Native.Nat.{_-_, _≤_}
 use lib.ListN.{replicate}
+use Rattle.receiver.specs.Channels.{keyCount}
 use Rattle.receiver.specs.Model.{noKey}
 use Rattle.receiver.proofs.Loops.{partAt}
-use Rattle.receiver.proofs.Keys.{placed, place-set, place-keep, place-all}
+use Rattle.receiver.proofs.KeyPlaces.{placed, place-set, place-keep, place-all}
 use native.Mathlib.Omega.{arith}
 use borrow.Author.Needs.{needs}
 use Rattle.receiver.proofs.start.key_places.Statement.{statement}
 use Rattle.receiver.proofs.start.key_places.Tie as tie
 
 abbrev Inv-loop : tie.InvT-loop
-Inv-loop keys places₀ i₀ places i = (i ≤ 50) × (places ≡ partAt (placed keys) 0 i (replicate 50 noKey))
+Inv-loop keys places₀ i₀ places i = (i ≤ keyCount) × (places ≡ partAt (placed keys) 0 i (replicate keyCount noKey))
 
 abbrev μ-loop : tie.MeasureT-loop
-μ-loop keys places₀ i₀ places i = 50 - i
+μ-loop keys places₀ i₀ places i = keyCount - i
 
 loop-holds : tie.Need-loop-holds Inv-loop μ-loop
 loop-holds c = (omega arith, refl)
@@ -44,15 +45,15 @@ loop-again c =
     let ks = c .before .before .before .args .keys .now in (
       omega arith,
       ⊎-elim
-          (λ w. w .2 ∙ place-set ks (l .places) 50 (l .i) (l .inv .1) 0 (w .0 .taken))
-          (λ w. w .1 ∙ place-keep ks (l .places) 50 (l .i) (l .inv .1) (omega arith) (w .0 .left))
+          (λ w. w .2 ∙ place-set ks (l .places) keyCount (l .i) (l .inv .1) 0 (w .0 .taken))
+          (λ w. w .1 ∙ place-keep ks (l .places) keyCount (l .i) (l .inv .1) (omega arith) (w .0 .left))
           (c .if1 .came),
     )
 
 returns : tie.Need-returns Inv-loop μ-loop
 returns c =
     let l = c .before .loop in
-    place-all (c .before .before .args .keys .now) (l .places) 50 (l .i) (l .inv .1) (omega arith)
+    place-all (c .before .before .args .keys .now) (l .places) keyCount (l .i) (l .inv .1) (omega arith)
 
 pub key-places-spec : {M : Type 1} → statement M
 key-places-spec =

@@ -23,11 +23,21 @@ spared-requires c κs = search needs
 
 returns-3 : tie.Need-returns-3
 unfolding fateOf takenOf
-returns-3 c = simp (ne-eqb _ _ (c .before .before .before .before .if1 .left), sym (c .before .before .before .ran-out .ensures) ∙ c .before .before .if2 .left, sym (c .before .spared .ensures) ∙ c .if3 .taken)
+returns-3 c =
+    simp (
+      ne-eqb _ _ (c .before .before .before .before .if1 .left),
+      sym (c .before .before .before .ran-out .ensures) ∙ c .before .before .if2 .left,
+      sym (c .before .spared .ensures) ∙ c .if3 .taken,
+    )
 
 returns-4 : tie.Need-returns-4
 unfolding fateOf takenOf
-returns-4 c = simp (ne-eqb _ _ (c .before .before .before .before .if1 .left), sym (c .before .before .before .ran-out .ensures) ∙ c .before .before .if2 .left, sym (c .before .spared .ensures) ∙ c .if3 .left)
+returns-4 c =
+    simp (
+      ne-eqb _ _ (c .before .before .before .before .if1 .left),
+      sym (c .before .before .before .ran-out .ensures) ∙ c .before .before .if2 .left,
+      sym (c .before .spared .ensures) ∙ c .if3 .left,
+    )
 
 pub fate-of-spec : {M : Type 1} → statement M
 fate-of-spec =

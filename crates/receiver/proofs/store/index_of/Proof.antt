@@ -3,21 +3,22 @@ use mathlib.Core.Path.{_≡_, sym, ap, _∙_}
 use Prim.Native.Nat.{ℕ, _+_, _-_, _≤_}
 use native.Mathlib.Nat.{zero-add, add-zero, add-suc, suc-add}
 use native.Mathlib.Numerals.{add-one}
-use lib.ListN.{length, drop, drop-of-length-le}
+use lib.ListN.{length, drop}
+use Rattle.receiver.specs.Channels.{keyCount}
 use Rattle.receiver.specs.Model.{indexOf}
-use Rattle.receiver.proofs.Keys.{index-here, index-next}
+use Rattle.receiver.proofs.Keys.{index-here, index-next, index-past}
 use native.Mathlib.Omega.{arith}
 use borrow.Author.Needs.{needs}
 use Rattle.receiver.proofs.store.index_of.Statement.{statement}
 use Rattle.receiver.proofs.store.index_of.Tie as tie
 
 abbrev Inv-loop : tie.InvT-loop
-Inv-loop key keys i₀ i = (i ≤ 50) × (indexOf keys key ≡ i + indexOf (drop i keys) key)
+Inv-loop key keys i₀ i = (i ≤ keyCount) × (indexOf keys key ≡ i + indexOf (drop i keys) key)
 
 abbrev μ-loop : tie.MeasureT-loop
-μ-loop key keys i₀ i = 50 - i
+μ-loop key keys i₀ i = keyCount - i
 
-keys-length : (c : tie.Start Inv-loop μ-loop) → length (c .args .t1) ≡ 50
+keys-length : (c : tie.Start Inv-loop μ-loop) → length (c .args .t1) ≡ keyCount
 keys-length c = c .good .0 .1 .0 .1
 
 loop-holds : tie.Need-loop-holds Inv-loop μ-loop
@@ -35,7 +36,8 @@ wide-requires c κs = search needs
 returns : tie.Need-returns Inv-loop μ-loop
 returns c =
     let l = c .before .before .before .loop in
-    sym (l .inv .1 ∙ ap (λ (n : ℕ). l .i + n) (index-here _ _ (l .i) 0 (omega (arith, keys-length (c .before .before .before .before))) (sym (c .before .wide .ensures) ∙ c .if1 .taken)) ∙ add-zero (l .i))
+    sym
+    (l .inv .1 ∙ ap (λ (n : ℕ). l .i + n) (index-here _ _ (l .i) 0 (omega (arith, keys-length (c .before .before .before .before))) (sym (c .before .wide .ensures) ∙ c .if1 .taken)) ∙ add-zero (l .i))
 
 add-i : tie.Need-add-i Inv-loop μ-loop
 add-i c = search needs
@@ -53,10 +55,9 @@ loop-again c =
     )
 
 returns-2 : tie.Need-returns-2 Inv-loop μ-loop
-unfolding indexOf
 returns-2 c =
     let l = c .before .loop in
-    sym (l .inv .1 ∙ rw (drop-of-length-le (c .before .before .args .t1) {i = l .i} (omega (arith, keys-length (c .before .before)))) (omega arith))
+    sym (l .inv .1 ∙ rw (index-past (c .before .before .args .t1) _ (l .i) (omega (arith, keys-length (c .before .before)))) (add-zero (l .i)))
 
 pub index-of-spec : {M : Type 1} → statement M
 index-of-spec =

@@ -1,26 +1,28 @@
 -- `receiver::store::spared` meets its contract. Assumes nothing.
+use mathlib.Core.Path.{sym, _∙_}
+use borrow.Author.Tests.{not-true, not-false}
+use Rattle.receiver.specs.Model.{spares}
 use borrow.Author.Needs.{needs}
 use Rattle.receiver.proofs.store.spared.Statement.{statement}
 use Rattle.receiver.proofs.store.spared.Tie as tie
 
-enum-told : tie.Need-enum-told
-enum-told c = search needs
+side-of-requires : tie.Need-side-of-requires
+side-of-requires c κs = search needs
 
-enum-known-rule : tie.Need-enum-known-rule
-enum-known-rule c = search needs
-
-enum-known-rule-2 : tie.Need-enum-known-rule-2
-enum-known-rule-2 c = search needs
+takes-requires : tie.Need-takes-requires
+takes-requires c κs = search needs
 
 returns : tie.Need-returns
-returns c = search needs
+unfolding spares
+returns c = rw (sym (c .before .before .side-of .ensures), sym (c .before .takes .ensures) ∙ not-true _ (c .if1 .taken))
+
+index-in-requires : tie.Need-index-in-requires
+index-in-requires c κs = search needs
 
 returns-2 : tie.Need-returns-2
-returns-2 c = rw (c .before .rule .given .1)
-
-returns-3 : tie.Need-returns-3
-returns-3 c = rw (c .before .rule2 .given .1)
+unfolding spares
+returns-2 c = rw (sym (c .before .before .before .before .side-of .ensures), sym (c .before .before .before .takes .ensures) ∙ not-false _ (c .before .before .if1 .left), c .before .index-in .ensures)
 
 pub spared-spec : {M : Type 1} → statement M
 spared-spec =
-    tie.close (tie.spec enum-told enum-known-rule enum-known-rule-2 returns returns-2 returns-3)
+    tie.close (tie.spec side-of-requires takes-requires returns index-in-requires returns-2)

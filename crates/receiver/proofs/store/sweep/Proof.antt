@@ -3,6 +3,7 @@ use mathlib.Core.Path.{_≡_, sym, _∙_}
 use mathlib.Core.Logic.{⊎-elim}
 use Prim.Native.Nat.{_-_, _≤_, _<_}
 use lib.ListN.{length, length-map}
+use Rattle.receiver.specs.Channels.{places}
 use Rattle.receiver.specs.Model.{emptySlot}
 use Rattle.receiver.proofs.Sweeping.{Done, none-done, all-done, counts-low, one-stays, one-runs-out, one-taken}
 use native.Mathlib.Omega.{arith}
@@ -11,13 +12,13 @@ use Rattle.receiver.proofs.store.sweep.Statement.{statement}
 use Rattle.receiver.proofs.store.sweep.Tie as tie
 
 abbrev Inv-loop : tie.InvT-loop
-Inv-loop now rule r₀ e expired₀ dropped₀ i₀ r expired dropped i = (i ≤ 100) × (e ≡ emptySlot) × Done r₀ now rule i r expired dropped
+Inv-loop now rule r₀ e expired₀ dropped₀ i₀ r expired dropped i = (i ≤ places) × (e ≡ emptySlot) × Done r₀ now rule i r expired dropped
 
 abbrev μ-loop : tie.MeasureT-loop
-μ-loop now rule r₀ e expired₀ dropped₀ i₀ r expired dropped i = 100 - i
+μ-loop now rule r₀ e expired₀ dropped₀ i₀ r expired dropped i = places - i
 
--- there are 100 places, by the parameter's type
-slots-length : (c : tie.Start Inv-loop μ-loop) → length (c .args .t1 .slots) ≡ 100
+-- how many places there are, by the parameter's type
+slots-length : (c : tie.Start Inv-loop μ-loop) → length (c .args .t1 .slots) ≡ places
 slots-length c = sym (length-map (c .args .t1 .slots) _) ∙ c .good .0 .1 .1 .0 .1 .0 .1
 
 empty-slot-requires : tie.Need-empty-slot-requires Inv-loop μ-loop

@@ -1,13 +1,16 @@
 -- `receiver::store::timer_at` meets its contract. Assumes nothing.
-use borrow.Author.Tests.{eq-eqb, ne-eqb}
+use borrow.Author.Needs.{needs}
 use Rattle.receiver.proofs.store.timer_at.Statement.{statement}
 use Rattle.receiver.proofs.store.timer_at.Tie as tie
 
-returns : tie.Need-returns
-returns c = simp (eq-eqb _ _ (c .if1 .taken))
+side-of-requires : tie.Need-side-of-requires
+side-of-requires c κs = search needs
 
-returns-2 : tie.Need-returns-2
-returns-2 c = simp (ne-eqb _ _ (c .if1 .left))
+timer-of-requires : tie.Need-timer-of-requires
+timer-of-requires c κs = search needs
+
+returns : tie.Need-returns
+returns c = rw (c .timer-of .ensures, c .before .side-of .ensures)
 
 pub timer-at-spec : {M : Type 1} → statement M
-timer-at-spec = tie.close (tie.spec returns returns-2)
+timer-at-spec = tie.close (tie.spec side-of-requires timer-of-requires returns)

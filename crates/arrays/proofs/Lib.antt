@@ -1,0 +1,4 @@
+pub mod Running
+pub mod Filling
+pub mod Within
+pub mod Zeroed

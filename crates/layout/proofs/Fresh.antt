@@ -1,0 +1,157 @@
+-- What a setup leaves. Assumes nothing.
+use mathlib.Core.Path.{_≡_, refl, ap, sym, _∙_}
+use mathlib.Core.List.{List, [], _∷_, _++_, append-assoc, append-nil}
+use Prim.Native.Nat.{ℕ, zero, suc, _+_, _*_, _≤_, _<_}
+use native.Mathlib.Nat.{add-zero, zero-add}
+use native.Mathlib.Omega.{arith}
+use lib.Dec.{ltb, lit<}
+use lib.ListN.{length, getD, replicate, length-append, length-replicate}
+use borrow.Author.Tests.{le-ltb}
+use Rattle.bits.specs.Field.{pick}
+use Rattle.arrays.specs.Runs.{stored}
+use Rattle.arrays.proofs.Running.{length-stored, stored-before, stored-after, stored-then}
+use Rattle.receiver.specs.declared.Setup.{Setup}
+use Rattle.receiver.specs.Channels.{keyCount, places}
+use Rattle.receiver.specs.Model.{emptySlot, noCell, newReceiver, keyPlaces}
+use Rattle.receiver.specs.Step.{mostEntries, noTold}
+use Rattle.layout.specs.Octets.{leAt, octets, table}
+use Rattle.layout.specs.Layout.{tickFrom, cellFrom, keysFrom, kindsFrom, answerFrom, stateLength, kindPlace, slotNo, keyNo, cellAt, cellOctets, decodeOf, toldNo, lastOf, keysOctets, freshOctets}
+use Rattle.layout.specs.Setup.{noAnswer}
+use Rattle.layout.proofs.Numbers.{length-octets, le-zero, le-alone, le-before, table-ext, table-same, table-list}
+use Rattle.layout.proofs.Decoding.{field, cell-same, same-receiver, slot-empty, cell-fits, cell-back}
+
+-- ## The keys
+
+pub length-keys : (ks : List ℕ) → length (keysOctets ks) ≡ 4 * length ks
+length-keys [] = refl
+length-keys (k ∷ ks) = simp (length-append, length-octets, length-keys ks) (omega arith)
+
+keys-then : (l : List ℕ) (at k : ℕ) (ks : List ℕ)
+    → stored l at (octets 4 k ++ keysOctets ks) ≡ stored (stored l at (octets 4 k)) (at + 4) (keysOctets ks)
+keys-then l at k ks =
+    sym (stored-then l at (octets 4 k) (keysOctets ks))
+    ∙ ap (λ (n : ℕ). stored (stored l at (octets 4 k)) (at + n) (keysOctets ks)) (length-octets 4 k)
+
+key-back : (l : List ℕ) (at : ℕ) (ks : List ℕ) (i : ℕ) → at + 4 * length ks ≤ length l → ((j : ℕ) → getD ks j 0 < 4294967296) → i < length ks
+    → leAt 4 (stored l at (keysOctets ks)) (at + 4 * i) ≡ getD ks i 0
+key-back l at [] i h b lt = absurd (omega arith)
+key-back l at (k ∷ ks) zero h b lt =
+    rw (keys-then l at k ks, add-zero at)
+    (le-before 4 (stored l at (octets 4 k)) (at + 4) (keysOctets ks) at (omega arith) ∙ le-alone 4 k l at (omega arith) (b 0))
+key-back l at (k ∷ ks) (suc i) h b lt =
+    let q : at + 4 * suc i ≡ at + 4 + 4 * i = omega arith in
+    rw (keys-then l at k ks, q)
+    (key-back (stored l at (octets 4 k)) (at + 4) ks i (rw (length-stored l at (octets 4 k)) (omega arith)) (λ j. b (suc j)) (omega arith))
+
+pub length-places : (n : ℕ) (ks : List ℕ) → length (keyPlaces n ks) ≡ n
+length-places zero ks = refl
+length-places (suc n) [] = ap suc (length-places n [])
+length-places (suc n) (k ∷ ks) = ap suc (length-places n ks)
+
+places-below : (n : ℕ) (ks : List ℕ) → ((j : ℕ) → getD ks j 0 < 4294967296) → (j : ℕ) → getD (keyPlaces n ks) j 0 < 4294967296
+places-below zero ks b j = lit< tt
+places-below (suc n) [] b zero = lit< tt
+places-below (suc n) [] b (suc j) = places-below n [] b j
+places-below (suc n) (k ∷ ks) b zero = b 0
+places-below (suc n) (k ∷ ks) b (suc j) = places-below n ks (λ i. b (suc i)) j
+
+-- ## All octets, over octets that are all 0
+
+zeros : (n j : ℕ) → _≡_ {A = ℕ} (getD (replicate n 0) j 0) 0
+zeros zero j = refl
+zeros (suc n) zero = refl
+zeros (suc n) (suc j) = zeros n j
+
+module _ (z : List ℕ) (s : Setup) (keys : List ℕ) where
+  abbrev times : List ℕ
+  times = octets 4 (s .tick) ++ (octets 4 (s .t3206) ++ octets 4 (s .t3208))
+
+  abbrev timed : List ℕ
+  timed = stored z tickFrom times
+
+  abbrev celled : List ℕ
+  celled = stored timed cellFrom (cellOctets noCell)
+
+  abbrev written : List ℕ
+  written = keysOctets (keyPlaces keyCount keys)
+
+  abbrev fresh : List ℕ
+  fresh = stored celled keysFrom written
+
+  length-celled : length celled ≡ length z
+  length-celled = length-stored timed cellFrom (cellOctets noCell) ∙ length-stored z tickFrom times
+
+  length-times : tickFrom + length times ≡ cellFrom
+  length-times = simp (length-append, length-octets)
+
+  length-written : keysFrom + length written ≡ kindsFrom
+  length-written = ap (λ (n : ℕ). keysFrom + n) (length-keys (keyPlaces keyCount keys) ∙ ap (λ (n : ℕ). 4 * n) (length-places keyCount keys))
+
+  length-on : length fresh ≡ length z
+  length-on = length-stored celled keysFrom written ∙ length-celled
+
+  module _ (o : (j : ℕ) → getD z j 0 ≡ 0) where
+    behind : (j : ℕ) → kindsFrom ≤ j → getD fresh j 0 ≡ 0
+    behind j h =
+        stored-after celled keysFrom written j (omega (arith, length-written))
+        ∙ stored-after timed cellFrom (cellOctets noCell) j (omega (arith, cell-fits noCell))
+        ∙ stored-after z tickFrom times j (omega (arith, length-times))
+        ∙ o j
+
+    last-on : lastOf fresh ≡ noAnswer
+    unfolding lastOf
+    last-on =
+        let n : (at : ℕ) → kindsFrom ≤ at → leAt 4 fresh at ≡ 0 = λ at h. le-zero 4 fresh at (λ k x. behind (at + k) (omega arith)) in
+        let e : lastOf fresh .entries ≡ noAnswer .entries =
+        table-ext (λ j. pick (ltb j (leAt 4 fresh (answerFrom + 8))) (toldNo fresh j) noTold) (λ j. noTold) 0 mostEntries
+        (λ j a b. ap (λ (x : ℕ). pick (ltb j x) (toldNo fresh j) noTold) (n (answerFrom + 8) (omega arith)) ∙ rw (le-ltb j 0 (omega arith)) refl)
+        in
+        λ i. record { expired = n answerFrom (omega arith) i; dropped = n (answerFrom + 4) (omega arith) i; count = n (answerFrom + 8) (omega arith) i; entries = e i }
+
+    module _ (m : length z ≡ stateLength) (b : (j : ℕ) → getD keys j 0 < 4294967296) where
+      time-on : (x : ℕ) (p q : List ℕ) (k n : ℕ) → times ≡ p ++ octets 4 x ++ q → length p ≡ k → length q ≡ n → k + 4 + n ≡ cellFrom → x < 4294967296
+          → leAt 4 fresh (tickFrom + k) ≡ x
+      time-on x p q k n e u v w lt =
+          le-before 4 celled keysFrom written (tickFrom + k) (omega arith)
+          ∙ le-before 4 timed cellFrom (cellOctets noCell) (tickFrom + k) (omega arith)
+          ∙ field times z tickFrom 4 x p q k n e u v (omega arith) lt
+
+      keys-on : table (keyNo fresh) 0 keyCount ≡ keyPlaces keyCount keys
+      keys-on =
+          table-list (keyNo fresh) 0 0 keyCount (keyPlaces keyCount keys) (length-places keyCount keys)
+          (λ i h.
+          ap (keyNo fresh) (zero-add i)
+          ∙ key-back celled keysFrom (keyPlaces keyCount keys) i (rw (length-places keyCount keys) (omega (arith, length-celled)))
+          (places-below keyCount keys b) (rw (length-places keyCount keys) h))
+
+      cell-on : cellAt fresh ≡ noCell
+      cell-on =
+          cell-same celled fresh (λ j x y. stored-before celled keysFrom written j (omega arith))
+          ∙ cell-back timed noCell (rw (length-stored z tickFrom times) (omega arith))
+
+      decode-on : s .tick < 4294967296 → s .t3206 < 4294967296 → s .t3208 < 4294967296 → decodeOf fresh ≡ newReceiver s (keyPlaces keyCount keys)
+      unfolding decodeOf
+      decode-on u v w =
+          same-receiver (decodeOf fresh) (newReceiver s (keyPlaces keyCount keys))
+          (table-same (slotNo fresh) emptySlot 0 places (λ i x y. slot-empty fresh i (behind (kindPlace i) (omega arith))))
+          keys-on
+          (time-on (s .tick) [] (octets 4 (s .t3206) ++ octets 4 (s .t3208)) 0 8 refl refl (simp (length-append, length-octets)) refl u)
+          (time-on (s .t3206) (octets 4 (s .tick)) (octets 4 (s .t3208)) 4 4 (simp append-assoc) (length-octets 4 _) (length-octets 4 _) refl v)
+          (time-on (s .t3208) (octets 4 (s .tick) ++ octets 4 (s .t3206)) [] 8 0 (simp (append-assoc, append-nil)) (simp (length-append, length-octets)) refl refl w)
+          cell-on
+
+-- ## A setup's octets
+
+module _ (s : Setup) (keys : List ℕ) where
+  pub length-fresh : length (freshOctets s keys) ≡ stateLength
+  unfolding freshOctets
+  length-fresh = length-on (replicate stateLength 0) s keys ∙ length-replicate {A = ℕ} stateLength 0
+
+  pub last-fresh : lastOf (freshOctets s keys) ≡ noAnswer
+  unfolding freshOctets
+  last-fresh = last-on (replicate stateLength 0) s keys (zeros stateLength)
+
+  pub decode-fresh : s .tick < 4294967296 → s .t3206 < 4294967296 → s .t3208 < 4294967296 → ((j : ℕ) → getD keys j 0 < 4294967296)
+      → decodeOf (freshOctets s keys) ≡ newReceiver s (keyPlaces keyCount keys)
+  unfolding freshOctets
+  decode-fresh u v w b = decode-on (replicate stateLength 0) s keys (zeros stateLength) (length-replicate {A = ℕ} stateLength 0) b u v w

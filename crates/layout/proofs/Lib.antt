@@ -1,0 +1,11 @@
+pub mod States
+pub mod Numbers
+pub mod Wide
+pub mod Decoding
+pub mod Finding
+pub mod Sweeps
+pub mod Runs
+pub mod NoneOut
+pub mod Fresh
+pub mod Reading
+pub mod Setting

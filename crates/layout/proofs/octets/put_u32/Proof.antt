@@ -1,0 +1,68 @@
+-- `layout::octets::put_u32` meets its contract. Assumes nothing.
+use native.Mathlib.Nat.{div-div-eq-div-mul}
+use native.Mathlib.Numerals.{towards-suc}
+use native.Mathlib.Omega.{arith}
+use lib.ListN.{length-set}
+use borrow.Author.Needs.{needs}
+use Rattle.arrays.specs.Runs.{stored}
+use Rattle.layout.specs.Octets.{octets}
+use Rattle.layout.proofs.octets.put_u32.Statement.{statement}
+use Rattle.layout.proofs.octets.put_u32.Tie as tie
+
+cast-b : tie.Need-cast-b
+cast-b c = omega arith
+
+slice-write-b : tie.Need-slice-write-b
+slice-write-b c = omega arith
+
+cast-b-2 : tie.Need-cast-b-2
+cast-b-2 c = omega arith
+
+add-b : tie.Need-add-b
+add-b c = omega arith
+
+slice-write-b-2 : tie.Need-slice-write-b-2
+slice-write-b-2 c = simp length-set (omega arith)
+
+cast-b-3 : tie.Need-cast-b-3
+cast-b-3 c = omega arith
+
+add-b-2 : tie.Need-add-b-2
+add-b-2 c = omega arith
+
+slice-write-b-3 : tie.Need-slice-write-b-3
+slice-write-b-3 c = simp length-set (omega arith)
+
+cast-b-4 : tie.Need-cast-b-4
+cast-b-4 c = omega arith
+
+add-b-3 : tie.Need-add-b-3
+add-b-3 c = omega arith
+
+slice-write-b-4 : tie.Need-slice-write-b-4
+slice-write-b-4 c = simp length-set (omega arith)
+
+same-length : tie.Need-same-length
+same-length c = search needs
+
+returns : tie.Need-returns
+unfolding octets stored
+returns c = simp (towards-suc, div-div-eq-div-mul)
+
+pub put-u32-spec : {M : Type 1} → statement M
+put-u32-spec =
+    tie.close
+    (tie.spec
+    cast-b
+    slice-write-b
+    cast-b-2
+    add-b
+    slice-write-b-2
+    cast-b-3
+    add-b-2
+    slice-write-b-3
+    cast-b-4
+    add-b-3
+    slice-write-b-4
+    same-length
+    returns)

@@ -1,0 +1,68 @@
+-- `layout::setup::fill` meets its contract. Assumes nothing.
+use mathlib.Core.Path.{ap, _∙_}
+use Prim.Native.Nat.{ℕ}
+use lib.ListN.{replicate, length-set}
+use borrow.Author.Needs.{needs}
+use Rattle.layout.proofs.Setting.{filled}
+use Rattle.layout.proofs.setup.fill.Statement.{statement}
+use Rattle.layout.proofs.setup.fill.Tie as tie
+
+zero-requires : tie.Need-zero-requires
+zero-requires c κs = search needs
+
+put-u32-requires : tie.Need-put-u32-requires
+put-u32-requires c κs = search needs
+
+put-u32-requires-2 : tie.Need-put-u32-requires-2
+put-u32-requires-2 c κs = search needs
+
+add-put-u32 : tie.Need-add-put-u32
+add-put-u32 c = search needs
+
+put-u32-requires-3 : tie.Need-put-u32-requires-3
+put-u32-requires-3 c κs = search needs
+
+slice-write-b : tie.Need-slice-write-b
+slice-write-b c = search needs
+
+put-keys-requires : tie.Need-put-keys-requires
+put-keys-requires c κs =
+    let third = c .before .before .before in
+    let second = third .before .before .before .before in
+    let first = second .before .before .before .before in
+    let zeros = first .before .before .before .before in
+    simp length-set (third .put-u323 .kept .0 ∙ second .put-u322 .kept .0 ∙ first .put-u32 .kept .0 ∙ zeros .zero .kept .0 ∙ zeros .before .before .before .before .pre)
+
+same-length : tie.Need-same-length
+same-length c =
+    let keys = c .before .before in
+    let third = keys .before .before .before .before in
+    let second = third .before .before .before .before in
+    let first = second .before .before .before .before in
+    keys .put-keys .kept .0
+    ∙ simp length-set (third .put-u323 .kept .0 ∙ second .put-u322 .kept .0 ∙ first .put-u32 .kept .0 ∙ first .before .before .before .before .zero .kept .0)
+
+returns : tie.Need-returns
+returns c =
+    let keys = c .before .before in
+    let third = keys .before .before .before .before in
+    let second = third .before .before .before .before in
+    let first = second .before .before .before .before in
+    let zeros = first .before .before .before .before in
+    let start = zeros .before .before .before .before in
+    filled (start .args .s) (start .args .keys .now) _ _ _ _ _ (zeros .zero .ensures ∙ ap (λ (n : ℕ). replicate n 0) (start .pre)) (first .put-u32 .ensures)
+    (second .put-u322 .ensures) (third .put-u323 .ensures) (keys .put-keys .ensures)
+
+pub fill-spec : {M : Type 1} → statement M
+fill-spec =
+    tie.close
+    (tie.spec
+    zero-requires
+    put-u32-requires
+    put-u32-requires-2
+    add-put-u32
+    put-u32-requires-3
+    slice-write-b
+    put-keys-requires
+    same-length
+    returns)

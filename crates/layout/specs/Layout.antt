@@ -1,0 +1,246 @@
+-- The lent state's octets (docs/STATE.md): what any octets are read as, and what is written where. Assumes nothing.
+use mathlib.Core.List.{List, [], _∷_, _++_}
+use mathlib.Core.Bool.{Bool}
+use Prim.Native.Nat.{ℕ, _+_, _*_, _/_}
+use lib.ListN.{length, getD, set, replicate}
+use lib.Dec.{leb, ltb, eqb}
+use Rattle.bits.specs.Field.{both, pick}
+use Rattle.csn1.specs.Told.{asBit}
+use Rattle.arrays.specs.Runs.{stored}
+use Rattle.receiver.specs.declared.Record.{Record}
+use Rattle.receiver.specs.declared.Slot.{Slot}
+use Rattle.receiver.specs.declared.Receiver.{Receiver}
+use Rattle.receiver.specs.declared.Cell.{Cell}
+use Rattle.receiver.specs.declared.Setup.{Setup}
+use Rattle.receiver.specs.declared.Told.{Told}
+use Rattle.receiver.specs.Channels.{channels, keyCount, places}
+use Rattle.receiver.specs.Model.{noRecord, emptySlot, noCell, keyPlaces}
+use Rattle.receiver.specs.Step.{noTold, mostEntries}
+use Rattle.layout.specs.Octets.{leAt, octetAt, flagAt, octets, table}
+
+-- ## What stands where: the tick, the timers, what is known of the cell, the keys, three arrays over the places, the answer
+
+abbrev pub tickFrom : ℕ
+tickFrom = 0
+
+-- one of four octets for each channel, in the order of their numbers
+abbrev pub timersFrom : ℕ
+timersFrom = tickFrom + 4
+
+abbrev pub cellFrom : ℕ
+cellFrom = timersFrom + 4 * channels
+
+abbrev pub keysFrom : ℕ
+keysFrom = cellFrom + 4
+
+-- one octet for each place, and some that no place uses, so that they can be tested eight at a time
+abbrev pub kindsFrom : ℕ
+kindsFrom = keysFrom + 4 * keyCount
+
+abbrev pub sincesFrom : ℕ
+sincesFrom = kindsFrom + (places + 7) / 8 * 8
+
+abbrev pub recordsFrom : ℕ
+recordsFrom = sincesFrom + 4 * places
+
+abbrev pub recordLength : ℕ
+recordLength = 56
+
+-- expiries, drops and the number of entries, four octets each, and four that are not used; then the entries
+abbrev pub answerFrom : ℕ
+answerFrom = recordsFrom + recordLength * places
+
+abbrev pub toldsFrom : ℕ
+toldsFrom = answerFrom + 16
+
+-- a key of eight octets, the number told, seven that are not used, a record
+abbrev pub toldLength : ℕ
+toldLength = 16 + recordLength
+
+abbrev pub stateLength : ℕ
+stateLength = toldsFrom + toldLength * mostEntries
+
+-- other lengths are no state
+abbrev pub isState : List ℕ → Bool
+isState l = eqb (length l) stateLength
+
+-- ## A record
+
+unfoldable pub recordAt : List ℕ → ℕ → Record
+recordAt l at =
+    record {
+      full = flagAt l (at + 24);
+      call =
+          record {
+            reference = leAt 4 l at;
+            vgcs = flagAt l (at + 25);
+            acknowledged = flagAt l (at + 26);
+            priority = octetAt l (at + 44);
+            cipher = octetAt l (at + 45);
+            described = flagAt l (at + 27);
+            description =
+                record {
+                  channel = leAt 4 l (at + 4);
+                  hopping = flagAt l (at + 28);
+                  shortlist = flagAt l (at + 29);
+                  length = octetAt l (at + 46);
+                  frequencies = leAt 8 l (at + 8);
+                };
+          };
+      segmented = flagAt l (at + 30);
+      segment = flagAt l (at + 31);
+      given = flagAt l (at + 32);
+      rand = leAt 8 l (at + 16);
+      emergency = flagAt l (at + 33);
+      common =
+          record {
+            counted = flagAt l (at + 34);
+            cellcount = octetAt l (at + 47);
+            b22 = flagAt l (at + 35);
+            uplinked = flagAt l (at + 36);
+            uplink = flagAt l (at + 37);
+            amr = flagAt l (at + 38);
+            fullrated = flagAt l (at + 39);
+            fullrate = octetAt l (at + 48);
+            halfrated = flagAt l (at + 40);
+            halfrate = octetAt l (at + 49);
+            sms = flagAt l (at + 41);
+            confidential = flagAt l (at + 42);
+            private = flagAt l (at + 43);
+          };
+    }
+
+-- the flags of an entry, and those of its message
+abbrev pub entryFlags : Record → List ℕ
+entryFlags r =
+    asBit (r .full) ∷ asBit (r .call .vgcs) ∷ asBit (r .call .acknowledged) ∷ asBit (r .call .described) ∷ asBit (r .call .description .hopping)
+    ∷ asBit (r .call .description .shortlist) ∷ asBit (r .segmented) ∷ asBit (r .segment) ∷ asBit (r .given) ∷ asBit (r .emergency) ∷ []
+
+abbrev pub messageFlags : Record → List ℕ
+messageFlags r =
+    asBit (r .common .counted) ∷ asBit (r .common .b22) ∷ asBit (r .common .uplinked) ∷ asBit (r .common .uplink) ∷ asBit (r .common .amr)
+    ∷ asBit (r .common .fullrated) ∷ asBit (r .common .halfrated) ∷ asBit (r .common .sms) ∷ asBit (r .common .confidential) ∷ asBit (r .common .private) ∷ []
+
+abbrev pub smallNumbers : Record → List ℕ
+smallNumbers r =
+    r .call .priority ∷ r .call .cipher ∷ r .call .description .length ∷ r .common .cellcount ∷ r .common .fullrate ∷ r .common .halfrate ∷ []
+
+abbrev pub wideOctets : Record → List ℕ
+wideOctets r =
+    octets 4 (r .call .reference) ++ (octets 4 (r .call .description .channel) ++ (octets 8 (r .call .description .frequencies) ++ octets 8 (r .rand)))
+
+-- the last six octets are not used
+unfoldable pub recordOctets : Record → List ℕ
+recordOctets r = wideOctets r ++ (entryFlags r ++ (messageFlags r ++ (smallNumbers r ++ replicate 6 0)))
+
+-- ## Places
+
+abbrev pub isPlace : List ℕ → ℕ → Bool
+isPlace l i = both (isState l) (ltb i places)
+
+abbrev pub kindPlace : ℕ → ℕ
+kindPlace i = kindsFrom + i
+
+abbrev pub sincePlace : ℕ → ℕ
+sincePlace i = sincesFrom + 4 * i
+
+abbrev pub recordPlace : ℕ → ℕ
+recordPlace i = recordsFrom + recordLength * i
+
+-- a place whose kind is 0 is empty, whatever else stands there
+unfoldable pub slotNo : List ℕ → ℕ → Slot
+slotNo l i =
+    pick (eqb (octetAt l (kindPlace i)) 0) emptySlot
+    (record { half = octetAt l (kindPlace i); since = leAt 4 l (sincePlace i); «record» = recordAt l (recordPlace i) })
+
+abbrev pub keyNo : List ℕ → ℕ → ℕ
+keyNo l i = leAt 4 l (keysFrom + 4 * i)
+
+-- what is known of the cell: one octet for each field
+abbrev pub cellAt : List ℕ → Cell
+cellAt l = record { nln = octetAt l cellFrom }
+
+abbrev pub cellOctets : Cell → List ℕ
+cellOctets c = c .nln ∷ []
+
+-- the receiver that any octets are read as
+unfoldable pub decodeOf : List ℕ → Receiver
+decodeOf l =
+    record {
+      slots = table (slotNo l) 0 places;
+      keys = table (keyNo l) 0 keyCount;
+      tick = leAt 4 l tickFrom;
+      t3206 = leAt 4 l timersFrom;
+      t3208 = leAt 4 l (timersFrom + 4);
+      cell = cellAt l;
+    }
+
+abbrev pub keysIn : List ℕ → List ℕ
+keysIn l = decodeOf l .keys
+
+unfoldable pub putSlot : List ℕ → ℕ → Slot → List ℕ
+putSlot l i s =
+    stored (stored (set l (kindPlace i) (s .half)) (sincePlace i) (octets 4 (s .since))) (recordPlace i) (recordOctets (s .«record»))
+
+-- ## The answer
+
+abbrev pub isEntry : List ℕ → ℕ → Bool
+isEntry l j = both (isState l) (ltb j mostEntries)
+
+abbrev pub toldPlace : ℕ → ℕ
+toldPlace j = toldsFrom + toldLength * j
+
+abbrev pub carries : ℕ → Bool
+carries number = both (leb 1 number) (leb number 3)
+
+-- only 1 to 3 carry a record
+unfoldable pub toldNo : List ℕ → ℕ → Told
+toldNo l j =
+    record {
+      key = leAt 8 l (toldPlace j);
+      number = octetAt l (toldPlace j + 8);
+      «record» = pick (carries (octetAt l (toldPlace j + 8))) (recordAt l (toldPlace j + 16)) noRecord;
+    }
+
+-- the answer to the last accepted event
+pub record Last : Type 0 where
+  pub expired : ℕ
+  pub dropped : ℕ
+  pub count : ℕ
+  pub entries : List Told
+
+unfoldable pub lastOf : List ℕ → Last
+lastOf l =
+    record {
+      expired = leAt 4 l answerFrom;
+      dropped = leAt 4 l (answerFrom + 4);
+      count = leAt 4 l (answerFrom + 8);
+      entries = table (λ j. pick (ltb j (leAt 4 l (answerFrom + 8))) (toldNo l j) noTold) 0 mostEntries;
+    }
+
+-- an entry that carries no record, and one that does
+unfoldable pub putNumber : List ℕ → ℕ → ℕ → ℕ → List ℕ
+putNumber l j key number = set (stored l (toldPlace j) (octets 8 key)) (toldPlace j + 8) number
+
+unfoldable pub putCarried : List ℕ → ℕ → ℕ → ℕ → Record → List ℕ
+putCarried l j key number e = stored (putNumber l j key number) (toldPlace j + 16) (recordOctets e)
+
+unfoldable pub putTold : List ℕ → ℕ → Told → List ℕ
+putTold l j t =
+    pick (carries (t .number)) (putCarried l j (t .key) (t .number) (t .«record»)) (putNumber l j (t .key) (t .number))
+
+-- the tick, what is known of the cell, and the answer's three numbers
+unfoldable pub putHead : List ℕ → ℕ → Cell → ℕ → ℕ → ℕ → List ℕ
+putHead l tick cell expired dropped count =
+    stored (stored (stored l tickFrom (octets 4 tick)) cellFrom (cellOctets cell)) answerFrom (octets 4 expired ++ (octets 4 dropped ++ octets 4 count))
+
+-- ## Setup: every octet is written
+
+abbrev pub keysOctets : List ℕ → List ℕ
+keysOctets [] = []
+keysOctets (k ∷ ks) = octets 4 k ++ keysOctets ks
+
+unfoldable pub freshOctets : Setup → List ℕ → List ℕ
+freshOctets s keys =
+    stored (stored (stored (replicate stateLength 0) tickFrom (octets 4 (s .tick) ++ (octets 4 (s .t3206) ++ octets 4 (s .t3208)))) cellFrom (cellOctets noCell))
+    keysFrom (keysOctets (keyPlaces keyCount keys))

@@ -1,0 +1,5 @@
+pub mod Octets
+pub mod Layout
+pub mod Sweep
+pub mod Setup
+pub mod Parts

@@ -1,0 +1,20 @@
+-- One number of the answer to the last accepted event. Assumes nothing.
+use mathlib.Core.List.{List, _∷_, _++_}
+use Prim.Native.Nat.{ℕ}
+use lib.ListN.{getD}
+use Rattle.receiver.specs.declared.Record.{Record}
+use Rattle.receiver.specs.declared.Told.{Told}
+use Rattle.receiver.specs.Step.{noTold}
+use Rattle.layout.specs.Layout.{Last, entryFlags, messageFlags, smallNumbers}
+
+-- a record as numbers, in the order of the header's parts
+abbrev pub recordNumbers : Record → List ℕ
+recordNumbers r =
+    r .call .reference ∷ r .call .description .channel ∷ r .call .description .frequencies ∷ r .rand ∷ entryFlags r ++ (messageFlags r ++ smallNumbers r)
+
+-- a told entry
+abbrev pub toldNumbers : Told → List ℕ
+toldNumbers t = t .key ∷ t .number ∷ recordNumbers (t .«record»)
+
+unfoldable pub partOf : Last → ℕ → ℕ → ℕ
+partOf a entry part = getD (a .expired ∷ a .dropped ∷ a .count ∷ toldNumbers (getD (a .entries) entry noTold)) part 0

@@ -1,0 +1,82 @@
+// The clock, what is known of the cell, and the answer to the last accepted event: its three numbers and its entries.
+ghost use mathlib.Core.Path.{_≡_};
+ghost use Rattle.bits.specs.Field.{pick};
+ghost use Rattle.receiver.specs.Model.{noCell};
+ghost use Rattle.layout.specs.Octets.{leAt};
+ghost use Rattle.layout.specs.Layout.{tickFrom, isState, isEntry, cellAt, putNumber, putCarried, putHead};
+use crate::ANSWER;
+use crate::CELL;
+use crate::LENGTH;
+use crate::TICK;
+use crate::TOLD_LENGTH;
+use crate::TOLDS;
+use crate::octets::put_u32;
+use crate::octets::put_u64;
+use crate::octets::u32_at;
+use crate::records::put_record;
+use receiver::Cell;
+use receiver::MOST_ENTRIES;
+use receiver::NO_NLN;
+use receiver::Record;
+
+// The tick of the last accepted event.
+pub fn tick_of(b: &[u8]) -> u32
+    ensures { λ r. ⌜ r ≡ pick (isState (now (b .entry))) (leAt 4 (now (b .entry)) tickFrom) 0 ⌝ }
+{
+    if b.len() != LENGTH {
+        return 0;
+    }
+    u32_at(b, TICK)
+}
+
+// What is known of the cell.
+pub fn cell_of(b: &[u8]) -> Cell
+    ensures { λ r. ⌜ r ≡ pick (isState (now (b .entry))) (cellAt (now (b .entry))) noCell ⌝ }
+{
+    if b.len() != LENGTH {
+        return Cell { nln: NO_NLN };
+    }
+    Cell { nln: b[CELL] }
+}
+
+// An entry without its record.
+pub fn put_number(b: &mut [u8], j: usize, key: u64, number: u8)
+    ensures { λ _. ⌜ now (b .exit) ≡ pick (isEntry (now (b .entry)) j) (putNumber (now (b .entry)) j key number) (now (b .entry)) ⌝ }
+{
+    if b.len() != LENGTH {
+        return;
+    }
+    if MOST_ENTRIES <= j {
+        return;
+    }
+    put_u64(b, TOLDS + TOLD_LENGTH * j, key);
+    b[TOLDS + 8 + TOLD_LENGTH * j] = number;
+}
+
+// An entry with its record.
+pub fn put_told(b: &mut [u8], j: usize, key: u64, number: u8, e: Record)
+    ensures { λ _. ⌜ now (b .exit) ≡ pick (isEntry (now (b .entry)) j) (putCarried (now (b .entry)) j key number e) (now (b .entry)) ⌝ }
+{
+    if b.len() != LENGTH {
+        return;
+    }
+    if MOST_ENTRIES <= j {
+        return;
+    }
+    put_number(b, j, key, number);
+    put_record(b, TOLDS + 16 + TOLD_LENGTH * j, e);
+}
+
+// The new tick, what is known of the cell then, and the answer's three numbers.
+pub fn put_head(b: &mut [u8], tick: u32, cell: Cell, expired: u32, dropped: u32, count: u32)
+    ensures { λ _. ⌜ now (b .exit) ≡ pick (isState (now (b .entry))) (putHead (now (b .entry)) tick cell expired dropped count) (now (b .entry)) ⌝ }
+{
+    if b.len() != LENGTH {
+        return;
+    }
+    put_u32(b, TICK, tick);
+    b[CELL] = cell.nln;
+    put_u32(b, ANSWER, expired);
+    put_u32(b, ANSWER + 4, dropped);
+    put_u32(b, ANSWER + 8, count);
+}

@@ -1,0 +1,46 @@
+// The receiver's state as lent octets: what stands where, how any octets are read, and each change that an event makes (docs/STATE.md has the layout).
+use receiver::MOST_ENTRIES;
+use receiver::PLACES;
+use receiver::Setup;
+use receiver::channels::CHANNELS;
+
+pub mod answer;
+mod looking;
+mod octets;
+pub mod parts;
+pub mod places;
+mod records;
+pub mod setup;
+pub mod sweep;
+
+// What stands where, in the order of the octets.
+const TICK: usize = 0;
+
+// One timer of four octets for each channel.
+const TIMERS: usize = TICK + 4;
+
+const CELL: usize = TIMERS + 4 * CHANNELS;
+
+const KEYS_FROM: usize = CELL + 4;
+
+// One octet for each place, and some that no place uses, so that they can be tested eight at a time.
+const KINDS: usize = KEYS_FROM + 4 * Setup::KEYS;
+
+const SINCES: usize = KINDS + (PLACES + 7) / 8 * 8;
+
+const RECORDS: usize = SINCES + 4 * PLACES;
+
+const RECORD_LENGTH: usize = 56;
+
+// Expiries, drops and the number of entries; then the entries.
+const ANSWER: usize = RECORDS + RECORD_LENGTH * PLACES;
+
+const TOLDS: usize = ANSWER + 16;
+
+const TOLD_LENGTH: usize = 16 + RECORD_LENGTH;
+
+// The octets of a state. Another length is refusal 13.
+pub const LENGTH: usize = TOLDS + TOLD_LENGTH * MOST_ENTRIES;
+
+// The places in whole groups of eight.
+const WHOLE: usize = PLACES / 8 * 8;

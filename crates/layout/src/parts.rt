@@ -1,0 +1,96 @@
+// One number of the answer to the last accepted event.
+ghost use mathlib.Core.Path.{_≡_};
+ghost use Prim.Native.Nat.{_+_, _<_, _≤_};
+ghost use lib.ListN.{length, getD};
+ghost use Rattle.bits.specs.Field.{pick};
+ghost use Rattle.csn1.specs.Told.{asBit};
+ghost use Rattle.receiver.specs.Step.{mostEntries};
+ghost use Rattle.layout.specs.Layout.{stateLength, recordLength, isState, recordAt, toldNo, lastOf};
+ghost use Rattle.layout.specs.Parts.{recordNumbers, toldNumbers, partOf};
+use crate::ANSWER;
+use crate::LENGTH;
+use crate::TOLD_LENGTH;
+use crate::TOLDS;
+use crate::octets::flag_at;
+use crate::octets::u32_at;
+use crate::octets::u64_at;
+use receiver::MOST_ENTRIES;
+
+fn bit(b: bool) -> u64
+    ensures { λ r. ⌜ r ≡ asBit b ⌝ }
+{
+    b as u64
+}
+
+fn wide(x: u8) -> u64
+    ensures { λ r. ⌜ r ≡ x ⌝ }
+{
+    x as u64
+}
+
+fn wider(x: u32) -> u64
+    ensures { λ r. ⌜ r ≡ x ⌝ }
+{
+    x as u64
+}
+
+// A number of the record at a place: four wide ones, twenty flags, six small ones.
+fn record_part(b: &[u8], at: usize, part: usize) -> u64
+    requires { ⌜ at + recordLength ≤ length (now b) ⌝ }
+    ensures { λ r. ⌜ r ≡ getD (recordNumbers (recordAt (now (b .entry)) at)) part 0 ⌝ }
+{
+    if part < 2 {
+        return wider(u32_at(b, at + 4 * part));
+    }
+    if part < 4 {
+        return u64_at(b, at + 8 * (part - 1));
+    }
+    if part < 24 {
+        return bit(flag_at(b, at + 20 + part));
+    }
+    if part < 30 {
+        return wide(b[at + 20 + part]);
+    }
+    0
+}
+
+// A number of an entry: its key, the number told, and for 1 to 3 its record.
+fn told_part(b: &[u8], entry: usize, part: usize) -> u64
+    requires { ⌜ (length (now b) ≡ stateLength) × (entry < mostEntries) ⌝ }
+    ensures { λ r. ⌜ r ≡ getD (toldNumbers (toldNo (now (b .entry)) entry)) part 0 ⌝ }
+{
+    let at = TOLDS + TOLD_LENGTH * entry;
+    if part == 0 {
+        return u64_at(b, at);
+    }
+    let number = b[at + 8];
+    if part == 1 {
+        return wide(number);
+    }
+    if number < 1 {
+        return 0;
+    }
+    if 3 < number {
+        return 0;
+    }
+    record_part(b, at + 16, part - 2)
+}
+
+// What is not there is 0.
+pub fn part_of(b: &[u8], entry: usize, part: usize) -> u64
+    ensures { λ r. ⌜ r ≡ pick (isState (now (b .entry))) (partOf (lastOf (now (b .entry))) entry part) 0 ⌝ }
+{
+    if b.len() != LENGTH {
+        return 0;
+    }
+    if part < 3 {
+        return wider(u32_at(b, ANSWER + 4 * part));
+    }
+    if MOST_ENTRIES <= entry {
+        return 0;
+    }
+    if u32_at(b, ANSWER + 8) as usize <= entry {
+        return 0;
+    }
+    told_part(b, entry, part - 3)
+}

@@ -1,0 +1,142 @@
+// The places for halves, one for each subscription and channel: which half each holds, since when, and its record; and the keys. A place that is not there is empty.
+ghost use mathlib.Core.Path.{_≡_};
+ghost use Prim.Native.Nat.{_<_, _≤_};
+ghost use lib.ListN.{length};
+ghost use Rattle.bits.specs.Field.{pick};
+ghost use Rattle.receiver.specs.Channels.{keyCount, places};
+ghost use Rattle.receiver.specs.Model.{noRecord, emptySlot, indexOf, storing};
+ghost use Rattle.layout.specs.Octets.{octetAt};
+ghost use Rattle.layout.specs.Layout.{stateLength, isState, isPlace, kindPlace, recordPlace, recordAt, keysIn, putSlot};
+use crate::KEYS_FROM;
+use crate::KINDS;
+use crate::LENGTH;
+use crate::RECORD_LENGTH;
+use crate::RECORDS;
+use crate::SINCES;
+use crate::octets::put_u32;
+use crate::octets::u32_at;
+use crate::records::put_record;
+use crate::records::record_at;
+use receiver::PLACES;
+use receiver::Record;
+use receiver::Setup;
+use receiver::meeting;
+
+// Which half is held at a place: 0 none, 1 the first, 2 the second.
+pub fn half_at(b: &[u8], i: usize) -> u8
+    ensures { λ r. ⌜ r ≡ pick (isPlace (now (b .entry)) i) (octetAt (now (b .entry)) (kindPlace i)) 0 ⌝ }
+{
+    if b.len() != LENGTH {
+        return 0;
+    }
+    if PLACES <= i {
+        return 0;
+    }
+    b[KINDS + i]
+}
+
+// The record at a place.
+pub fn held_at(b: &[u8], i: usize) -> Record
+    ensures { λ r. ⌜ r ≡ pick (isPlace (now (b .entry)) i) (recordAt (now (b .entry)) (recordPlace i)) noRecord ⌝ }
+{
+    if b.len() != LENGTH {
+        return meeting::no_record();
+    }
+    if PLACES <= i {
+        return meeting::no_record();
+    }
+    record_at(b, RECORDS + RECORD_LENGTH * i)
+}
+
+// A half comes to a place.
+pub(crate) fn put(b: &mut [u8], i: usize, half: u8, tick: u32, e: Record)
+    requires { ⌜ (length (now b) ≡ stateLength) × (i < places) ⌝ }
+    ensures { λ _. ⌜ now (b .exit) ≡ putSlot (now (b .entry)) i (storing half tick e) ⌝ }
+{
+    b[KINDS + i] = half;
+    put_u32(b, SINCES + 4 * i, tick);
+    put_record(b, RECORDS + RECORD_LENGTH * i, e);
+}
+
+// A half leaves its place: all of it is zero then.
+pub(crate) fn empty(b: &mut [u8], i: usize)
+    requires { ⌜ (length (now b) ≡ stateLength) × (i < places) ⌝ }
+    ensures { λ _. ⌜ now (b .exit) ≡ putSlot (now (b .entry)) i emptySlot ⌝ }
+{
+    put(b, i, 0, 0, meeting::no_record())
+}
+
+// The same two for other crates, who may name any place. The sweep goes by those above: a test at each place would cost it its speed.
+pub fn store(b: &mut [u8], i: usize, half: u8, tick: u32, e: Record)
+    ensures { λ _. ⌜ now (b .exit) ≡ pick (isPlace (now (b .entry)) i) (putSlot (now (b .entry)) i (storing half tick e)) (now (b .entry)) ⌝ }
+{
+    if b.len() != LENGTH {
+        return;
+    }
+    if PLACES <= i {
+        return;
+    }
+    put(b, i, half, tick, e)
+}
+
+pub fn clear(b: &mut [u8], i: usize)
+    ensures { λ _. ⌜ now (b .exit) ≡ pick (isPlace (now (b .entry)) i) (putSlot (now (b .entry)) i emptySlot) (now (b .entry)) ⌝ }
+{
+    if b.len() != LENGTH {
+        return;
+    }
+    if PLACES <= i {
+        return;
+    }
+    empty(b, i)
+}
+
+// A key as a narrower number.
+fn narrow(key: u64) -> u32
+    requires { ⌜ key ≤ 4294967295 ⌝ }
+    ensures { λ r. ⌜ r ≡ key ⌝ }
+{
+    key as u32
+}
+
+// A place as a wider number.
+fn wide(i: u32) -> usize
+    ensures { λ r. ⌜ r ≡ i ⌝ }
+{
+    i as usize
+}
+
+// How many keys there can be, as the pass over them counts.
+const NONE: u32 = Setup::KEYS as u32;
+
+// The first place of a key of 32 bits. All of them are compared, with no branch between them, so that a machine with vectors compares several at once.
+fn first_of(b: &[u8], key: u32) -> u32
+    requires { ⌜ length (now b) ≡ stateLength ⌝ }
+    ensures { λ r. ⌜ r ≡ indexOf (keysIn (now (b .entry))) key ⌝ }
+{
+    let mut found: u32 = NONE;
+    let mut i: u32 = 0;
+    while i < NONE {
+        let here = if u32_at(b, KEYS_FROM + 4 * wide(i)) == key {
+            i
+        } else {
+            NONE
+        };
+        found = if here < found { here } else { found };
+        i += 1;
+    }
+    found
+}
+
+// The first place of a key among the keys, and their number where it is not there.
+pub fn index_of(b: &[u8], key: u64) -> usize
+    ensures { λ r. ⌜ r ≡ pick (isState (now (b .entry))) (indexOf (keysIn (now (b .entry))) key) keyCount ⌝ }
+{
+    if b.len() != LENGTH {
+        return Setup::KEYS;
+    }
+    if 4294967295 < key {
+        return Setup::KEYS;
+    }
+    wide(first_of(b, narrow(key)))
+}

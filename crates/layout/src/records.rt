@@ -1,0 +1,175 @@
+// A record in octets.
+ghost use mathlib.Core.Path.{_≡_};
+ghost use mathlib.Core.List.{[], _∷_, _++_};
+ghost use Prim.Native.Nat.{_+_, _≤_};
+ghost use lib.ListN.{length, replicate};
+ghost use Rattle.csn1.specs.Told.{asBit};
+ghost use Rattle.arrays.specs.Runs.{stored};
+ghost use Rattle.layout.specs.Layout.{recordLength, recordAt, entryFlags, messageFlags, smallNumbers, wideOctets, recordOctets};
+use crate::octets::flag_at;
+use crate::octets::put_u32;
+use crate::octets::put_u64;
+use crate::octets::u32_at;
+use crate::octets::u64_at;
+use call::Call;
+use call::Description;
+use receiver::Common;
+use receiver::Record;
+
+fn description_at(b: &[u8], at: usize) -> Description
+    requires { ⌜ at + recordLength ≤ length (now b) ⌝ }
+    ensures { λ r. ⌜ r ≡ recordAt (now (b .entry)) at .call .description ⌝ }
+{
+    Description {
+        channel: u32_at(b, at + 4),
+        hopping: flag_at(b, at + 28),
+        shortlist: flag_at(b, at + 29),
+        length: b[at + 46],
+        frequencies: u64_at(b, at + 8),
+    }
+}
+
+fn call_at(b: &[u8], at: usize) -> Call
+    requires { ⌜ at + recordLength ≤ length (now b) ⌝ }
+    ensures { λ r. ⌜ r ≡ recordAt (now (b .entry)) at .call ⌝ }
+{
+    Call {
+        reference: u32_at(b, at),
+        vgcs: flag_at(b, at + 25),
+        acknowledged: flag_at(b, at + 26),
+        priority: b[at + 44],
+        cipher: b[at + 45],
+        described: flag_at(b, at + 27),
+        description: description_at(b, at),
+    }
+}
+
+fn common_at(b: &[u8], at: usize) -> Common
+    requires { ⌜ at + recordLength ≤ length (now b) ⌝ }
+    ensures { λ r. ⌜ r ≡ recordAt (now (b .entry)) at .common ⌝ }
+{
+    Common {
+        counted: flag_at(b, at + 34),
+        cellcount: b[at + 47],
+        b22: flag_at(b, at + 35),
+        uplinked: flag_at(b, at + 36),
+        uplink: flag_at(b, at + 37),
+        amr: flag_at(b, at + 38),
+        fullrated: flag_at(b, at + 39),
+        fullrate: b[at + 48],
+        halfrated: flag_at(b, at + 40),
+        halfrate: b[at + 49],
+        sms: flag_at(b, at + 41),
+        confidential: flag_at(b, at + 42),
+        private: flag_at(b, at + 43),
+    }
+}
+
+pub(crate) fn record_at(b: &[u8], at: usize) -> Record
+    requires { ⌜ at + recordLength ≤ length (now b) ⌝ }
+    ensures { λ r. ⌜ r ≡ recordAt (now (b .entry)) at ⌝ }
+{
+    Record {
+        full: flag_at(b, at + 24),
+        call: call_at(b, at),
+        segmented: flag_at(b, at + 30),
+        segment: flag_at(b, at + 31),
+        given: flag_at(b, at + 32),
+        rand: u64_at(b, at + 16),
+        emergency: flag_at(b, at + 33),
+        common: common_at(b, at),
+    }
+}
+
+// Five flags, one octet each.
+fn put_flags(b: &mut [u8], at: usize, p: bool, q: bool, r: bool, s: bool, t: bool)
+    requires { ⌜ at + 5 ≤ length (now b) ⌝ }
+    ensures { λ _. ⌜ now (b .exit) ≡ stored (now (b .entry)) at (asBit p ∷ asBit q ∷ asBit r ∷ asBit s ∷ asBit t ∷ []) ⌝ }
+{
+    b[at] = p as u8;
+    b[at + 1] = q as u8;
+    b[at + 2] = r as u8;
+    b[at + 3] = s as u8;
+    b[at + 4] = t as u8;
+}
+
+// The six small numbers, and six octets that stay zero.
+fn put_small(b: &mut [u8], at: usize, r: Record)
+    requires { ⌜ at + 12 ≤ length (now b) ⌝ }
+    ensures { λ _. ⌜ now (b .exit) ≡ stored (now (b .entry)) at (smallNumbers r ++ replicate 6 0) ⌝ }
+{
+    b[at] = r.call.priority;
+    b[at + 1] = r.call.cipher;
+    b[at + 2] = r.call.description.length;
+    b[at + 3] = r.common.cellcount;
+    b[at + 4] = r.common.fullrate;
+    b[at + 5] = r.common.halfrate;
+    b[at + 6] = 0;
+    b[at + 7] = 0;
+    put_u32(b, at + 8, 0);
+}
+
+// The four numbers of more than one octet.
+fn put_wide(b: &mut [u8], at: usize, r: Record)
+    requires { ⌜ at + 24 ≤ length (now b) ⌝ }
+    ensures { λ _. ⌜ now (b .exit) ≡ stored (now (b .entry)) at (wideOctets r) ⌝ }
+{
+    put_u32(b, at, r.call.reference);
+    put_u32(b, at + 4, r.call.description.channel);
+    put_u64(b, at + 8, r.call.description.frequencies);
+    put_u64(b, at + 16, r.rand);
+}
+
+// The flags of an entry, and those of its message.
+fn put_entry(b: &mut [u8], at: usize, r: Record)
+    requires { ⌜ at + 10 ≤ length (now b) ⌝ }
+    ensures { λ _. ⌜ now (b .exit) ≡ stored (now (b .entry)) at (entryFlags r) ⌝ }
+{
+    let c = r.call;
+    let d = c.description;
+    put_flags(
+        b,
+        at,
+        r.full,
+        c.vgcs,
+        c.acknowledged,
+        c.described,
+        d.hopping,
+    );
+    put_flags(
+        b,
+        at + 5,
+        d.shortlist,
+        r.segmented,
+        r.segment,
+        r.given,
+        r.emergency,
+    );
+}
+
+fn put_message(b: &mut [u8], at: usize, r: Record)
+    requires { ⌜ at + 10 ≤ length (now b) ⌝ }
+    ensures { λ _. ⌜ now (b .exit) ≡ stored (now (b .entry)) at (messageFlags r) ⌝ }
+{
+    let m = r.common;
+    put_flags(b, at, m.counted, m.b22, m.uplinked, m.uplink, m.amr);
+    put_flags(
+        b,
+        at + 5,
+        m.fullrated,
+        m.halfrated,
+        m.sms,
+        m.confidential,
+        m.private,
+    );
+}
+
+pub(crate) fn put_record(b: &mut [u8], at: usize, r: Record)
+    requires { ⌜ at + recordLength ≤ length (now b) ⌝ }
+    ensures { λ _. ⌜ now (b .exit) ≡ stored (now (b .entry)) at (recordOctets r) ⌝ }
+{
+    put_wide(b, at, r);
+    put_entry(b, at + 24, r);
+    put_message(b, at + 34, r);
+    put_small(b, at + 44, r);
+}

@@ -1,0 +1,75 @@
+-- What the readers of NT/N Rest Octets pass on, and the numbers that they leave of what they read. Assumes nothing.
+use mathlib.Core.List.{List, [], _∷_}
+use mathlib.Core.Bool.{false}
+use mathlib.Core.Option.{Option}
+use Prim.Native.Nat.{ℕ}
+use lib.ListN.{length}
+use Rattle.csn1.specs.Format.{Res, ok, bad, noRefusal}
+use Rattle.csn1.specs.Told.{isThere, orZero, isOne, asBit}
+use Rattle.arrays.specs.Runs.{listRun}
+use Rattle.call.specs.Call.{CallValue, callOf, noCall}
+use Rattle.nch.specs.declared.lists.CallsPassed.{CallsPassed}
+use Rattle.nch.specs.declared.lists.ListPassed.{ListPassed}
+use Rattle.nch.specs.declared.additions.Release6Passed.{Release6Passed}
+use Rattle.nch.specs.declared.additions.PartPassed.{PartPassed}
+use Rattle.nch.specs.Octets.{Release6Value, AmrValue, Release7Value, Value, count, cipheredValue, describedValue, reducedsOf, randomsOf, marksOf}
+use Rattle.nch.specs.Told.{reducedOf, noReduced, randomOf, noRandom, release6Of, orFalse, fullRate, halfRate, confidentiality, privacy, release7Of, recordOf}
+use Rattle.nch.specs.Places.{mostCalls, mostReduceds, mostRandoms, mostMarks}
+use Rattle.nch.specs.CallNumbers.{callNumbers}
+use Rattle.nch.specs.NotificationNumbers.{reducedNumbers, randomNumbers, markNumbers, release6Numbers, release7Numbers, numbersOf}
+
+-- ## What is passed on: why not, what refusals 6 and 7 count, and the place behind the part
+
+abbrev pub callsPassed : Res (List CallValue) → CallsPassed
+callsPassed (bad r) = record { refusal = r; ciphered = 0; described = 0; at = 0 }
+callsPassed (ok l q) = record { refusal = noRefusal; ciphered = count cipheredValue l; described = count describedValue l; at = q }
+
+abbrev pub listPassed : {A : Type 0} → Res (List A) → ListPassed
+listPassed (bad r) = record { refusal = r; count = 0; at = 0 }
+listPassed (ok l q) = record { refusal = noRefusal; count = length l; at = q }
+
+abbrev pub partPassed : {A : Type 0} → Res A → PartPassed
+partPassed (bad r) = record { refusal = r; at = 0 }
+partPassed (ok v q) = record { refusal = noRefusal; at = q }
+
+abbrev pub release6Passed : Res (Option Release6Value) → Release6Passed
+release6Passed (bad r) = record { refusal = r; reduced = 0; randoms = 0; at = 0 }
+release6Passed (ok v q) = record { refusal = noRefusal; reduced = length (reducedsOf v); randoms = length (randomsOf v); at = q }
+
+-- of Release 7 how many marks there are
+abbrev pub release7Passed : Res (Option Release7Value) → ListPassed
+release7Passed (bad r) = record { refusal = r; count = 0; at = 0 }
+release7Passed (ok v q) = record { refusal = noRefusal; count = length (marksOf v); at = q }
+
+-- ## What is left in the array
+
+abbrev pub callsRun : List CallValue → List ℕ
+callsRun l = listRun callOf noCall callNumbers mostCalls l
+
+abbrev pub reducedsRun : List (List ℕ) → List ℕ
+reducedsRun l = listRun reducedOf noReduced reducedNumbers mostReduceds l
+
+abbrev pub randomsRun : List (ℕ × Option ℕ) → List ℕ
+randomsRun l = listRun randomOf noRandom randomNumbers mostRandoms l
+
+abbrev pub marksRun : List ℕ → List ℕ
+marksRun l = listRun isOne false markNumbers mostMarks l
+
+abbrev pub uplinkRun : Option ℕ → List ℕ
+uplinkRun v = asBit (isThere v) ∷ asBit (orFalse v) ∷ []
+
+abbrev pub amrRun : Option AmrValue → List ℕ
+amrRun v =
+    asBit (isThere v) ∷ asBit (isThere (fullRate v)) ∷ orZero (fullRate v) ∷ asBit (isThere (halfRate v)) ∷ orZero (halfRate v) ∷ []
+
+abbrev pub smsRun : Option (ℕ × ℕ) → List ℕ
+smsRun v = asBit (isThere v) ∷ asBit (confidentiality v) ∷ asBit (privacy v) ∷ []
+
+abbrev pub release6Run : Option Release6Value → List ℕ
+release6Run v = release6Numbers (release6Of v)
+
+abbrev pub release7Run : Option Release7Value → List ℕ
+release7Run v = release7Numbers (release7Of v)
+
+abbrev pub allRun : Value → List ℕ
+allRun v = numbersOf (recordOf v)

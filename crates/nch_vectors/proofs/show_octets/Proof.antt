@@ -1,0 +1,54 @@
+-- `nch_vectors::show_octets` meets its contract. Assumes nothing.
+use Prim.Native.Nat.{_≤_, _-_}
+use borrow.Author.Needs.{needs}
+use Rattle.nch_vectors.proofs.show_octets.Statement.{statement}
+use Rattle.nch_vectors.proofs.show_octets.Tie as tie
+
+abbrev Inv-loop : tie.InvT-loop
+Inv-loop octets line₀ i₀ t6 line i = i ≤ 20
+
+abbrev μ-loop : tie.MeasureT-loop
+μ-loop octets line₀ i₀ t6 line i = 20 - i
+
+loop-holds : tie.Need-loop-holds Inv-loop μ-loop
+loop-holds c = search needs
+
+slice-aggregate-hex : tie.Need-slice-aggregate-hex Inv-loop μ-loop
+slice-aggregate-hex c = search needs
+
+array-read-wide : tie.Need-array-read-wide Inv-loop μ-loop
+array-read-wide c = search needs
+
+wide-requires : tie.Need-wide-requires Inv-loop μ-loop
+wide-requires c κs = search needs
+
+hex-requires : tie.Need-hex-requires Inv-loop μ-loop
+hex-requires c κs = search needs
+
+add-i : tie.Need-add-i Inv-loop μ-loop
+add-i c = search needs
+
+loop-less : tie.Need-loop-less Inv-loop μ-loop
+loop-less c = search needs
+
+loop-again : tie.Need-loop-again Inv-loop μ-loop
+loop-again c = search needs
+
+returns : tie.Need-returns Inv-loop μ-loop
+returns c = search needs
+
+pub show-octets-spec : {M : Type 1} → statement M
+show-octets-spec =
+    tie.close
+    (tie.spec
+    Inv-loop
+    μ-loop
+    loop-holds
+    slice-aggregate-hex
+    array-read-wide
+    wide-requires
+    hex-requires
+    add-i
+    loop-less
+    loop-again
+    returns)

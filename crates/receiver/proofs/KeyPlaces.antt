@@ -1,0 +1,49 @@
+-- The key places, which hold the keys as they were lent, and how they are filled. Assumes nothing.
+use mathlib.Core.Path.{_≡_, refl, ap, _∙_}
+use mathlib.Core.List.{List, [], _∷_}
+use Prim.Native.Nat.{ℕ, zero, suc, _+_, _≤_, _<_}
+use native.Mathlib.Nat.{zero-add}
+use native.Mathlib.Numerals.{add-one}
+use native.Mathlib.Omega.{arith}
+use lib.ListN.{length, getD, set, replicate, length-replicate, getD-replicate, List·getD-eq-default}
+use Rattle.receiver.specs.Model.{keyPlaces, noKey, mapAt}
+use Rattle.receiver.proofs.Loops.{partAt, part-set, part-keep, part-all}
+
+-- what a place is to hold, whatever it held
+abbrev pub placed : List ℕ → ℕ → ℕ → ℕ
+placed ks i x = getD ks i noKey
+
+getD-any : (l : List ℕ) (i d e : ℕ) → i < length l → getD l i d ≡ getD l i e
+getD-any [] i d e h = absurd (omega arith)
+getD-any (x ∷ l) zero d e h = refl
+getD-any (x ∷ l) (suc i) d e h = getD-any l i d e (omega arith)
+
+places-unused : (j n : ℕ) → mapAt (placed []) j (replicate n noKey) ≡ keyPlaces n []
+places-unused j zero = refl
+places-unused j (suc n) = ap (λ (l : List ℕ). noKey ∷ l) (places-unused (suc j) n)
+
+places-shift : (k : ℕ) (ks : List ℕ) (j n : ℕ) → mapAt (placed (k ∷ ks)) (suc j) (replicate n noKey) ≡ mapAt (placed ks) j (replicate n noKey)
+places-shift k ks j zero = refl
+places-shift k ks j (suc n) = ap (λ (l : List ℕ). getD ks j noKey ∷ l) (places-shift k ks (suc j) n)
+
+places-whole : (n : ℕ) (ks : List ℕ) → mapAt (placed ks) 0 (replicate n noKey) ≡ keyPlaces n ks
+places-whole zero ks = refl
+places-whole (suc n) [] = places-unused 0 (suc n)
+places-whole (suc n) (k ∷ ks) = ap (λ (l : List ℕ). k ∷ l) (places-shift k ks 0 n ∙ places-whole n ks)
+
+-- the first i of n places are filled
+module _ (ks l : List ℕ) (n i : ℕ) (q : l ≡ partAt (placed ks) 0 i (replicate n noKey)) where
+  pub place-set : (d : ℕ) → i < length ks → set l i (getD ks i d) ≡ partAt (placed ks) 0 (i + 1) (replicate n noKey)
+  place-set d h = rw (q, add-one) (part-set (placed ks) 0 i (replicate n noKey) _ 0 (rw zero-add (getD-any ks i d noKey h)))
+
+  pub place-keep : i < n → length ks ≤ i → l ≡ partAt (placed ks) 0 (i + 1) (replicate n noKey)
+  place-keep h g =
+      rw (q, add-one) (part-keep (placed ks) 0 i (replicate n noKey) 0 (rw (zero-add, getD-replicate n i noKey 0 h) (List·getD-eq-default ks noKey g)))
+
+  pub place-all : n ≤ i → l ≡ keyPlaces n ks
+  place-all h = q ∙ part-all (placed ks) 0 i (replicate n noKey) (rw (length-replicate n noKey) h) ∙ places-whole n ks
+
+pub length-keys : (n : ℕ) (l : List ℕ) → length (keyPlaces n l) ≡ n
+length-keys zero l = refl
+length-keys (suc n) [] = ap suc (length-keys n [])
+length-keys (suc n) (k ∷ l) = ap suc (length-keys n l)

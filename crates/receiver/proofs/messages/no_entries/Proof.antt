@@ -1,0 +1,13 @@
+-- `receiver::messages::no_entries` meets its contract. Assumes nothing.
+use borrow.Author.Needs.{needs}
+use Rattle.receiver.proofs.messages.no_entries.Statement.{statement}
+use Rattle.receiver.proofs.messages.no_entries.Tie as tie
+
+no-record-requires : tie.Need-no-record-requires
+no-record-requires c κs = search needs
+
+returns : tie.Need-returns
+returns c = rw (c .no-record .ensures)
+
+pub no-entries-spec : {M : Type 1} → statement M
+no-entries-spec = tie.close (tie.spec no-record-requires returns)

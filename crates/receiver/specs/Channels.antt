@@ -1,0 +1,74 @@
+-- The channels that notify: what tells them apart, and where their halves stand. Assumes nothing.
+use mathlib.Core.Bool.{Bool, true, false}
+use Prim.Native.Nat.{ℕ, _+_, _*_, _/_, _%_}
+use lib.Dec.{eqb}
+use Rattle.bits.specs.Field.{pick}
+use Rattle.receiver.specs.declared.Move.{Move}
+use Rattle.receiver.specs.declared.Move.the-variants.{Reselection, Handover, Reconfiguration}
+
+-- ## How many there are
+
+abbrev pub channels : ℕ
+channels = 2
+
+abbrev pub keyCount : ℕ
+keyCount = 50
+
+abbrev pub places : ℕ
+places = channels * keyCount
+
+-- the place of the subscription at an index on a channel, by the channel's number; and back
+abbrev pub placeOn : ℕ → ℕ → ℕ
+placeOn i ch = channels * i + ch
+
+abbrev pub sideOf : ℕ → ℕ
+sideOf i = i % channels
+
+abbrev pub indexIn : ℕ → ℕ
+indexIn i = i / channels
+
+-- ## By number, as the receiver has them: 0 NCH, 1 FACCH
+
+-- one thing for each channel
+abbrev pub byNumber : {A : Type 0} → ℕ → A → A → A
+byNumber ch nch facch = pick (eqb ch 0) nch facch
+
+-- its halves are told apart by Segment Id too
+abbrev pub asks : ℕ → Bool
+asks ch = byNumber ch true false
+
+-- a second half may come first
+abbrev pub leads : ℕ → Bool
+leads ch = byNumber ch true false
+
+-- ## By name
+
+pub data Channel : Type 0 where
+  onNch onFacch : Channel
+
+abbrev pub numberOf : Channel → ℕ
+numberOf onNch = 0
+numberOf onFacch = 1
+
+abbrev pub byChannel : {A : Type 0} → Channel → A → A → A
+byChannel onNch nch facch = nch
+byChannel onFacch nch facch = facch
+
+-- only the NCH has an NLN
+abbrev pub hasNln : Channel → Bool
+hasNln c = byChannel c true false
+
+abbrev pub same : Channel → Channel → Bool
+same c d = eqb (numberOf c) (numberOf d)
+
+-- ## What a move of the mobile costs: the halves of a channel, and what is known of the cell's NLN
+
+abbrev pub drops : Channel → Move → Bool
+drops c Reselection = byChannel c true false
+drops c Handover = byChannel c false true
+drops c Reconfiguration = byChannel c false true
+
+abbrev pub forgets : Move → Bool
+forgets Reselection = false
+forgets Handover = false
+forgets Reconfiguration = false

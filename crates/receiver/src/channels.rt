@@ -1,0 +1,64 @@
+// The channels by number: what tells them apart, and where their halves stand.
+ghost use mathlib.Core.Path.{_≡_};
+ghost use Prim.Native.Nat.{_<_};
+ghost use Rattle.receiver.specs.Channels.{channels, keyCount, places, placeOn, sideOf, indexIn, byNumber, asks, leads};
+
+pub const CHANNELS: usize = 2;
+
+pub const NCH: usize = 0;
+
+pub const FACCH: usize = 1;
+
+// One flag for each channel.
+pub fn flag_of(ch: usize, nch: bool, facch: bool) -> bool
+    ensures { λ r. ⌜ r ≡ byNumber ch nch facch ⌝ }
+{
+    if ch == NCH {
+        return nch;
+    }
+    facch
+}
+
+// One timer for each channel: T3206 runs for the NCH, T3208 for the FACCH.
+pub fn timer_of(ch: usize, t3206: u32, t3208: u32) -> u32
+    ensures { λ r. ⌜ r ≡ byNumber ch t3206 t3208 ⌝ }
+{
+    if ch == NCH {
+        return t3206;
+    }
+    t3208
+}
+
+// Whether its halves are told apart by Segment Id too.
+pub fn asks(ch: usize) -> bool
+    ensures { λ r. ⌜ r ≡ asks ch ⌝ }
+{
+    flag_of(ch, true, false)
+}
+
+// Whether a second half may come first.
+pub fn leads(ch: usize) -> bool
+    ensures { λ r. ⌜ r ≡ leads ch ⌝ }
+{
+    flag_of(ch, true, false)
+}
+
+// The place of the subscription at an index on a channel; and back.
+pub(crate) fn place_on(i: usize, ch: usize) -> usize
+    requires { ⌜ (i < keyCount) × (ch < channels) ⌝ }
+    ensures { λ r. ⌜ (r ≡ placeOn i ch) × (r < places) ⌝ }
+{
+    CHANNELS * i + ch
+}
+
+pub fn side_of(i: usize) -> usize
+    ensures { λ r. ⌜ r ≡ sideOf i ⌝ }
+{
+    i % CHANNELS
+}
+
+pub fn index_in(i: usize) -> usize
+    ensures { λ r. ⌜ r ≡ indexIn i ⌝ }
+{
+    i / CHANNELS
+}

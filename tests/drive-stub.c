@@ -1,0 +1,60 @@
+/* Seeded faults for tests/drive.sh: the library with one fault in it, the one that the variable FAULT names, which the driver or the comparison must find. The linker puts
+ * these functions before the library's own (--wrap), so what they do not name is as it is. */
+#include <asternhaken.h>
+
+#include <stdlib.h>
+#include <string.h>
+
+static int seeded(const char *name)
+{
+    const char *wanted = getenv("FAULT");
+    return wanted && !strcmp(wanted, name);
+}
+
+uint32_t __real_asternhaken_setup(uint8_t *state, size_t state_length, const uint32_t *keys, size_t n_keys, uint32_t tick, uint32_t t3206, uint32_t t3208);
+uint32_t __wrap_asternhaken_setup(uint8_t *state, size_t state_length, const uint32_t *keys, size_t n_keys, uint32_t tick, uint32_t t3206, uint32_t t3208)
+{
+    uint32_t result = __real_asternhaken_setup(state, state_length, keys, n_keys, tick, t3206, t3208);
+    if (result && seeded("a refused setup writes")) state[4711] ^= 1;
+    if (n_keys && seeded("a setup writes the keys")) ++*(uint32_t *)keys;
+    if (result && seeded("a refused setup gives another number")) result++;
+    return result;
+}
+
+uint32_t __real_asternhaken_facch(uint8_t *state, size_t state_length, uint32_t tick, const uint8_t *octets, size_t n);
+uint32_t __wrap_asternhaken_facch(uint8_t *state, size_t state_length, uint32_t tick, const uint8_t *octets, size_t n)
+{
+    uint32_t result = __real_asternhaken_facch(state, state_length, tick, octets, n);
+    if (result && seeded("a refused event moves the clock")) memcpy(state, &tick, sizeof tick);
+    if (seeded("an event has an upper bit")) result |= 256;
+    return result;
+}
+
+uint32_t __real_asternhaken_read(const uint8_t *state, size_t state_length, uint32_t entry, uint32_t part, uint64_t *value);
+uint32_t __wrap_asternhaken_read(const uint8_t *state, size_t state_length, uint32_t entry, uint32_t part, uint64_t *value)
+{
+    uint32_t result = __real_asternhaken_read(state, state_length, entry, part, value);
+    if (seeded("reading a part writes the state")) ((uint8_t *)state)[state_length - 1] ^= 128;
+    if (part == ASTERNHAKEN_EMERGENCY && seeded("a part is another")) ++*value;
+    return result;
+}
+
+uint32_t __real_asternhaken_nch_read(const uint8_t *octets, size_t n, uint64_t *numbers, size_t n_numbers);
+uint32_t __wrap_asternhaken_nch_read(const uint8_t *octets, size_t n, uint64_t *numbers, size_t n_numbers)
+{
+    uint32_t result = __real_asternhaken_nch_read(octets, n, numbers, n_numbers);
+    if (result && seeded("a refused reading leaves a number")) numbers[n_numbers - 1] = 1;
+    if (!result && seeded("a reading is too long")) numbers[n_numbers] = 0;
+    if (!result && seeded("a reading is another")) numbers[ASTERNHAKEN_NCH_USED]++;
+    return result;
+}
+
+uint32_t __real_asternhaken_nch_write(const uint64_t *numbers, size_t n_numbers, uint8_t *octets, size_t n);
+uint32_t __wrap_asternhaken_nch_write(const uint64_t *numbers, size_t n_numbers, uint8_t *octets, size_t n)
+{
+    uint32_t result = __real_asternhaken_nch_write(numbers, n_numbers, octets, n);
+    if (result && n && seeded("a refused writing writes")) octets[n - 1] = 0x2b;
+    if (!result && seeded("a writing is an octet too long")) octets[n] = 0x2b;
+    if (!result && seeded("a writing begins an octet before")) octets[-1] = 0x2b;
+    return result;
+}

@@ -1,0 +1,734 @@
+/* The library by lines: a command to a line on standard input, one answer line for each on standard output. vectors/README.md has every command and its answer;
+ * tests/drive.sh compares the answers with those of vectors/.
+ *
+ * After each call of the library the driver looks at all memory that it lends. A refused call that changes any of it, a call that changes what it may only read,
+ * a refused reading that is not all zeros, or a write outside of what was lent ends the run: the last line then begins with FAULT, and the status is 3. A line that is no
+ * command is answered with '?' and what is wrong; the run goes on, and its status is then 2.
+ *
+ * A new command is a function here and a row in the table of commands, or in that of events; a record is a table of parts, and of runs that say how the library has them. */
+#include <asternhaken.h>
+
+#include <inttypes.h>
+#include <stdio.h>
+#include <stdlib.h>
+#include <string.h>
+
+static unsigned long line_number;
+
+/* ---- The answer line: words with one blank between them ---- */
+
+static int begun; /* the answer has a word */
+
+static void say(const char *text)
+{
+    printf(begun ? " %s" : "%s", text);
+    begun = 1;
+}
+
+static void say_number(uint64_t number)
+{
+    char text[24];
+    sprintf(text, "%" PRIu64, number);
+    say(text);
+}
+
+static void say_octets(const uint8_t *octets, size_t n)
+{
+    say(n ? "" : "-");
+    for (size_t i = 0; i < n; i++) printf("%02x", (unsigned)octets[i]);
+}
+
+/* ---- Lending: what a call is lent stands between two zones, and every zone and all that is lent is looked at after each call ---- */
+
+enum { ZONE = 256 }; /* octets; a multiple of every alignment */
+
+struct lent {
+    struct lent *next;
+    const char *name;
+    size_t size;
+    unsigned char *block;  /* a zone, the memory, a zone */
+    unsigned char *before; /* the memory as it was before the call */
+};
+
+static struct lent *lents; /* the newest first */
+static unsigned long calls;
+
+static void *room(void *old, size_t size)
+{
+    void *memory = size < SIZE_MAX / 4 ? realloc(old, size ? size : 1) : NULL;
+    if (memory) return memory;
+    fprintf(stderr, "drive: no memory\n");
+    exit(2);
+}
+
+/* The paint is another for each call, so that no value which is written astray looks like it for long. */
+static unsigned char paint_at(size_t place)
+{
+    return (unsigned char)(90 + 7 * place + 13 * calls);
+}
+
+static void paint(void *memory, size_t size)
+{
+    for (size_t i = 0; i < size; i++) ((unsigned char *)memory)[i] = paint_at(i);
+}
+
+/* Lends so many octets, which hold anything. */
+static void *lend(const char *name, size_t size)
+{
+    struct lent *new_one = (struct lent *)room(NULL, sizeof *new_one);
+    new_one->next = lents;
+    new_one->name = name;
+    new_one->size = size;
+    new_one->before = (unsigned char *)room(NULL, size);
+    new_one->block = (unsigned char *)room(NULL, size + 2 * ZONE);
+    lents = new_one;
+    paint(new_one->block + ZONE, size);
+    return new_one->block + ZONE;
+}
+
+static uint64_t *lend_numbers(size_t n)
+{
+    return (uint64_t *)lend("numbers", n * sizeof(uint64_t));
+}
+
+/* Takes back all that was lent since. */
+static void take_back(struct lent *since)
+{
+    while (lents != since) {
+        struct lent *old = lents;
+        lents = old->next;
+        free(old->block);
+        free(old->before);
+        free(old);
+    }
+}
+
+static void fault(const char *what, const char *name, size_t place)
+{
+    printf("%sFAULT at line %lu: %s: %s, octet %lu\n", begun ? "\n" : "", line_number, what, name, (unsigned long)place);
+    fflush(stdout);
+    exit(3);
+}
+
+/* How many of something there are; the places for them are what the header says. */
+static size_t count_of(uint64_t number, size_t places, const char *name)
+{
+    if (number > places) fault("there are more than places for them", name, 0);
+    return (size_t)number;
+}
+
+/* What a refused call does to the memory that it writes where it is accepted. */
+enum refused { LEAVES, CLEARS };
+
+static void before_call(void)
+{
+    calls++;
+    for (struct lent *l = lents; l; l = l->next) {
+        paint(l->block, ZONE);
+        paint(l->block + ZONE + l->size, ZONE);
+        memcpy(l->before, l->block + ZONE, l->size);
+    }
+}
+
+static void look_at_zones(const struct lent *l)
+{
+    const unsigned char *behind = l->block + ZONE + l->size;
+    for (size_t i = 0; i < ZONE; i++) {
+        if (behind[i] != paint_at(i)) fault("a write behind what was lent", l->name, l->size + i);
+        if (l->block[ZONE - 1 - i] != paint_at(ZONE - 1 - i)) fault("a write before what was lent, counted backwards", l->name, i + 1);
+    }
+}
+
+static void look_at_memory(const struct lent *l, const unsigned char *wanted, const char *what)
+{
+    for (size_t i = 0; i < l->size; i++)
+        if (l->block[ZONE + i] != (wanted ? wanted[i] : 0)) fault(what, l->name, i);
+}
+
+static uint32_t after_call(uint32_t result, const void *written, enum refused refused)
+{
+    for (const struct lent *l = lents; l; l = l->next) {
+        look_at_zones(l);
+        if (written != l->block + ZONE) look_at_memory(l, l->before, "a call changed what it may not write");
+        else if (ASTERNHAKEN_REFUSAL(result) == ASTERNHAKEN_ACCEPTED) continue;
+        else if (refused == LEAVES) look_at_memory(l, l->before, "a refused call changed lent memory");
+        else look_at_memory(l, NULL, "a refused reading is not all zeros");
+    }
+    return result;
+}
+
+/* The result of a call that may write this lent memory and no other. */
+#define WATCHED(call, written, refused) (before_call(), after_call((call), (written), (refused)))
+
+/* ---- The command line: its words are taken one by one ---- */
+
+static char *line;
+static char **words;
+static size_t n_words, taken;
+static const char *wrong; /* what is wrong with the command, the first thing */
+
+static void is_wrong(const char *what)
+{
+    if (!wrong) wrong = what;
+}
+
+static const char *take(void)
+{
+    if (taken < n_words) return words[taken++];
+    is_wrong("a word is missing");
+    return "0";
+}
+
+/* A decimal number, at most so large. */
+static uint64_t take_number(uint64_t most)
+{
+    const char *word = take();
+    uint64_t number = 0;
+    size_t digits = strspn(word, "0123456789");
+    if (!digits || word[digits] || (digits > 1 && *word == '0')) is_wrong("a word is no number");
+    for (size_t i = 0; i < digits; i++) {
+        uint64_t digit = (uint64_t)(word[i] - '0');
+        if (number > (most - digit) / 10 || digit > most) {
+            is_wrong("a number is too large for what the library takes");
+            return 0;
+        }
+        number = 10 * number + digit;
+    }
+    return number;
+}
+
+static uint32_t take_u32(void)
+{
+    return (uint32_t)take_number(UINT32_MAX);
+}
+
+static uint8_t take_u8(void)
+{
+    return (uint8_t)take_number(UINT8_MAX);
+}
+
+static void take_slash(void)
+{
+    if (strcmp(take(), "/")) is_wrong("a slash is missing");
+}
+
+/* The numbers up to a slash or the end, lent as an array. */
+static uint32_t *take_keys(size_t *n)
+{
+    size_t end = taken;
+    while (end < n_words && strcmp(words[end], "/")) end++;
+    *n = end - taken;
+    uint32_t *keys = (uint32_t *)lend("keys", *n * sizeof *keys);
+    for (size_t i = 0; i < *n; i++) keys[i] = take_u32();
+    return keys;
+}
+
+/* Octets as lower-case hex digits, or - for none, lent. */
+static uint8_t *take_octets(size_t *n)
+{
+    static const char digits[] = "0123456789abcdef";
+    const char *word = take();
+    size_t length = strcmp(word, "-") ? strlen(word) : 0;
+    uint8_t *octets = (uint8_t *)lend("octets", length / 2);
+    if (length % 2 || strspn(word, digits) < length || !*word) is_wrong("a word is no row of octets");
+    *n = length / 2;
+    for (size_t i = 0; i < *n && !wrong; i++) octets[i] = (uint8_t)(16 * (strchr(digits, word[2 * i]) - digits) + (strchr(digits, word[2 * i + 1]) - digits));
+    return octets;
+}
+
+/* The command is as it should be, and no word is left. */
+static int understood(void)
+{
+    if (taken < n_words) is_wrong("a word is too many");
+    return !wrong;
+}
+
+/* ---- Records: the protocol's places beside the library's numbers ---- */
+
+enum kind {
+    SAME,        /* numbers that both have */
+    DESCRIPTION, /* 13 places, five numbers: channel, hopping, short list, length, and the octets or the short list as one number */
+    ABSENT,      /* places for which the library has no number: 0 */
+    UNSHOWN,     /* numbers for which the protocol has no place */
+    END
+};
+
+struct run {
+    enum kind kind;
+    size_t n;
+};
+
+#define CALL { SAME, 6 }, { DESCRIPTION, 1 }
+
+static const struct run nch_record[] = { { SAME, 3 }, CALL, CALL, CALL, CALL, { SAME, 58 }, { END, 0 } };
+static const struct run facch_record[] = { { ABSENT, 1 }, CALL, { ABSENT, 13 }, { SAME, 9 }, { UNSHOWN, 1 }, { ABSENT, 2 }, { END, 0 } };
+static const struct run call_record[] = { { SAME, 2 }, CALL, { SAME, 19 }, { END, 0 } };
+
+enum { OCTETS = 8 }; /* places for a mobile allocation */
+
+/* The first octet is all that the others leave: more than an octet where the number is too large for the length. */
+static void say_description(const uint64_t *d)
+{
+    uint64_t octets[OCTETS] = { 0 }, number = d[2] ? 0 : d[4];
+    for (size_t i = count_of(d[3], OCTETS, "octets"); i > 1; number >>= 8) octets[--i] = number & 255;
+    octets[0] = number;
+    for (size_t i = 0; i < 4; i++) say_number(d[i]);
+    for (size_t i = 0; i < OCTETS; i++) say_number(octets[i]);
+    say_number(d[2] ? d[4] : 0);
+}
+
+/* An octet that is not zero counts although it stands beyond the length, so that the number is then too large for the length. */
+static void take_description(uint64_t *d)
+{
+    uint64_t so_far = 0, number = 0, list;
+    for (size_t i = 0; i < 4; i++) d[i] = take_number(UINT64_MAX);
+    for (size_t i = 0; i < OCTETS; i++) {
+        uint64_t octet = take_number(UINT8_MAX);
+        so_far = so_far << 8 | octet;
+        if (i < d[3] || octet) number = so_far;
+    }
+    list = take_number(UINT64_MAX);
+    if ((d[2] == 1 && number) || (d[2] == 0 && list)) is_wrong("octets beside the flag of a short list, or the other way round, are nothing that the library can be told");
+    d[4] = number | list;
+}
+
+static void say_record(const uint64_t *numbers, const struct run *run)
+{
+    for (; run->kind != END; run++)
+        for (size_t i = 0; i < run->n; i++) {
+            if (run->kind == SAME) say_number(*numbers++);
+            if (run->kind == DESCRIPTION) say_description(numbers), numbers += 5;
+            if (run->kind == ABSENT) say_number(0);
+            if (run->kind == UNSHOWN) numbers++;
+        }
+}
+
+static void take_record(uint64_t *numbers, const struct run *run)
+{
+    for (; run->kind != END; run++)
+        for (size_t i = 0; i < run->n; i++) {
+            if (run->kind == SAME) *numbers++ = take_number(UINT64_MAX);
+            if (run->kind == DESCRIPTION) take_description(numbers), numbers += 5;
+            if (run->kind == ABSENT && take_number(UINT64_MAX)) is_wrong("the library has no place for a number");
+            if (run->kind == UNSHOWN) *numbers++ = 0;
+        }
+}
+
+/* ---- Readers and writers of messages ---- */
+
+typedef uint32_t reader(const uint8_t *octets, size_t n, uint64_t *numbers, size_t n_numbers);
+typedef uint32_t writer(const uint64_t *numbers, size_t n_numbers, uint8_t *octets, size_t n);
+
+/* A refusal with the bit number that the upper bits of a result are kept for. */
+static uint32_t say_result(uint32_t result)
+{
+    say_number(ASTERNHAKEN_REFUSAL(result));
+    say_number(result >> 8);
+    return ASTERNHAKEN_REFUSAL(result);
+}
+
+/* Behind the numbers of the record stands how many bits were used. */
+static void read_record(reader *read, size_t n_numbers, const struct run *record)
+{
+    size_t n;
+    take(); /* VERSION */
+    uint8_t *octets = take_octets(&n);
+    uint64_t *numbers = lend_numbers(n_numbers + 1);
+    if (!understood()) return;
+    say_result(WATCHED(read(octets, n, numbers, n_numbers + 1), numbers, CLEARS));
+    say_number(numbers[n_numbers]);
+    say_record(numbers, record);
+}
+
+static void nch(void) { read_record(asternhaken_nch_read, ASTERNHAKEN_NCH_NUMBERS, nch_record); }
+static void facch(void) { read_record(asternhaken_facch_read, ASTERNHAKEN_FACCH_NUMBERS, facch_record); }
+
+/* A writer says nothing of the bits used: they are those that the reader uses of what was written. */
+static void write_record(writer *write, reader *read, size_t n_numbers, const struct run *record)
+{
+    size_t size = (size_t)take_u32();
+    uint8_t *octets = (uint8_t *)lend("octets", size);
+    uint64_t *numbers = lend_numbers(n_numbers), *again = lend_numbers(n_numbers + 1);
+    take_record(numbers, record);
+    if (!understood()) return;
+    uint32_t result = WATCHED(write(numbers, n_numbers, octets, size), octets, LEAVES);
+    say_number(result);
+    if (result == ASTERNHAKEN_ACCEPTED) WATCHED(read(octets, size, again, n_numbers + 1), again, CLEARS);
+    say_number(result == ASTERNHAKEN_ACCEPTED ? again[n_numbers] : 0);
+    say_octets(octets, result == ASTERNHAKEN_ACCEPTED ? size : 0);
+}
+
+static void wnch(void) { write_record(asternhaken_nch_write, asternhaken_nch_read, ASTERNHAKEN_NCH_NUMBERS, nch_record); }
+
+/* ---- Elements ---- */
+
+typedef uint32_t half_reader(uint8_t octet, uint64_t *numbers, size_t n_numbers);
+typedef uint32_t half_writer(const uint64_t *numbers, size_t n_numbers, uint8_t *octet);
+
+/* Reads an element of one octet or half of it, and says the refusal. */
+static uint64_t *read_half(half_reader *read, size_t n_numbers, uint32_t *result)
+{
+    uint8_t octet = take_u8();
+    uint64_t *numbers = lend_numbers(n_numbers);
+    if (!understood()) return NULL;
+    *result = WATCHED(read(octet, numbers, n_numbers), numbers, CLEARS);
+    say_number(*result);
+    return numbers;
+}
+
+/* A half octet that is refused has nothing behind the refusal. */
+static void say_half(half_reader *read, size_t n_numbers)
+{
+    uint32_t result;
+    uint64_t *numbers = read_half(read, n_numbers, &result);
+    for (size_t i = 0; numbers && result == ASTERNHAKEN_ACCEPTED && i < n_numbers; i++) say_number(numbers[i]);
+}
+
+static void originator(void) { say_half(asternhaken_originator_read, ASTERNHAKEN_ORIGINATOR_NUMBERS); }
+static void state_attributes(void) { say_half(asternhaken_state_attributes_read, ASTERNHAKEN_STATE_ATTRIBUTES_NUMBERS); }
+static void talker_priority(void) { say_half(asternhaken_talker_read, ASTERNHAKEN_TALKER_NUMBERS); }
+static void sms_indications(void) { say_half(asternhaken_sms_read, ASTERNHAKEN_SMS_NUMBERS); }
+
+static void call_state(void)
+{
+    enum { RESERVED = 12 };
+    uint32_t result;
+    uint64_t *numbers = read_half(asternhaken_call_state_read, ASTERNHAKEN_CALL_STATE_NUMBERS, &result);
+    if (!numbers || result != ASTERNHAKEN_ACCEPTED) return;
+    say_number(numbers[0] == RESERVED);
+    say_number(numbers[0] == RESERVED ? 0 : numbers[0]);
+}
+
+static void message_type(void)
+{
+    uint32_t result;
+    uint64_t *numbers = read_half(asternhaken_message_type_read, ASTERNHAKEN_MESSAGE_TYPE_NUMBERS, &result);
+    if (!numbers) return;
+    say_number(numbers[1]);
+    say_number(numbers[0]);
+}
+
+static void write_half(half_writer *write, const uint64_t *numbers, size_t n_numbers)
+{
+    uint8_t *octet = (uint8_t *)lend("octet", 1);
+    if (!understood()) return;
+    uint32_t result = WATCHED(write(numbers, n_numbers, octet), octet, LEAVES);
+    say_number(result);
+    say_number(result == ASTERNHAKEN_ACCEPTED ? *octet : 0u);
+}
+
+static uint64_t *take_numbers(size_t n)
+{
+    uint64_t *numbers = lend_numbers(n);
+    for (size_t i = 0; i < n; i++) numbers[i] = take_number(UINT64_MAX);
+    return numbers;
+}
+
+static void wcall_state(void) { write_half(asternhaken_call_state_write, take_numbers(1), ASTERNHAKEN_CALL_STATE_NUMBERS); }
+static void woriginator(void) { write_half(asternhaken_originator_write, take_numbers(1), ASTERNHAKEN_ORIGINATOR_NUMBERS); }
+static void wtalker_priority(void) { write_half(asternhaken_talker_write, take_numbers(1), ASTERNHAKEN_TALKER_NUMBERS); }
+static void wstate_attributes(void) { write_half(asternhaken_state_attributes_write, take_numbers(4), ASTERNHAKEN_STATE_ATTRIBUTES_NUMBERS); }
+static void wsms_indications(void) { write_half(asternhaken_sms_write, take_numbers(2), ASTERNHAKEN_SMS_NUMBERS); }
+
+static void wmessage_type(void)
+{
+    uint64_t *numbers = take_numbers(2), type = numbers[0];
+    numbers[0] = numbers[1];
+    numbers[1] = type;
+    write_half(asternhaken_message_type_write, numbers, ASTERNHAKEN_MESSAGE_TYPE_NUMBERS);
+}
+
+/* Reads an element of some octets, and says the refusal. */
+static uint64_t *read_element(reader *read, size_t n_numbers, uint32_t *result)
+{
+    size_t n;
+    uint8_t *octets = take_octets(&n);
+    uint64_t *numbers = lend_numbers(n_numbers);
+    if (!understood()) return NULL;
+    *result = WATCHED(read(octets, n, numbers, n_numbers), numbers, CLEARS);
+    say_number(*result);
+    return numbers;
+}
+
+/* Numbers that are octets; one that is none has more than two digits. */
+static void say_as_octets(const uint64_t *numbers, size_t n)
+{
+    say(n ? "" : "-");
+    for (size_t i = 0; i < n; i++) printf("%02" PRIx64, numbers[i]);
+}
+
+static void call_reference(void)
+{
+    uint32_t result;
+    uint64_t *numbers = read_element(asternhaken_call_reference_read, ASTERNHAKEN_CALL_REFERENCE_NUMBERS, &result);
+    for (size_t i = 0; numbers && i < ASTERNHAKEN_CALL_REFERENCE_NUMBERS; i++) say_number(numbers[i]);
+}
+
+enum { CAUSE_OCTETS = 255, DIAGNOSTICS = 1 + CAUSE_OCTETS }; /* places of the cause's numbers */
+
+static void cause(void)
+{
+    uint32_t result;
+    uint64_t *numbers = read_element(asternhaken_cause_read, ASTERNHAKEN_CAUSE_VALUE + 1, &result);
+    if (!numbers) return;
+    say_number(numbers[ASTERNHAKEN_CAUSE_MEANING] == 1);
+    say_number(numbers[ASTERNHAKEN_CAUSE_VALUE]);
+    for (size_t i = 0; i < count_of(numbers[0], CAUSE_OCTETS, "septets"); i++) say_number(numbers[1 + i]);
+    say_as_octets(numbers + DIAGNOSTICS + 1, count_of(numbers[DIAGNOSTICS], CAUSE_OCTETS, "diagnostics"));
+}
+
+static void dispatcher(void)
+{
+    uint32_t result;
+    uint64_t *numbers = read_element(asternhaken_digits_read, ASTERNHAKEN_DIGITS_NUMBERS, &result);
+    if (numbers) say_as_octets(numbers, result == ASTERNHAKEN_ACCEPTED ? ASTERNHAKEN_DIGITS_NUMBERS : 0);
+}
+
+static void write_element(writer *write, const uint64_t *numbers, size_t n_numbers, size_t size)
+{
+    uint8_t *octets = (uint8_t *)lend("octets", size);
+    if (!understood()) return;
+    uint32_t result = WATCHED(write(numbers, n_numbers, octets, size), octets, LEAVES);
+    say_number(result);
+    say_octets(octets, result == ASTERNHAKEN_ACCEPTED ? size : 0);
+}
+
+static void wcall_reference(void)
+{
+    uint64_t *numbers = take_numbers(ASTERNHAKEN_CALL_REFERENCE_NUMBERS);
+    write_element(asternhaken_call_reference_write, numbers, ASTERNHAKEN_CALL_REFERENCE_NUMBERS, take_u32());
+}
+
+/* How many there are, then the octets, each a number; where there are more than places, the number alone says it. */
+static void take_counted(uint64_t *numbers)
+{
+    size_t n;
+    uint8_t *octets = take_octets(&n);
+    numbers[0] = n;
+    for (size_t i = 0; i < CAUSE_OCTETS; i++) numbers[1 + i] = i < n ? octets[i] : 0;
+}
+
+static void wcause(void)
+{
+    size_t size = take_u32();
+    uint64_t *numbers = lend_numbers(ASTERNHAKEN_CAUSE_NUMBERS);
+    take_counted(numbers);
+    take_counted(numbers + DIAGNOSTICS);
+    write_element(asternhaken_cause_write, numbers, ASTERNHAKEN_CAUSE_NUMBERS, size);
+}
+
+static void wdispatcher(void)
+{
+    size_t size = take_u32(), n;
+    uint8_t *octets = take_octets(&n);
+    uint64_t *numbers = lend_numbers(n);
+    for (size_t i = 0; i < n; i++) numbers[i] = octets[i];
+    write_element(asternhaken_digits_write, numbers, n, size);
+}
+
+/* ---- The receiver ---- */
+
+enum { LENGTH = ASTERNHAKEN_STATE_LENGTH };
+
+static uint8_t *state;
+static uint64_t *value;
+
+static void setup(void)
+{
+    size_t n;
+    take(); /* VERSION */
+    uint32_t tick = take_u32(), t3206 = take_u32(), t3208 = take_u32();
+    take_slash();
+    uint32_t *keys = take_keys(&n);
+    if (!understood()) return;
+    say_number(WATCHED(asternhaken_setup(state, LENGTH, keys, n, tick, t3206, t3208), state, LEAVES));
+}
+
+/* A part that the library does not have by itself. */
+enum { CIPHERED = ASTERNHAKEN_PARTS };
+
+static uint64_t part(uint32_t entry, uint32_t which)
+{
+    if (which == CIPHERED) return part(entry, ASTERNHAKEN_CIPHER_KEY_NUMBER) != 0;
+    paint(value, sizeof *value);
+    if (WATCHED(asternhaken_read(state, LENGTH, entry, which, value), value, CLEARS) != ASTERNHAKEN_ACCEPTED) fault("asternhaken_read refuses", "state", 0);
+    return *value;
+}
+
+/* The parts of a complete record, in the order of call_record. */
+static const uint32_t record_parts[] = {
+    ASTERNHAKEN_KEY_OF, ASTERNHAKEN_FULL,
+    ASTERNHAKEN_CALL_REFERENCE, ASTERNHAKEN_VGCS, ASTERNHAKEN_ACKNOWLEDGED, ASTERNHAKEN_PRIORITY, ASTERNHAKEN_CIPHER_KEY_NUMBER, ASTERNHAKEN_DESCRIBED,
+    ASTERNHAKEN_CHANNEL, ASTERNHAKEN_HOPS, ASTERNHAKEN_SHORT_LIST, ASTERNHAKEN_ALLOCATION_OCTETS, ASTERNHAKEN_FREQUENCIES,
+    CIPHERED,
+    ASTERNHAKEN_SEGMENTED, ASTERNHAKEN_SEGMENT_ID,
+    ASTERNHAKEN_RAND_GIVEN, ASTERNHAKEN_VSTK_RAND,
+    ASTERNHAKEN_EMERGENCY,
+    ASTERNHAKEN_COUNTED, ASTERNHAKEN_CELL_GLOBAL_COUNT, ASTERNHAKEN_B22_COUNT,
+    ASTERNHAKEN_UPLINK_GIVEN, ASTERNHAKEN_UPLINK_ACCESS,
+    ASTERNHAKEN_AMR, ASTERNHAKEN_FR_AMR_GIVEN, ASTERNHAKEN_FR_AMR_CONFIG, ASTERNHAKEN_HR_AMR_GIVEN, ASTERNHAKEN_HR_AMR_CONFIG,
+    ASTERNHAKEN_SMS, ASTERNHAKEN_SMS_CONFIDENTIALITY, ASTERNHAKEN_SMS_PRIVACY
+};
+
+enum { RECORD_PARTS = sizeof record_parts / sizeof *record_parts };
+
+static void say_entry(uint32_t entry)
+{
+    uint64_t told = part(entry, ASTERNHAKEN_TOLD), numbers[RECORD_PARTS];
+    say("|");
+    say_number(part(entry, ASTERNHAKEN_KEY_OF));
+    say_number(told);
+    if (told < ASTERNHAKEN_CLEAR || told > ASTERNHAKEN_JOINED) return;
+    for (size_t i = 0; i < RECORD_PARTS; i++) numbers[i] = part(entry, record_parts[i]);
+    say_record(numbers, call_record);
+}
+
+static void say_answer(uint32_t result)
+{
+    int accepted = say_result(result) == ASTERNHAKEN_ACCEPTED;
+    size_t count = accepted ? count_of(part(0, ASTERNHAKEN_COUNT), ASTERNHAKEN_ENTRIES, "entries") : 0;
+    say_number(accepted ? part(0, ASTERNHAKEN_DROPPED) : 0);
+    say_number(accepted ? part(0, ASTERNHAKEN_EXPIRED) : 0);
+    for (uint32_t entry = 0; entry < count; entry++) say_entry(entry);
+}
+
+/* An event with a message. */
+static void message(uint32_t (*event)(uint8_t *state, size_t state_length, uint32_t tick, const uint8_t *octets, size_t n))
+{
+    size_t n;
+    uint32_t tick = take_u32();
+    uint8_t *octets = take_octets(&n);
+    if (understood()) say_answer(WATCHED(event(state, LENGTH, tick, octets, n), state, LEAVES));
+}
+
+/* An event that is a tick alone. */
+static void plain(uint32_t (*event)(uint8_t *state, size_t state_length, uint32_t tick))
+{
+    uint32_t tick = take_u32();
+    if (understood()) say_answer(WATCHED(event(state, LENGTH, tick), state, LEAVES));
+}
+
+static void ev_nch(void) { message(asternhaken_nch); }
+static void ev_facch(void) { message(asternhaken_facch); }
+static void ev_reselected(void) { plain(asternhaken_reselected); }
+static void ev_handed_over(void) { plain(asternhaken_handed_over); }
+static void ev_reconfigured(void) { plain(asternhaken_reconfigured); }
+static void ev_tick(void) { plain(asternhaken_tick); }
+
+static void ev_joined(void)
+{
+    uint32_t tick = take_u32(), key = take_u32();
+    if (understood()) say_answer(WATCHED(asternhaken_joined(state, LENGTH, tick, key), state, LEAVES));
+}
+
+/* ---- The commands ---- */
+
+struct command {
+    const char *word;
+    void (*run)(void);
+};
+
+/* Runs the command of the next word. */
+static void run(const struct command *command)
+{
+    const char *word = take();
+    while (command->word && strcmp(word, command->word)) command++;
+    if (command->word) command->run();
+    else is_wrong("no such command");
+}
+
+static const struct command events[] = {
+    { "nch", ev_nch },
+    { "facch", ev_facch },
+    { "joined", ev_joined },
+    { "reselected", ev_reselected },
+    { "handed_over", ev_handed_over },
+    { "reconfigured", ev_reconfigured },
+    { "tick", ev_tick },
+    { NULL, NULL }
+};
+
+static void ev(void) { run(events); }
+
+static const struct command commands[] = {
+    { "nch", nch },
+    { "facch", facch },
+    { "wnch", wnch },
+    { "setup", setup },
+    { "ev", ev },
+    { "message_type", message_type },
+    { "call_reference", call_reference },
+    { "call_state", call_state },
+    { "originator", originator },
+    { "state_attributes", state_attributes },
+    { "talker_priority", talker_priority },
+    { "sms_indications", sms_indications },
+    { "cause", cause },
+    { "dispatcher", dispatcher },
+    { "wmessage_type", wmessage_type },
+    { "wcall_reference", wcall_reference },
+    { "wcall_state", wcall_state },
+    { "woriginator", woriginator },
+    { "wstate_attributes", wstate_attributes },
+    { "wtalker_priority", wtalker_priority },
+    { "wsms_indications", wsms_indications },
+    { "wcause", wcause },
+    { "wdispatcher", wdispatcher },
+    { NULL, NULL }
+};
+
+/* Reads a line of any length, without its end. */
+static int read_line(void)
+{
+    static size_t has_room;
+    size_t n = 0;
+    int c;
+    while ((c = getchar()) != EOF && c != '\n') {
+        if (n + 1 >= has_room) line = (char *)room(line, has_room = 2 * has_room + 256);
+        if (!c) is_wrong("the line is no text");
+        line[n++] = (char)c;
+    }
+    if (!line) line = (char *)room(NULL, has_room = 256);
+    line[n] = 0;
+    return c != EOF || n > 0;
+}
+
+/* Cuts the line at each blank. */
+static void cut(void)
+{
+    static size_t has_room;
+    char *at = line;
+    n_words = taken = 0;
+    for (;;) {
+        if (n_words == has_room) words = (char **)room(words, (has_room = 2 * has_room + 64) * sizeof *words);
+        words[n_words++] = at;
+        at = strchr(at, ' ');
+        if (!at) return;
+        *at++ = 0;
+    }
+}
+
+int main(void)
+{
+    int status = 0;
+    state = (uint8_t *)lend("state", LENGTH);
+    value = (uint64_t *)lend("value", sizeof *value);
+    struct lent *stays = lents;
+    for (; wrong = NULL, read_line(); take_back(stays)) {
+        line_number++;
+        begun = 0;
+        cut();
+        if (!wrong) run(commands);
+        if (wrong) {
+            say("?");
+            say(wrong);
+            status = 2;
+        }
+        printf("\n");
+        fflush(stdout);
+    }
+    take_back(NULL);
+    free(line);
+    free(words);
+    return ferror(stdin) || ferror(stdout) ? 2 : status;
+}

@@ -1,0 +1,124 @@
+#!/bin/sh
+# The answers of others: target/drive is given the commands of vectors/vNN.txt, and each of its lines is held to the answer there. Then the driver's own watches, and the
+# comparison, are tried on seeded faults (tests/drive-stub.c), which they must find. The last line is 'N passed, M failed'.
+set -u
+export LC_ALL=C
+cd "$(dirname "$0")/.." || exit 1
+tmp=$(mktemp -d) || exit 1
+trap 'rm -rf "$tmp"' EXIT
+passed=0 failed=0
+strict='-Wall -Wextra -Wpedantic -Werror'
+unset ASTERNHAKEN_LIB # it may name another archive
+archive=target/$([ "$(uname -m)" = x86_64 ] && echo lib || echo native)/libasternhaken.a
+
+# compare PROGRAM FILE: gives the program, a line of sh, the commands of the file. Each answer counts, so does an answer too many, and a status that is not 0. The file compared
+# says how many passed and failed in its last line, and before it what failed, the first ten of them.
+compare() {
+    sed -n 's/^> //p' "$2" | sh -c "$1" > "$tmp/got" 2> "$tmp/said"
+    awk -v status=$? -v got="$tmp/got" '
+        function fails(what) { if (++failed <= 10) print what }
+        /^> / { if (open) fails("no answer stands behind: " command); command = substr($0, 3); open = 1; next }
+        /^< / {
+            there = (getline answer < got) > 0
+            if (open && there && answer == substr($0, 3)) passed++
+            else fails((open ? command : "no command stands before an answer") "\n  must answer: " substr($0, 3) "\n  and answered: " (there ? answer : "nothing"))
+            open = 0
+            next
+        }
+        !/^(#|$)/ { fails("neither command nor answer: " $0) }
+        END {
+            if (open) fails("no answer stands behind: " command)
+            while ((getline answer < got) > 0) fails("answered too much: " answer)
+            if (status) fails("the program ended with status " status)
+            if (!passed) fails("nothing was compared")
+            if (failed > 10) print "and " (failed - 10) " more"
+            printf "%d passed, %d failed\n", passed, failed
+        }' "$2" > "$tmp/compared"
+}
+
+# note HOLDS WHAT: one thing that passes or fails; where it fails, what was compared and said last is shown.
+note() {
+    if [ "$1" = 0 ]; then
+        passed=$((passed + 1))
+    else
+        failed=$((failed + 1))
+        echo "failed: $2"
+        cat "$tmp/compared" "$tmp/said"
+    fi
+}
+
+# finds WHAT PROGRAM FILE [TEXT]: the comparison fails, and the text stands in the answers or in what was compared.
+finds() {
+    compare "$2" "$3"
+    ! grep -q ' passed, 0 failed$' "$tmp/compared" && cat "$tmp/got" "$tmp/compared" | grep -q "${4:-}"
+    note $? "not found: $1"
+}
+
+# builds COMPILER..: the command succeeds, and says nothing.
+builds() {
+    : > "$tmp/compared"
+    "$@" > "$tmp/said" 2>&1 && [ ! -s "$tmp/said" ]
+    note $? "$*"
+}
+
+make drive || { echo "0 passed, 1 failed"; exit 1; }
+
+set -- vectors/v[0-9][0-9].txt
+file=$1
+[ $# = 1 ] || { echo "vectors/ has $# files vNN.txt, and only the newest belongs there"; failed=1; }
+compare target/drive "$file"
+n=$(sed -n '$s/^\([0-9]*\) passed, [0-9]* failed$/\1/p' "$tmp/compared")
+m=$(sed -n '$s/^[0-9]* passed, \([0-9]*\) failed$/\1/p' "$tmp/compared")
+passed=$((passed + ${n:-0})) failed=$((failed + ${m:-1}))
+[ "${m:-1}" = 0 ] || { echo "failed: $file"; cat "$tmp/compared" "$tmp/said"; }
+
+# ---- The driver is plain C, which C++ takes too, and touches nothing that is not its own ----
+
+for cc in 'gcc -std=c99' 'clang -std=c99' 'g++ -x c++' 'clang++ -x c++'; do builds $cc $strict -O2 -Iinclude -c tests/drive.c -o "$tmp/drive.o"; done
+compare 'valgrind -q --error-exitcode=9 --leak-check=full target/drive' "$file"
+grep -q ' passed, 0 failed$' "$tmp/compared"
+note $? 'valgrind on the driver'
+
+# ---- Faults of the library ----
+
+wraps=$(sed -n 's/^uint32_t __wrap_\([a-z_]*\)(.*/-Wl,--wrap=\1/p' tests/drive-stub.c)
+builds cc -std=c99 $strict -O2 -Iinclude tests/drive.c tests/drive-stub.c $wraps "$archive" -o "$tmp/faulty"
+compare "$tmp/faulty" "$file"
+grep -q ' passed, 0 failed$' "$tmp/compared"
+note $? 'without a fault the faulty library is the library'
+while IFS=: read -r seeded text; do
+    finds "$seeded" "FAULT='$seeded' $tmp/faulty" "$file" "$text"
+done << 'END'
+a refused setup writes:^FAULT .*a refused call changed lent memory: state, octet 4711$
+a refused event moves the clock:^FAULT .*a refused call changed lent memory: state, octet [0-3]$
+a refused writing writes:^FAULT .*a refused call changed lent memory: octets, octet 19$
+a writing is an octet too long:^FAULT .*a write behind what was lent: octets, octet 20$
+a writing begins an octet before:^FAULT .*a write before what was lent, counted backwards: octets, octet 1$
+a reading is too long:^FAULT .*a write behind what was lent: numbers, octet 848$
+a refused reading leaves a number:^FAULT .*a refused reading is not all zeros: numbers, octet 840$
+a setup writes the keys:^FAULT .*a call changed what it may not write: keys, octet 0$
+reading a part writes the state:^FAULT .*a call changed what it may not write: state, octet 6983$
+a refused setup gives another number:must answer: 10$
+an event has an upper bit:must answer: 0 0 
+a reading is another:must answer: 0 0 4 
+a part is another:must answer: 0 0 
+END
+
+# ---- Faults of the driver, and of the file ----
+
+finds 'no answer at all' true "$file" 'and answered: nothing'
+finds 'a line is missing' 'target/drive | sed 5d' "$file" '^and [0-9]* more$'
+finds 'the last line is missing' "target/drive | sed '\$d'" "$file" 'and answered: nothing'
+finds 'a line too many' 'target/drive; echo 0' "$file" 'answered too much: 0'
+finds 'a bad status' 'target/drive; exit 1' "$file" '^[1-9][0-9]* passed, 1 failed$'
+printf '%s\n' '> call_state 0' '< 0 0 0' '> frob 1' '< 0' > "$tmp/file"
+finds 'no such command' target/drive "$tmp/file" 'and answered: ? no such command'
+printf '%s\n' '> call_state 0' '< 0 0 0' '> call_state 0' > "$tmp/file"
+finds 'a command without an answer' target/drive "$tmp/file" 'no answer stands behind'
+printf '%s\n' '> call_state 0' '< 0 0 0' 'call_state 0' > "$tmp/file"
+finds 'a line that is neither' target/drive "$tmp/file" 'neither command nor answer'
+echo '# nothing' > "$tmp/file"
+finds 'nothing to compare' target/drive "$tmp/file" 'nothing was compared'
+
+echo "$passed passed, $failed failed"
+[ "$failed" = 0 ]
