@@ -5,7 +5,7 @@ export LC_ALL=C
 cd "$(dirname "${BASH_SOURCE[0]}")/.." || exit 1
 top=$(mktemp -d) || exit 1
 trap 'rm -rf "$top"' EXIT
-unset MAKEFLAGS ASTERNHAKEN_LIB PROGRESS_BEGAN
+unset MAKEFLAGS MAKELEVEL ASTERNHAKEN_LIB PROGRESS_BEGAN # the gate itself runs under make
 passed=0 failed=0 status=0
 
 # note HOLDS WHAT: one thing that passes or fails; where it fails, what was said last is shown.
