@@ -27,7 +27,7 @@ help:
 
 test:
 	$(one_by_one)
-	@MAKEFLAGS= tools/gate
+	@env -u MAKEFLAGS -u MAKELEVEL tools/gate
 
 lib: $(archive)
 
