@@ -1,8 +1,14 @@
 #!/usr/bin/env bash
 # Tries the comparison itself: each error of seeded-errors.txt is put into a copy of the second program, which is then built and compared
 # with the archive in a short run of random inputs alone; the hand-written scenes and the vectors are left out. Every error must show up as
-# a difference. The copy without an error must show none. The last line is `N passed, M failed`.
+# a difference, and one that keeps the random inputs from something as that being met too seldom. The copy without an error must show
+# nothing. The last line is `N passed, M failed`.
+#
+#   seeded-errors.sh               all of it
+#   seeded-errors.sh --list FILE   only that the list is long enough, of FILE
 set -u
+# How many errors must be listed, of either kind: those that give a wrong answer, and those that are met too seldom.
+least_wrong=107 least_seldom=4
 here=$(cd "$(dirname "$0")" && pwd)
 case $(uname -m) in x86_64) lib=$here/../target/lib ;; *) lib=$here/../target/native ;; esac
 # What the environment names is meant from this folder, as build.rs means it.
@@ -13,10 +19,12 @@ workers=${WORKERS:-$(nproc)}
 if [ "$workers" -gt 8 ]; then workers=8; fi
 runs=(--random --messages 12000 --steps 6000)
 work=$here/target/seeded-errors
+list=$here/seeded-errors.txt
+if [ "${1:-}" = --list ]; then list=$2; fi
 mkdir -p "$work" && rm -f "$work"/*.result
 
 # Names, files and pairs of all errors, in arrays; pairs are found by error number.
-names=() files=() olds=() news=() owners=()
+names=() files=() shows=() olds=() news=() owners=()
 old= new= mode=none
 end_pair() {
     if [ "$mode" != none ]; then
@@ -27,7 +35,8 @@ end_pair() {
 newline=$'\n'
 while IFS= read -r line; do
     case $line in
-        "@ "*) end_pair; names+=("${line#@ }"); files+=("") ;;
+        "@ "*) end_pair; names+=("${line#@ }"); files+=("") shows+=("DIFFERENCE") ;;
+        "! "*) end_pair; shows[${#names[@]} - 1]=${line#! } ;;
         "- "*)
             if [ "$mode" = new ]; then end_pair; fi
             if [ "$mode" = old ]; then old+=$newline; fi
@@ -38,8 +47,23 @@ while IFS= read -r line; do
         src/*) files[${#names[@]} - 1]=$line ;;
         *) end_pair ;;
     esac
-done <"$here/seeded-errors.txt"
+done <"$list"
 end_pair
+
+# Too few errors, or one under two names, fail before anything is built.
+wrong=0 seldom=0
+for show in "${shows[@]}"; do case $show in DIFFERENCE) wrong=$((wrong + 1)) ;; *) seldom=$((seldom + 1)) ;; esac; done
+twice=$(printf '%s\n' "${names[@]}" | sort | uniq -d)
+if [ "$wrong" -lt $least_wrong ] || [ "$seldom" -lt $least_seldom ] || [ -n "$twice" ]; then
+    echo "FAILED: $wrong errors with a wrong answer are listed, $seldom that are met too seldom; there must be $least_wrong and $least_seldom"
+    [ -z "$twice" ] || echo "FAILED: listed twice: $twice"
+    echo '0 passed, 1 failed'
+    exit 1
+fi
+if [ "${1:-}" = --list ]; then
+    echo "$((wrong + seldom)) passed, 0 failed"
+    exit
+fi
 
 # Puts error $1 into the copy $2; each old text must stand there exactly once.
 apply() {
@@ -79,7 +103,7 @@ take_errors() {
         else
             compare "$copy"
             case $? in
-                1) if grep -q '^DIFFERENCE' "$copy/output"; then verdict=passed; else verdict="FAILED: not found"; fi ;;
+                1) if grep -qE "^ *${shows[$i]}" "$copy/output"; then verdict=passed; else verdict="FAILED: not found"; fi ;;
                 2) verdict="FAILED: does not build"; cp "$copy/output" "$work/build-$i.output" ;;
                 0) verdict="FAILED: not found" ;;
                 *) verdict="FAILED: stopped without a difference"; cp "$copy/output" "$work/stopped-$i.output" ;;

@@ -1,11 +1,17 @@
 //! The functions of include/asternhaken.h, called with guard octets around everything that is lent.
 
+use crate::record;
 use std::cell::Cell;
 
 pub mod archive {
     macro_rules! exported {
         ($( fn $name:ident($($arg:ident: $type:ty),*); )*) => {
             extern "C" { $( pub fn $name($($arg: $type),*) -> u32; )* }
+
+            /// Which of the functions below it is, from 0 on.
+            pub fn number_of(function: *const ()) -> u8 {
+                [$( $name as *const () ),*].iter().position(|&each| each == function).unwrap() as u8
+            }
         };
     }
     exported! {
@@ -120,6 +126,12 @@ pub fn read_octets(function: OctetsReader, octets: &[u8], n_numbers: usize) -> (
     let refusal = unsafe { function(input.pointer(), octets.len(), numbers.pointer_mut(), n_numbers) };
     input.check_all(octets);
     numbers.check_guards();
+    record::with(|record| {
+        record.function(archive::number_of(function as *const ()));
+        record.octets(octets);
+        record.small(&[n_numbers as u32, refusal]);
+        record.large(numbers.content());
+    });
     (refusal, numbers.content().to_vec())
 }
 
@@ -127,6 +139,11 @@ pub fn read_octet(function: OctetReader, octet: u8, n_numbers: usize) -> (u32, V
     let mut numbers = Lent::new(&vec![STALE; n_numbers], NUMBER_GUARD, 0);
     let refusal = unsafe { function(octet, numbers.pointer_mut(), n_numbers) };
     numbers.check_guards();
+    record::with(|record| {
+        record.function(archive::number_of(function as *const ()));
+        record.small(&[u32::from(octet), n_numbers as u32, refusal]);
+        record.large(numbers.content());
+    });
     (refusal, numbers.content().to_vec())
 }
 
@@ -137,6 +154,14 @@ pub fn write_octets(function: OctetsWriter, numbers: &[u64], before: &[u8]) -> (
     let refusal = unsafe { function(input.pointer(), numbers.len(), octets.pointer_mut(), before.len()) };
     input.check_all(numbers);
     octets.check_guards();
+    record::with(|record| {
+        record.function(archive::number_of(function as *const ()));
+        record.small(&[numbers.len() as u32]);
+        record.large(numbers);
+        record.octets(before);
+        record.small(&[refusal]);
+        record.plain(octets.content());
+    });
     (refusal, octets.content().to_vec())
 }
 
@@ -146,69 +171,108 @@ pub fn write_octet(function: OctetWriter, numbers: &[u64], before: u8) -> (u32, 
     let refusal = unsafe { function(input.pointer(), numbers.len(), octet.pointer_mut()) };
     input.check_all(numbers);
     octet.check_guards();
+    record::with(|record| {
+        record.function(archive::number_of(function as *const ()));
+        record.small(&[numbers.len() as u32]);
+        record.large(numbers);
+        record.small(&[u32::from(before), refusal]);
+        record.plain(octet.content());
+    });
     (refusal, octet.content()[0])
 }
 
 /// A lent state. Its length may be a wrong one.
 pub struct State {
     lent: Lent<u8>,
+    /// Which one it is, from 1 on.
+    which: u64,
+}
+
+thread_local! {
+    static STATES: Cell<u64> = const { Cell::new(0) };
 }
 
 impl State {
     pub fn new(octets: &[u8], shift: usize) -> State {
-        State { lent: Lent::new(octets, OCTET_GUARD, shift % 8) }
+        let which = STATES.get() + 1;
+        STATES.set(which);
+        State { lent: Lent::new(octets, OCTET_GUARD, shift % 8), which }
     }
 
     pub fn octets(&self) -> &[u8] {
         self.lent.content()
     }
 
-    fn call(&mut self, function: impl FnOnce(*mut u8, usize) -> u32) -> u32 {
+    /// A call with the state lent; `given` are the other numbers that it gets, and `lent` the octets.
+    fn call(&mut self, number: *const (), given: &[u32], lent: &[u8], function: impl FnOnce(*mut u8, usize) -> u32) -> u32 {
         let length = self.lent.length;
+        record::with(|record| record.state(self.which, self.lent.content()));
         let refusal = function(self.lent.pointer_mut(), length);
         self.lent.check_guards();
+        record::with(|record| {
+            record.function(archive::number_of(number));
+            record.octets(lent);
+            record.small(given);
+            record.small(&[refusal]);
+            record.plain(self.lent.content());
+        });
         refusal
     }
 
     pub fn setup(&mut self, keys: &[u32], tick: u32, t3206: u32, t3208: u32) -> u32 {
         let lent = Lent::new(keys, 0xA5A5_A5A5, 0);
-        let refusal = self.call(|state, n| unsafe { archive::asternhaken_setup(state, n, lent.pointer(), keys.len(), tick, t3206, t3208) });
+        let octets: Vec<u8> = keys.iter().flat_map(|key| key.to_le_bytes()).collect();
+        let refusal = self.call(archive::asternhaken_setup as *const (), &[tick, t3206, t3208], &octets, |state, n| unsafe {
+            archive::asternhaken_setup(state, n, lent.pointer(), keys.len(), tick, t3206, t3208)
+        });
         lent.check_all(keys);
         refusal
     }
 
     pub fn nch(&mut self, tick: u32, octets: &[u8]) -> u32 {
         let lent = Lent::new(octets, OCTET_GUARD, tick as usize % 8);
-        let refusal = self.call(|state, n| unsafe { archive::asternhaken_nch(state, n, tick, lent.pointer(), octets.len()) });
+        let refusal = self.call(archive::asternhaken_nch as *const (), &[tick], octets, |state, n| unsafe {
+            archive::asternhaken_nch(state, n, tick, lent.pointer(), octets.len())
+        });
         lent.check_all(octets);
         refusal
     }
 
     pub fn facch(&mut self, tick: u32, octets: &[u8]) -> u32 {
         let lent = Lent::new(octets, OCTET_GUARD, tick as usize % 8);
-        let refusal = self.call(|state, n| unsafe { archive::asternhaken_facch(state, n, tick, lent.pointer(), octets.len()) });
+        let refusal = self.call(archive::asternhaken_facch as *const (), &[tick], octets, |state, n| unsafe {
+            archive::asternhaken_facch(state, n, tick, lent.pointer(), octets.len())
+        });
         lent.check_all(octets);
         refusal
     }
 
     pub fn joined(&mut self, tick: u32, key: u32) -> u32 {
-        self.call(|state, n| unsafe { archive::asternhaken_joined(state, n, tick, key) })
+        self.call(archive::asternhaken_joined as *const (), &[tick, key], &[], |state, n| unsafe {
+            archive::asternhaken_joined(state, n, tick, key)
+        })
     }
 
     pub fn reselected(&mut self, tick: u32) -> u32 {
-        self.call(|state, n| unsafe { archive::asternhaken_reselected(state, n, tick) })
+        self.call(archive::asternhaken_reselected as *const (), &[tick], &[], |state, n| unsafe {
+            archive::asternhaken_reselected(state, n, tick)
+        })
     }
 
     pub fn handed_over(&mut self, tick: u32) -> u32 {
-        self.call(|state, n| unsafe { archive::asternhaken_handed_over(state, n, tick) })
+        self.call(archive::asternhaken_handed_over as *const (), &[tick], &[], |state, n| unsafe {
+            archive::asternhaken_handed_over(state, n, tick)
+        })
     }
 
     pub fn reconfigured(&mut self, tick: u32) -> u32 {
-        self.call(|state, n| unsafe { archive::asternhaken_reconfigured(state, n, tick) })
+        self.call(archive::asternhaken_reconfigured as *const (), &[tick], &[], |state, n| unsafe {
+            archive::asternhaken_reconfigured(state, n, tick)
+        })
     }
 
     pub fn tick(&mut self, tick: u32) -> u32 {
-        self.call(|state, n| unsafe { archive::asternhaken_tick(state, n, tick) })
+        self.call(archive::asternhaken_tick as *const (), &[tick], &[], |state, n| unsafe { archive::asternhaken_tick(state, n, tick) })
     }
 
     /// One number of the answer. The caller sees to it that the state stayed as it was.
@@ -219,6 +283,12 @@ impl State {
         if value[0] != NUMBER_GUARD || value[2] != NUMBER_GUARD {
             note_damage("memory beside a lent number was written");
         }
+        record::with(|record| {
+            record.state(self.which, self.lent.content());
+            record.function(archive::number_of(archive::asternhaken_read as *const ()));
+            record.small(&[entry, part, refusal]);
+            record.large(&[value[1]]);
+        });
         (refusal, value[1])
     }
 

@@ -11,7 +11,8 @@
 //!   one: the receiver of one call on one channel, which knows of nothing else;
 //! - ffi: the archive's functions, with guards around everything that is lent; pair: both sides over one state;
 //! - listed, scenes: the listed inputs, the vector files, and hand-written scenes for each sentence on the store and on what is told;
-//! - draft, messages, elements, steps: messages laid out from the grammar, and random messages, records, elements and event sequences.
+//! - draft, messages, elements, steps: messages laid out from the grammar, and random messages, records, elements and event sequences;
+//!   cover: what these must have met; record: the calls of the archive, written down.
 //!
 //! To run it, with libasternhaken.a in ../target/lib (on a processor other than x86-64 in ../target/native), or where ASTERNHAKEN_LIB says,
 //! and the vectors in ../vectors, or where ASTERNHAKEN_VECTORS says:
@@ -20,18 +21,20 @@
 //!     cargo run --release -- --messages 10000000 --steps 1000000 --seed 7
 //!
 //! `--stop` ends the run at the first difference; `--random` leaves out the listed inputs, the scenes and the vectors. The seed may also
-//! stand in the environment, as SEED. A difference is printed with the seed, the input and both answers.
+//! stand in the environment, as SEED. A difference is printed with the seed, the input and both answers. `--record FILE` writes down what
+//! the archive was asked and what it answered: replay.c asks the same of another build of it, one for another processor too.
 //!
 //! Compared are: refusal, record and bits used of every reading; refusal and all lent octets after every writing; refusal, every number of
 //! the answer (through asternhaken_read, parts and entries beyond the last too) and all 6,984 octets of the state after every setup and
 //! event, also from states that no setup left; that nothing beside lent memory was written; and, from a setup on, what each subscribed call
 //! is told on each channel with what the one-call receiver tells it. The run fails where a refusal or a told number was met fewer than a
-//! hundred times. The last line is `N passed, M failed`.
+//! hundred times, or where the event steps met something too seldom that cover.rs lists. The last line is `N passed, M failed`.
 //!
 //! seeded-errors.sh tries the comparison itself: it puts errors into copies of this program, and each must be found.
 
 mod bits;
 mod call;
+mod cover;
 mod draft;
 mod elements;
 mod facch;
@@ -44,6 +47,7 @@ mod numbers;
 mod one;
 mod pair;
 mod receiver;
+mod record;
 mod rng;
 mod scenes;
 mod state;
@@ -60,11 +64,12 @@ struct Arguments {
     seed: u64,
     stop: bool,
     random: bool,
+    record: Option<String>,
 }
 
 fn arguments() -> Result<Arguments, String> {
     let seed = std::env::var("SEED").ok().and_then(|seed| seed.parse().ok()).unwrap_or(44_018);
-    let mut arguments = Arguments { messages: 1_000_000, steps: 100_000, seed, stop: false, random: false };
+    let mut arguments = Arguments { messages: 1_000_000, steps: 100_000, seed, stop: false, random: false, record: None };
     let mut words = std::env::args().skip(1);
     while let Some(word) = words.next() {
         match &word[..] {
@@ -74,6 +79,10 @@ fn arguments() -> Result<Arguments, String> {
             }
             "--random" => {
                 arguments.random = true;
+                continue;
+            }
+            "--record" => {
+                arguments.record = Some(words.next().ok_or("--record needs a file")?);
                 continue;
             }
             _ => {}
@@ -112,7 +121,7 @@ fn main() {
     let arguments = match arguments() {
         Ok(arguments) => arguments,
         Err(error) => {
-            eprintln!("{error}\nusage: compare [--messages N] [--steps N] [--seed S] [--stop] [--random]");
+            eprintln!("{error}\nusage: compare [--messages N] [--steps N] [--seed S] [--stop] [--random] [--record FILE]");
             std::process::exit(2);
         }
     };
@@ -120,6 +129,9 @@ fn main() {
     let mut tally = Tally::new(arguments.seed, arguments.stop);
     let start = Instant::now();
     let mut parts = Parts::default();
+    if let Some(file) = &arguments.record {
+        record::begin(file).expect("the record");
+    }
     if !arguments.random {
         parts.run(&mut tally, "listed inputs", listed::listed);
         parts.run(&mut tally, "scenes", scenes::run);
@@ -139,6 +151,7 @@ fn main() {
     }
     parts.run(&mut tally, "elements, gone through", elements::fixed);
     parts.run(&mut tally, "fields of records", messages::fields);
+    record::end();
     for (name, comparisons, seconds) in &parts.0 {
         println!("{name:24} {comparisons:>9} comparisons {seconds:6.1} s");
     }

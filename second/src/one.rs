@@ -32,6 +32,8 @@ pub struct One {
     timer: u64,
     nln: Option<u64>,
     held: Option<Held>,
+    second_first: u64,
+    disagreed: u64,
 }
 
 /// What happened to this call at one event.
@@ -40,11 +42,14 @@ pub struct Outcome {
     pub expired: u64,
     pub dropped: u64,
     pub told: Vec<(u64, Option<Record>)>,
+    /// Joins with a second half that came first, and entries told 7 because references differ.
+    pub second_first: u64,
+    pub disagreed: u64,
 }
 
 impl One {
     pub fn new(key: u32, channel: Channel, timer: u32) -> One {
-        One { key, channel, timer: u64::from(timer), nln: None, held: None }
+        One { key, channel, timer: u64::from(timer), nln: None, held: None, second_first: 0, disagreed: 0 }
     }
 
     pub fn see(&mut self, step: u32, seen: &Seen) -> Outcome {
@@ -76,6 +81,8 @@ impl One {
             }
             _ => {}
         }
+        outcome.second_first = std::mem::take(&mut self.second_first);
+        outcome.disagreed = std::mem::take(&mut self.disagreed);
         outcome
     }
 
@@ -135,6 +142,8 @@ impl One {
         } else {
             3
         };
+        self.second_first += u64::from(number == 3 && held.second);
+        self.disagreed += u64::from(number == 7);
         if number != 3 {
             self.held = Some(held);
             return (number, None);

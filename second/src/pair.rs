@@ -1,6 +1,7 @@
 //! The archive and the second program side by side over one lent state.
 
 use crate::bits::Refusal;
+use crate::cover::{Cause, Met};
 use crate::ffi;
 use crate::one::{One, Outcome, Seen};
 use crate::receiver::*;
@@ -206,17 +207,30 @@ impl Pair {
             Event::Reconfigured => Seen::Reconfigured,
             Event::Tick => Seen::Nothing,
         };
+        // A tick and a FACCH message drop nothing, which the counts below show.
+        let (channel, cause) = match event {
+            Event::Nch(_) => (Some(Channel::Nch), Cause::OtherNln),
+            Event::Facch(_) => (Some(Channel::Facch), Cause::RanOut),
+            Event::Joined(_) => (None, Cause::Joined),
+            Event::Reselected => (None, Cause::Reselected),
+            Event::HandedOver => (None, Cause::HandedOver),
+            Event::Reconfigured => (None, Cause::Reconfigured),
+            Event::Tick => (None, Cause::RanOut),
+        };
+        if let Some(channel) = channel {
+            told.entries.iter().for_each(|entry| tally.cover.count(Met::Told(channel, entry.1), 1));
+        }
         let (mut expired, mut dropped) = (0, 0);
         let mut strays = Vec::new();
         for one in &mut self.ones {
-            let Outcome { expired: ran_out, dropped: left, told: own } = one.see(step, &seen);
+            let Outcome { expired: ran_out, dropped: left, told: own, second_first, disagreed } = one.see(step, &seen);
             expired += ran_out;
             dropped += left;
-            let here = match event {
-                Event::Nch(_) => one.channel == Channel::Nch,
-                Event::Facch(_) => one.channel == Channel::Facch,
-                _ => false,
-            };
+            tally.cover.count(Met::Lost(Cause::RanOut, one.channel), ran_out);
+            tally.cover.count(Met::Lost(cause, one.channel), left);
+            tally.cover.count(Met::SecondFirst, second_first);
+            tally.cover.count(Met::Disagreed(one.channel), disagreed);
+            let here = channel == Some(one.channel);
             let own: Vec<_> = own.into_iter().map(|(number, record)| (number, record.as_ref().map(numbers_of))).collect();
             let archive: Vec<_> =
                 told.entries.iter().filter(|entry| here && entry.0 == u64::from(one.key)).map(|entry| (entry.1, entry.2)).collect();

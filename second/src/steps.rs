@@ -13,6 +13,7 @@ const STEPS_OF_A_SEQUENCE: u64 = 40;
 /// About `count` event steps.
 pub fn run(tally: &mut Tally, rng: &mut Rng, count: u64) {
     let mut done = 0;
+    tally.cover.on = true;
     while done < count {
         done += match rng.below(10) {
             0..=6 => from_setup(tally, rng),
@@ -20,6 +21,8 @@ pub fn run(tally: &mut Tally, rng: &mut Rng, count: u64) {
             _ => wrong_lengths(tally, rng),
         };
     }
+    tally.cover.on = false;
+    tally.cover.steps += done;
 }
 
 /// A few references of which both services turn up; one at the upper end, where the key is the last.
@@ -149,11 +152,14 @@ fn event(rng: &mut Rng, pair: &Pair, pool: &Pool) -> Event {
     if !receiver.halves.is_empty() && rng.one_in(4) {
         return meeting(rng, receiver);
     }
+    if !receiver.halves.is_empty() && rng.one_in(12) {
+        return losing(rng, receiver);
+    }
     match rng.below(40) {
         0..=17 => {
             let mut draft = pool.nch(rng);
-            // Most messages repeat the last NLN or have none, or no NCH half would live long.
-            if !rng.one_in(12) {
+            // Once there was an NLN, most messages repeat it or have none, or no NCH half would live long.
+            if receiver.nln.is_some() && !rng.one_in(12) {
                 draft.nln = rng.one_in(2).then_some(receiver.nln.map(u64::from).filter(|&nln| nln < 4)).flatten();
             }
             let mut octets = draft.octets();
@@ -237,6 +243,23 @@ fn meeting(rng: &mut Rng, receiver: &Receiver) -> Event {
             draft.seven = rng.one_in(2).then(|| (rng.below(2), rng.below(2), None));
             Event::Facch(draft.octets())
         }
+    }
+}
+
+/// An event that takes a half away which is held, each cause as often as another.
+fn losing(rng: &mut Rng, receiver: &Receiver) -> Event {
+    let which = rng.below(receiver.halves.len() as u64) as usize;
+    let (subscription, channel) = receiver.halves.keys().nth(which).unwrap();
+    match (channel, rng.below(3)) {
+        (_, 0) => Event::Joined(receiver.keys[*subscription] ^ 1),
+        (Channel::Nch, 1) => Event::Reselected,
+        (Channel::Nch, _) => {
+            // Where none was seen yet, it is the first.
+            let last = receiver.nln.map_or(0, u64::from);
+            Event::Nch(NchDraft { nln: Some((last + 1 + rng.below(3)) % 4), ..NchDraft::default() }.octets())
+        }
+        (Channel::Facch, 1) => Event::HandedOver,
+        (Channel::Facch, _) => Event::Reconfigured,
     }
 }
 

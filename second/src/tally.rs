@@ -1,5 +1,6 @@
 //! Counting what was compared, and telling differences.
 
+use crate::cover::Cover;
 use crate::ffi;
 
 /// Every refusal and every told number must be met at least this often, or the run proves too little.
@@ -14,6 +15,7 @@ pub struct Tally {
     pub failed: u64,
     pub refusals: [u64; 14],
     pub told: [u64; 9],
+    pub cover: Cover,
 }
 
 pub fn hex(octets: &[u8]) -> String {
@@ -29,7 +31,7 @@ pub fn sparse(numbers: &[u64]) -> String {
 
 impl Tally {
     pub fn new(seed: u64, stop: bool) -> Tally {
-        Tally { seed, stop, passed: 0, failed: 0, refusals: [0; 14], told: [0; 9] }
+        Tally { seed, stop, passed: 0, failed: 0, refusals: [0; 14], told: [0; 9], cover: Cover::default() }
     }
 
     /// What the archive answered. An unheard-of number differs from the second program's and is told there.
@@ -112,6 +114,7 @@ impl Tally {
                 }
             }
         }
+        self.failed += self.cover.finish();
         println!("{} passed, {} failed", self.passed, self.failed);
         self.failed == 0
     }

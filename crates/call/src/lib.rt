@@ -1,8 +1,8 @@
 // Group Call information (44.018, 9.1.21a): one notified call, as both channels carry it.
 ghost use mathlib.Core.Path.{_≡_};
-ghost use Prim.Native.Nat.{_+_, _*_, _≤_, _<_};
+ghost use Prim.Native.Nat.{_≤_, _<_};
 ghost use lib.ListN.{length};
-ghost use Rattle.csn1.specs.Format.{bad, opt};
+ghost use Rattle.csn1.specs.Format.{bad};
 ghost use Rattle.csn1.specs.Grammar.{format};
 ghost use Rattle.csn1.specs.Told.{readAt};
 ghost use Rattle.call.specs.Call.{groupCall, description, frequencies, noDescription, noCall};

@@ -10,7 +10,7 @@ use lib.Arith.{digits-lt}
 use lib.Pow.{pow-add}
 use borrow.Author.Tests.{le-leb, lt-ltb}
 use mir.Val.{boolByte}
-use Rattle.bits.specs.Field.{both, setField, canPut, afterPut}
+use Rattle.bits.specs.Field.{setField, canPut, afterPut}
 use Rattle.bits.proofs.Laws.{length-setField}
 use Rattle.csn1.specs.Format.{numBits, total, rowBits, rowFits, putBits}
 use Rattle.csn1.specs.Told.{isThere, there, isOne, asBit}

@@ -1,6 +1,6 @@
 -- A grammar of bits as one term, indexed by the type of what it says, and the format that it means. Assumes nothing.
-use mathlib.Core.List.{List, [], _∷_}
-use mathlib.Core.Bool.{Bool, true, false}
+use mathlib.Core.List.{List}
+use mathlib.Core.Bool.{Bool}
 use mathlib.Core.Option.{Option}
 use mathlib.Core.Logic.{_⊎_}
 use Prim.Native.Nat.{ℕ, _<_}

@@ -5,7 +5,7 @@ use mathlib.Core.Option.{Option, none, some}
 use Prim.Native.Nat.{ℕ, zero, suc, _*_}
 use lib.ListN.{length}
 use lib.Dec.{leb, eqb}
-use Rattle.bits.specs.Field.{both, pick}
+use Rattle.bits.specs.Field.{pick}
 use Rattle.csn1.specs.Format.{Res, ok, bad, _then_, ranOut, noRefusal, Format, num, opt, padBit}
 use Rattle.csn1.specs.declared.Flagged.{Flagged}
 use Rattle.csn1.specs.declared.Lead.{Lead}

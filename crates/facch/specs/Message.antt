@@ -1,6 +1,6 @@
 -- NOTIFICATION/FACCH (44.018, 9.1.21a) as one grammar term. Assumes nothing.
-use mathlib.Core.List.{List, [], _∷_}
-use mathlib.Core.Bool.{Bool, false}
+use mathlib.Core.List.{List, []}
+use mathlib.Core.Bool.{false}
 use mathlib.Core.Option.{Option}
 use mathlib.Core.Logic.{_⊎_}
 use Prim.Native.Nat.{ℕ}

@@ -5,6 +5,5 @@ pub mod Causes
 pub mod Lists
 pub mod Numerals
 pub mod Otdi
-pub mod Promises
 pub mod Tables
 pub mod Tests

@@ -9,3 +9,4 @@ pub mod NoneOut
 pub mod Fresh
 pub mod Reading
 pub mod Setting
+pub mod Promises

@@ -2,7 +2,7 @@
 use mathlib.Core.List.{List, [], _∷_, _++_}
 use mathlib.Core.Bool.{Bool}
 use Prim.Native.Nat.{ℕ, _+_, _*_, _/_}
-use lib.ListN.{length, getD, set, replicate}
+use lib.ListN.{length, set, replicate}
 use lib.Dec.{leb, ltb, eqb}
 use Rattle.bits.specs.Field.{both, pick}
 use Rattle.csn1.specs.Told.{asBit}

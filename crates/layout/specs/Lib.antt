@@ -3,3 +3,4 @@ pub mod Layout
 pub mod Sweep
 pub mod Setup
 pub mod Parts
+pub mod Promises

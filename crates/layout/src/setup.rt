@@ -1,6 +1,5 @@
 // Setting up: the lent octets become a receiver that holds nothing, whatever they held.
 ghost use mathlib.Core.Path.{_≡_};
-ghost use Prim.Native.Nat.{_≤_};
 ghost use lib.ListN.{length, replicate};
 ghost use Rattle.receiver.specs.Channels.{keyCount};
 ghost use Rattle.receiver.specs.Model.{keyPlaces};

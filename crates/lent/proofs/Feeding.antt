@@ -6,7 +6,7 @@ use Prim.Native.Nat.{ℕ, zero, suc, _+_, _≤_, _<_}
 use lib.ListN.{length, getD}
 use lib.Dec.{ltb, eqb}
 use native.Mathlib.Omega.{arith}
-use borrow.Author.Tests.{eqb-true, eqb-false, eq-eqb, ne-eqb, lt-ltb, le-ltb, lt-leb, le-leb}
+use borrow.Author.Tests.{eqb-true, eq-eqb, ne-eqb, lt-ltb, le-ltb, lt-leb, le-leb}
 use Rattle.bits.specs.Field.{both, pick}
 use Rattle.csn1.specs.declared.Refusal.{Refusal}
 use Rattle.csn1.specs.Format.{ground}
@@ -20,7 +20,7 @@ use Rattle.receiver.specs.Channels.{keyCount, places, Channel, numberOf, hasNln
 use Rattle.receiver.specs.Model.{noCell, late, ruleFor, expiredOf, droppedOf, sweptSlots, remade}
 use Rattle.receiver.specs.Store.{withSlots}
 use Rattle.receiver.specs.Step.{noTold, mostEntries, allAfter, allTold, Event, joins, groundsOf, refusalOf, refusedWith, acceptedAs, stepOf}
-use Rattle.receiver.specs.Step.{Cause, Content, contentOf, plainly, numbering, changes, cellAfter, ruleBy}
+use Rattle.receiver.specs.Step.{Content, contentOf, numbering, changes, cellAfter, ruleBy}
 use Rattle.receiver.proofs.Dropping.{by-test}
 use Rattle.layout.specs.Octets.{leAt, table}
 use Rattle.layout.specs.Layout.{stateLength, tickFrom, isState, cellAt, decodeOf, toldNo, putHead, keysIn}

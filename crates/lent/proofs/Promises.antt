@@ -18,8 +18,8 @@ use Rattle.receiver.specs.Promises.{under, answersOn, answers}
 use Rattle.receiver.proofs.Dropping.{by-test}
 use Rattle.receiver.proofs.Promises.{no-call-disturbs-another}
 use Rattle.layout.specs.Layout.{stateLength, decodeOf, lastOf}
-use Rattle.lent.specs.Events.{Fed, codeOf, answered}
-use Rattle.lent.specs.Promises.{Left, Run, heard, readUnder, No-call-disturbs-another-in-octets, A-refused-event-leaves-the-octets, The-length-stays}
+use Rattle.lent.specs.Events.{Fed, Left, codeOf, answered}
+use Rattle.lent.specs.Promises.{Run, heard, readUnder, No-call-disturbs-another-in-octets, A-refused-event-leaves-the-octets, The-length-stays, Fed-determines}
 use Rattle.layout.proofs.Setting.{set-started, set-length}
 use Rattle.lent.proofs.Feeding.{refused-step, length-after, refused-stays}
 
@@ -78,3 +78,6 @@ a-refused-event-leaves-the-octets = refused-stays
 
 pub the-length-stays : The-length-stays
 the-length-stays = length-after
+
+pub fed-determines : Fed-determines
+fed-determines l e a b m n f g = (f .octets ∙ sym (g .octets), f .number ∙ sym (g .number))

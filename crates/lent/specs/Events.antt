@@ -101,3 +101,8 @@ pub record Fed (l : List ℕ) (e : Event) (left : List ℕ) (code : ℕ) : Type 
   pub octets : left ≡ octetsAfter l e
   pub receiver : decodeOf left ≡ receiverAfter l e
   pub answer : lastOf left ≡ answerAfter l e
+
+-- the octets and the number that a call of an exported event left
+pub record Left : Type 0 where
+  pub octets : List ℕ
+  pub code : ℕ

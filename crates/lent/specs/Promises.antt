@@ -13,14 +13,9 @@ use Rattle.receiver.specs.One.{Said, runOne, seen, fresh}
 use Rattle.receiver.specs.Promises.{under, timerOf, Ticks}
 use Rattle.layout.specs.Layout.{Last, lastOf}
 use Rattle.layout.specs.Setup.{SetUp}
-use Rattle.lent.specs.Events.{Fed, octetsAfter, codeOf}
+use Rattle.lent.specs.Events.{Fed, Left, octetsAfter, codeOf}
 
 -- ## Events in a row
-
--- the octets and the number that a call of an exported event left
-pub record Left : Type 0 where
-  pub octets : List ℕ
-  pub code : ℕ
 
 -- each call was made on the octets that the one before it left, and met its statement
 abbrev pub Run : List ℕ → List Event → List Left → Type 0
@@ -66,3 +61,9 @@ A-refused-event-leaves-the-octets = (l : List ℕ) (e : Event) → (codeOf l e �
 -- no event changes it, so a state stays a state
 abbrev pub The-length-stays : Type 0
 The-length-stays = (l : List ℕ) (e : Event) → length (octetsAfter l e) ≡ length l
+
+-- ## 4. What a statement determines
+
+-- two calls of one event on the same octets leave the same, and answer the same number
+abbrev pub Fed-determines : Type 0
+Fed-determines = (l : List ℕ) (e : Event) (a b : List ℕ) (m n : ℕ) → Fed l e a m → Fed l e b n → (a ≡ b) × (m ≡ n)

@@ -2,7 +2,7 @@
 ghost use mathlib.Core.Path.{_≡_};
 ghost use mathlib.Core.Bool.{false};
 ghost use mathlib.Core.Option.{none};
-ghost use Prim.Native.Nat.{_+_, _<_, _≤_};
+ghost use Prim.Native.Nat.{_<_, _≤_};
 ghost use Rattle.bits.specs.Field.{pick};
 ghost use Rattle.call.specs.Call.{ciphered};
 ghost use Rattle.nch.specs.Write.{isDescribed};

@@ -1,6 +1,6 @@
 // The entries of a message: each meets its place, and its answer is written.
 ghost use mathlib.Core.Path.{_≡_};
-ghost use Prim.Native.Nat.{_+_, _*_, _<_, _≤_};
+ghost use Prim.Native.Nat.{_<_, _≤_};
 ghost use lib.ListN.{length};
 ghost use Rattle.nch.specs.NotificationNumbers.{recordFrom, Fits};
 ghost use Rattle.receiver.specs.Channels.{channels, keyCount, places, placeOn};

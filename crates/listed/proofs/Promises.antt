@@ -1,5 +1,5 @@
 -- The promises of specs/Promises: the table is computed, and what passes is equal. Assumes nothing.
-use mathlib.Core.Path.{refl, sym, _∙_}
+use mathlib.Core.Path.{refl}
 use lib.Dec.{eqb}
 use lib.Text.{eqt→eq}
 use borrow.Author.Tests.{eqb-true}
@@ -15,7 +15,7 @@ use Rattle.gcc.specs.Numeral.{spell, worth}
 use Rattle.gcc.specs.Cause as cause
 use Rattle.gcc.specs.Digits as digits
 use Rattle.listed.specs.Listed.{nch-octets, ticks, step, halves, cause-octets, digit-octets}
-use Rattle.listed.specs.Promises.{Every-listed-row-passes, A-row-that-passes-holds, Two-results-are-equal}
+use Rattle.listed.specs.Promises.{Every-listed-row-passes, A-row-that-passes-holds}
 use Rattle.listed.proofs.Whole.{each-sound, reading-equal, answer-equal, cause-equal, digits-equal}
 
 pub every-listed-row-passes : Every-listed-row-passes
@@ -32,6 +32,3 @@ a-row-that-passes-holds (step d n) e = let p = both-true _ _ e in (eqb-true _ _ 
 a-row-that-passes-holds (halves t3206 a b x n) e = let p = both-true _ _ e in (eqb-true _ _ (p .0), each-sound eqb eqb-true _ _ (p .1))
 a-row-that-passes-holds (cause-octets s r w) e = let p = both-true _ _ e in (cause-equal _ _ (p .0), eqt→eq _ _ (rw (p .1) tt))
 a-row-that-passes-holds (digit-octets s r) e = digits-equal _ r e
-
-pub two-results-are-equal : Two-results-are-equal
-two-results-are-equal A a b said p q = p ∙ sym q

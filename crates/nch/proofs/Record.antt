@@ -18,7 +18,7 @@ use Rattle.call.specs.Call.{CallValue, groupCall, callOf, callValue, descriptio
 use Rattle.call.specs.Write.{callInRange, callIsZero, callIsLow, callLengthRight, callHopsRight}
 use Rattle.call.proofs.Record.{call-fits, call-back, value-back, value-in-range, value-low, value-length, value-hops, zero-is, no-call-zero}
 use Rattle.nch.specs.declared.Notification.{Notification}
-use Rattle.nch.specs.Octets.{Value, reduced, release6, release7, notification, count, cipheredValue, describedValue, reducedsOf, randomsOf, marksOf}
+use Rattle.nch.specs.Octets.{Value, release6, release7, notification, count, cipheredValue, describedValue, reducedsOf, randomsOf, marksOf}
 use Rattle.nch.specs.Told.{recordOf, reducedValue, randomValue, release6Value, release7Value, valueOf, Shaped}
 use Rattle.nch.specs.Write.{placesRight, all, flaggedRight, release6InRange, inRange, callsOf, reducedIsLow, referencesLow, lengthsRight, hopsRight, randomsOwned, isDescribed, marksOwned, callRight, recordRefusal}
 use Rattle.nch.proofs.InPlaces.{places-back, places-good, all-both, items-fit, told-all, told-places, told-back, take-told, count-map, count-le}

@@ -167,7 +167,8 @@ module _ (s : List ℕ) (t : length s ≡ 20) (n : Flagged) (en : n ≡ flaggedO
               pub six-due : c .ciphered + a .reduced < a .randoms → readOctets s ≡ bad (ground 6)
               six-due h =
                   tested false (marksFit said)
-                  (lt-leb (length (randomsOf (sixth .value))) (count cipheredValue (called .value) + length (reducedsOf (sixth .value))) (omega (arith, ciphered-count, reduced-count, random-count))) refl
+                  (lt-leb (length (randomsOf (sixth .value))) (count cipheredValue (called .value) + length (reducedsOf (sixth .value)))
+                  (omega (arith, ciphered-count, reduced-count, random-count))) refl
 
               module _ (h : a .randoms ≤ c .ciphered + a .reduced) where
                 fit : randomsFit said ≡ true

@@ -5,6 +5,7 @@ use mathlib.Core.Bool.{Bool, true, false}
 use Prim.Native.Nat.{ℕ, suc, _+_, _-_, _≤_, _<_}
 use native.Mathlib.Numerals.{add-one}
 use native.Mathlib.Omega.{arith}
+use mir.Val.{boolByte}
 use lib.ListN.{length, getD, take, drop, drop-of-length-le}
 use lib.Seq.{drop-cons, take-nil}
 use Rattle.bits.specs.Field.{pick}
@@ -37,11 +38,9 @@ module _ {A : Type 0} (t : A → Bool) (n : ℕ) (l : List A) where
         c .rest ∙ ap₂ (λ (m : ℕ) (y : List A). found + count t (take m y)) a (drop-cons l i z h)
         ∙ ap (λ (j : ℕ). found + count t (getD l i z ∷ take (n - (i + 1)) (drop j l))) (sym (add-one i))
 
-    pub counted-found : (z : A) → i < length l → i < n → t (getD l i z) ≡ true → Counted t n l (found + 1) (i + 1)
-    counted-found z h k e = record { few = omega (arith, c .few); rest = (rw e at (next z h k)) ∙ omega arith }
-
-    pub counted-other : (z : A) → i < length l → i < n → t (getD l i z) ≡ false → Counted t n l found (i + 1)
-    counted-other z h k e = record { few = omega (arith, c .few); rest = rw e at (next z h k) }
+    pub counted-next : (z : A) → i < length l → i < n → (b : Bool) → b ≡ t (getD l i z) → Counted t n l (found + boolByte b) (i + 1)
+    counted-next z h k true e = record { few = omega (arith, c .few); rest = (rw (← e) at (next z h k)) ∙ omega arith }
+    counted-next z h k false e = record { few = omega (arith, c .few); rest = (rw (← e) at (next z h k)) ∙ omega arith }
 
     -- the list is at its end
     pub counted-end : length l ≤ i → found ≡ count t (take n l)

@@ -7,38 +7,28 @@ ghost use Rattle.nch.specs.Write.{isDescribed};
 use call::Call;
 use nch::places;
 
-// How many of the first n calls are ciphered.
-pub(crate) fn count_ciphered(calls: [Call; places::MOST_CALLS], n: usize) -> usize
-    ensures { λ r. ⌜ r ≡ count ciphered (take n calls) ⌝ }
-{
-    let mut found: usize = 0;
-    let mut i: usize = 0;
-    while i < places::MOST_CALLS {
-        let c = calls[i];
-        if i < n {
-            if 1 <= c.cipher {
-                found += 1;
-            }
-        }
-        i += 1;
-    }
-    found
+pub struct Counts {
+    pub ciphered: usize,
+    pub described: usize,
 }
 
-// How many of the first n calls have a description.
-pub(crate) fn count_described(calls: [Call; places::MOST_CALLS], n: usize) -> usize
-    ensures { λ r. ⌜ r ≡ count isDescribed (take n calls) ⌝ }
+// How many of the first n calls are ciphered, and how many have a description.
+pub(crate) fn counted(calls: [Call; places::MOST_CALLS], n: usize) -> Counts
+    ensures { λ r. ⌜ (r .ciphered ≡ count ciphered (take n calls)) × (r .described ≡ count isDescribed (take n calls)) ⌝ }
 {
-    let mut found: usize = 0;
+    let mut coded: usize = 0;
+    let mut described: usize = 0;
     let mut i: usize = 0;
     while i < places::MOST_CALLS {
         let c = calls[i];
         if i < n {
-            if c.described {
-                found += 1;
-            }
+            coded += (1 <= c.cipher) as usize;
+            described += c.described as usize;
         }
         i += 1;
     }
-    found
+    Counts {
+        ciphered: coded,
+        described,
+    }
 }

@@ -310,10 +310,11 @@ pub fn refusal(m: Notification) -> u8
     if !t.hops {
         return 5;
     }
-    if calls::count_ciphered(cs, m.callcount) + six.reducedcount < six.randomcount {
+    let k = calls::counted(cs, m.callcount);
+    if k.ciphered + six.reducedcount < six.randomcount {
         return 6;
     }
-    if calls::count_described(cs, m.callcount) < m.release7.markcount {
+    if k.described < m.release7.markcount {
         return 7;
     }
     0

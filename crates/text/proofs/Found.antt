@@ -31,9 +31,9 @@ module _ (b : ℕ) (base : 1 < b) where
     taken = λ l s. le-div-iff-mul-le {k = b} {x = b ^ r} {y = n} (omega arith) .1 (rw pow-suc at (h .taken (omega arith) (omega arith)));
   }
 
-  some : (k least n r : ℕ) (t : Bool) → ltb 1 least ≡ t → Right b k least n (suc r) → cond t true (leb b n) ≡ true
-  some k least n r true e h = refl
-  some k least n r false e h =
+  shown : (k least n r : ℕ) (t : Bool) → ltb 1 least ≡ t → Right b k least n (suc r) → cond t true (leb b n) ≡ true
+  shown k least n r true e h = refl
+  shown k least n r false e h =
       let l = ltb-false 1 least e in
       let p : b ^ suc r ≤ n = h .taken (omega arith) (omega arith) in
       let q : b * 1 ≤ b ^ suc r = rw pow-succ' (mul-le-mul-left b (one-le-pow r b (omega arith))) in
@@ -48,7 +48,7 @@ module _ (b : ℕ) (base : 1 < b) where
       let s : n < 1 * b = rw (pow-suc, pow-zero) at (h .holds) in
       rw (le-ltb 1 least (omega (arith, h .asked)), lt-leb b n (omega arith))
   right-digits (suc (suc k)) least n (suc r) h =
-      rw (some (suc (suc k)) least n r (ltb 1 least) refl h, right-digits (suc k) (least - 1) (n / b) r (front (suc k) least n r h))
+      rw (shown (suc (suc k)) least n r (ltb 1 least) refl h, right-digits (suc k) (least - 1) (n / b) r (front (suc k) least n r h))
 
   -- no more digits than the room has where the number fits it
   within-room : (k m n r : ℕ) → m ≤ k → n < b ^ k → Fewest b m n r → r ≤ k

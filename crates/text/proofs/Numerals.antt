@@ -23,16 +23,16 @@ unfolding worth
 worth-last b a [] c = refl
 worth-last b a (d ∷ s) c = worth-last b (a * b + value d) s c
 
-none : (t u : Bool) → cond t true u ≡ false → u ≡ false
-none true u e = cc
-none false u e = e
+neither : (t u : Bool) → cond t true u ≡ false → u ≡ false
+neither true u e = cc
+neither false u e = e
 
 module _ (b : ℕ) (lo : 1 < b) (hi : b ≤ 16) where
   -- the digits before the last are worth n / b, where there are none too
   worth-front : (n : ℕ) (s : List ℕ) (m t : Bool) → cond m true (leb b n) ≡ t → worth b 0 s ≡ n / b → worth b 0 (cond t s []) ≡ n / b
   unfolding worth
   worth-front n s m true e h = h
-  worth-front n s m false e h = sym (div-eq-of-lt (leb-false b n (none m (leb b n) e)))
+  worth-front n s m false e h = sym (div-eq-of-lt (leb-false b n (neither m (leb b n) e)))
 
   pub worth-numeral : (k least n : ℕ) → n < b ^ k → worth b 0 (numeral b k least n) ≡ n
   unfolding numeral worth

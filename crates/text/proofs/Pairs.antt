@@ -3,13 +3,10 @@ use mathlib.Core.Path.{_≡_, refl, sym, ap, _∙_}
 use mathlib.Core.List.{List, [], _∷_}
 use native.Mathlib.Omega.{arith}
 use native.Mathlib.Numerals.{add-one}
-use Prim.Native.Nat.{ℕ, zero, suc, _+_, _*_, _/_, _<_, min}
-use lib.ListN.{length, getD, set, take, length-take}
-use lib.Seq.{paste, paste-suc, take-take}
-use Rattle.io.specs.Counts.{Counts}
-use Rattle.text.specs.Lines.{added}
-use Rattle.text.specs.Digits.{octet, octetsOf}
-use Rattle.text.proofs.Lines.{line, added-all}
+use Prim.Native.Nat.{ℕ, zero, suc, _+_, _*_, _/_, _<_}
+use lib.ListN.{length, getD, set}
+use lib.Seq.{paste, paste-suc}
+use Rattle.text.specs.Digits.{octet, octetsOf, pairs}
 
 length-octets : (s : List ℕ) → length (octetsOf s) ≡ length s / 2
 unfolding octetsOf
@@ -36,15 +33,6 @@ read-next l s n v h k e =
     let g : v ≡ getD (octetsOf s) n 0 = rw (add-one (2 * n)) at e ∙ sym (octet-at s n (2 * n) refl (omega arith)) in
     ap (λ i. set p i v) z ∙ ap (set p (0 + n)) g ∙ rw (add-one n) (paste-suc l 0 (octetsOf s) n 0 (omega arith) (omega (arith, length-octets s)))
 
--- k octets at the start of a line, which are all that there is room for
-kept : (l s : List ℕ) (k : ℕ) → k ≡ min (length l) (length s) → line (paste l 0 s k) k ≡ added (take (length l) s) (line l 0)
-kept l s k e =
-    let m : k ≡ length (take (length l) s) = e ∙ sym (length-take (length l) s) in
-    let z : k ≡ 0 + k = omega arith in
-    let a = added-all l (take (length l) s) 0 k (omega arith) m in
-    ap (line (paste l 0 s k)) z ∙ rw (take-take k (length l) s (omega arith)) at a
-
 -- as many are read as there is room for
-pub read-all : (l s o : List ℕ) (n : ℕ) → n ≡ min (length l) (length s / 2) → length o ≡ length l → o ≡ paste l 0 (octetsOf s) n
-    → Counts n o × (line o n ≡ added (take (length l) (octetsOf s)) (line l 0))
-read-all l s o n e k r = ((omega arith, simp length-take (omega arith)), ap (λ x. line x n) r ∙ kept l (octetsOf s) n (omega (arith, length-octets s)))
+pub read-all : (l s o : List ℕ) (n : ℕ) → n ≡ pairs s l → o ≡ paste l 0 (octetsOf s) n → (n ≡ pairs s l) × (o ≡ paste l 0 (octetsOf s) (pairs s l))
+read-all l s o n e r = (e, rw e at r)

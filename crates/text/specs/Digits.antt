@@ -1,7 +1,8 @@
 -- Numbers as digits, the most significant first, and what digits are worth. Assumes nothing.
 use mathlib.Core.Bool.{Bool, true, cond}
 use mathlib.Core.List.{List, [], _∷_, _++_}
-use Prim.Native.Nat.{ℕ, zero, suc, _+_, _-_, _*_, _/_, _%_}
+use Prim.Native.Nat.{ℕ, zero, suc, _+_, _-_, _*_, _/_, _%_, min}
+use lib.ListN.{length}
 use lib.Dec.{ltb, leb}
 use Rattle.io.specs.Digits.{glyph}
 
@@ -39,3 +40,7 @@ unfoldable pub octetsOf : List ℕ → List ℕ
 octetsOf [] = []
 octetsOf (c ∷ []) = []
 octetsOf (c ∷ d ∷ s) = octet c d ∷ octetsOf s
+
+-- how many of them there is room for
+abbrev pub pairs : List ℕ → List ℕ → ℕ
+pairs digits octets = min (length octets) (length digits / 2)

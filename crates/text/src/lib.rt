@@ -3,10 +3,9 @@
 // A line is passed by value, and what puts something behind it answers the longer line.
 ghost use mathlib.Core.Path.{_≡_};
 ghost use mathlib.Core.List.{[], _∷_};
-ghost use lib.ListN.{length, take};
-ghost use Rattle.io.specs.Counts.{Counts};
+ghost use lib.Seq.{paste};
 ghost use Rattle.text.specs.Lines.{empty, added};
-ghost use Rattle.text.specs.Digits.{decimal, hexadecimal, value, octetsOf};
+ghost use Rattle.text.specs.Digits.{decimal, hexadecimal, value, octetsOf, pairs};
 
 // How many octets have room in a line.
 pub const ROOM: usize = 512;
@@ -117,9 +116,8 @@ pub fn digit(c: u8) -> u8
 
 // Reads octets, two digits to each and as many as there is room for, and answers how many there are. A character that is no digit counts as 0.
 pub fn read_hex(digits: &[u8], octets: &mut [u8]) -> usize
-    ensures { λ r. ⌜ Counts r (now (octets .exit)) ⌝ }
-    ensures { λ r. ⌜ record { octets = now (octets .exit); at = r }
-        ≡ added (take (length (now (octets .entry))) (octetsOf (now (digits .entry)))) (record { octets = now (octets .entry); at = 0 }) ⌝ }
+    ensures { λ r. ⌜ (r ≡ pairs (now (digits .entry)) (now (octets .entry)))
+        × (now (octets .exit) ≡ paste (now (octets .entry)) 0 (octetsOf (now (digits .entry))) (pairs (now (digits .entry)) (now (octets .entry)))) ⌝ }
 {
     let mut n: usize = 0;
     while n < octets.len() {

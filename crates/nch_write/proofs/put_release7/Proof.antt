@@ -4,7 +4,6 @@ use mathlib.Core.Path.{_∙_}
 use borrow.Author.Tests.{not-true, not-false}
 use Rattle.csn1.specs.Format.{num, opt, _⨟_, list}
 use Rattle.csn1.specs.Grammar.{format}
-use Rattle.csn1.specs.Told.{there}
 use Rattle.csn1.proofs.Writing.{flag-lt}
 use Rattle.csn1.proofs.Putting.{put-low, put-high, put-both}
 use Rattle.nch.specs.Octets.{amr, release7}

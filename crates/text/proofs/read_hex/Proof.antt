@@ -74,7 +74,7 @@ same-length c = search needs
 returns : tie.Need-returns Inv-loop μ-loop
 returns c =
     let l = c .before .loop in
-    read-all (c .before .before .before .before .args .octets .now) (c .before .before .before .before .args .digits .now) (l .octets) (l .n) (omega arith) (l .inv .2) (l .inv .3)
+    read-all (c .before .before .before .before .args .octets .now) (c .before .before .before .before .args .digits .now) (l .octets) (l .n) (omega arith) (l .inv .3)
 
 same-length-2 : tie.Need-same-length-2 Inv-loop μ-loop
 same-length-2 c = search needs
@@ -82,7 +82,7 @@ same-length-2 c = search needs
 returns-2 : tie.Need-returns-2 Inv-loop μ-loop
 returns-2 c =
     let l = c .before .before .loop in
-    read-all (c .before .before .before .before .before .args .octets .now) (c .before .before .before .before .before .args .digits .now) (l .octets) (l .n) (omega arith) (l .inv .2) (l .inv .3)
+    read-all (c .before .before .before .before .before .args .octets .now) (c .before .before .before .before .before .args .digits .now) (l .octets) (l .n) (omega arith) (l .inv .3)
 
 pub read-hex-spec : {M : Type 1} → statement M
 read-hex-spec =

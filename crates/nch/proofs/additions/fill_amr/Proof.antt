@@ -21,33 +21,32 @@ use Rattle.nch.proofs.additions.fill_amr.Statement.{statement}
 use Rattle.nch.proofs.additions.fill_amr.Tie as tie
 
 -- what was fetched and read
-flag-got : (c : tie.After-known-told) → Bits (c .before .flag .given .0 .0)
-    ≡ fetched (now (c .before .before .before .before .before .before .args .s)) (c .before .before .before .before .before .before .args .at) 1
+abbrev start : tie.After-known-told → tie.Start
+start c = c .before .before .before .before .before .before
+
+flag-got : (c : tie.After-known-told) → Bits (c .before .flag .given .0 .0) ≡ fetched (now (start c .args .s)) (start c .args .at) 1
 flag-got c = sym (c .before .flag .given .1) ∙ c .before .before .before .field .ensures
 
-flag-within : (c : tie.After-known-told) → c .before .before .before .before .before .before .args .at + 1 ≤ 32768
-flag-within c =
-    let a = c .before .before .before .before .before .before .args in
-    omega (arith, found (now (a .s)) (a .at) 1 (c .before .flag .given .0 .0) (flag-got c) .within, c .before .before .before .before .before .before .pre .0)
+flag-within : (c : tie.After-known-told) → start c .args .at + 1 ≤ 32768
+flag-within c = omega (arith, found (now (start c .args .s)) (start c .args .at) 1 (c .before .flag .given .0 .0) (flag-got c) .within, start c .pre .0)
 
-full-read : (c : tie.Else2)
-    → Answer flags (c .before .before .read-flagged .result)
-    (opt (num 4) .read (now (c .before .before .before .before .before .before .before .before .before .before .args .s))
-    (c .before .before .before .before .before .before .before .before .before .before .args .at + 1))
+abbrev start2 : tie.Else2 → tie.Start
+start2 c = c .before .before .before .before .before .before .before .before .before .before
+
+full-read : (c : tie.Else2) → Answer flags (c .before .before .read-flagged .result) (opt (num 4) .read (now (start2 c .args .s)) (start2 c .args .at + 1))
 full-read c =
-    let a = c .before .before .before .before .before .before .before .before .before .before .args in
+    let a = start2 c .args in
     let u = c .before .before .read-flagged in
-    flag-answered (now (a .s)) (a .at + 1) 4 (omega arith) (c .before .before .before .before .before .before .before .before .before .before .pre .0) (u .result) (u .ensures) (omega arith)
+    flag-answered (now (a .s)) (a .at + 1) 4 (omega arith) (start2 c .pre .0) (u .result) (u .ensures) (c .if2 .left)
+
+abbrev start3 : tie.Else3 → tie.Start
+start3 c = c .before .before .before .before .before .before .before .before .before .before .before .before .before
 
 half-read : (c : tie.Else3)
-    → Answer flags (c .before .before .read-flagged2 .result)
-    (opt (num 4) .read (now (c .before .before .before .before .before .before .before .before .before .before .before .before .before .args .s))
-    (c .before .before .before .before .before .read-flagged .result .at))
+    → Answer flags (c .before .before .read-flagged2 .result) (opt (num 4) .read (now (start3 c .args .s)) (c .before .before .before .before .before .read-flagged .result .at))
 half-read c =
-    flag-answered (now (c .before .before .before .before .before .before .before .before .before .before .before .before .before .args .s))
-    (c .before .before .before .before .before .read-flagged .result .at) 4 (omega arith)
-    (c .before .before .before .before .before .before .before .before .before .before .before .before .before .pre .0) (c .before .before .read-flagged2 .result)
-    (c .before .before .read-flagged2 .ensures) (omega arith)
+    let u = c .before .before .read-flagged2 in
+    flag-answered (now (start3 c .args .s)) (c .before .before .before .before .before .read-flagged .result .at) 4 (omega arith) (start3 c .pre .0) (u .result) (u .ensures) (c .if3 .left)
 
 field-requires : tie.Need-field-requires
 field-requires c κs = omega arith

@@ -18,32 +18,31 @@ use Rattle.nch.proofs.additions.fill_sms.Statement.{statement}
 use Rattle.nch.proofs.additions.fill_sms.Tie as tie
 
 -- what the three fetches found
-flag-got : (c : tie.After-known-told) → Bits (c .before .flag .given .0 .0)
-    ≡ fetched (now (c .before .before .before .before .before .before .args .s)) (c .before .before .before .before .before .before .args .at) 1
+abbrev start : tie.After-known-told → tie.Start
+start c = c .before .before .before .before .before .before
+
+flag-got : (c : tie.After-known-told) → Bits (c .before .flag .given .0 .0) ≡ fetched (now (start c .args .s)) (start c .args .at) 1
 flag-got c = sym (c .before .flag .given .1) ∙ c .before .before .before .field .ensures
 
-confidential-got : (c : tie.After-known-told2) → Bits (c .before .confidential .given .0 .0)
-    ≡ fetched (now (c .before .before .before .before .before .before .before .before .before .before .before .args .s))
-    (c .before .before .before .before .before .before .before .before .before .before .before .args .at + 1) 1
+abbrev start2 : tie.After-known-told2 → tie.Start
+start2 c = c .before .before .before .before .before .before .before .before .before .before .before
+
+confidential-got : (c : tie.After-known-told2) → Bits (c .before .confidential .given .0 .0) ≡ fetched (now (start2 c .args .s)) (start2 c .args .at + 1) 1
 confidential-got c = sym (c .before .confidential .given .1) ∙ c .before .before .before .field2 .ensures
 
-private-got : (c : tie.After-known-told3) → Bits (c .before .private .given .0 .0)
-    ≡ fetched (now (c .before .before .before .before .before .before .before .before .before .before .before .before .before .before .before .args .s))
-    (c .before .before .before .before .before .before .before .before .before .before .before .before .before .before .before .args .at + 2) 1
+abbrev start3 : tie.After-known-told3 → tie.Start
+start3 c = c .before .before .before .before .before .before .before .before .before .before .before .before .before .before .before
+
+private-got : (c : tie.After-known-told3) → Bits (c .before .private .given .0 .0) ≡ fetched (now (start3 c .args .s)) (start3 c .args .at + 2) 1
 private-got c = sym (c .before .private .given .1) ∙ c .before .before .before .field3 .ensures
 
-flag-within : (c : tie.After-known-told) → c .before .before .before .before .before .before .args .at + 1 ≤ 32768
-flag-within c =
-    let a = c .before .before .before .before .before .before .args in
-    omega (arith, found (now (a .s)) (a .at) 1 (c .before .flag .given .0 .0) (flag-got c) .within, c .before .before .before .before .before .before .pre .0)
+flag-within : (c : tie.After-known-told) → start c .args .at + 1 ≤ 32768
+flag-within c = omega (arith, found (now (start c .args .s)) (start c .args .at) 1 (c .before .flag .given .0 .0) (flag-got c) .within, start c .pre .0)
 
 -- the first of the two bits
-confidential-read : (c : tie.After-known-told2)
-    → num 1 .read (now (c .before .before .before .before .before .before .before .before .before .before .before .args .s))
-    (c .before .before .before .before .before .before .before .before .before .before .before .args .at + 1) ≡ ok (c .before .confidential .given .0 .0)
-    (c .before .before .before .before .before .before .before .before .before .before .before .args .at + 2)
+confidential-read : (c : tie.After-known-told2) → num 1 .read (now (start2 c .args .s)) (start2 c .args .at + 1) ≡ ok (c .before .confidential .given .0 .0) (start2 c .args .at + 2)
 confidential-read c =
-    let a = c .before .before .before .before .before .before .before .before .before .before .before .args in
+    let a = start2 c .args in
     num-got (now (a .s)) (a .at + 1) 1 _ (confidential-got c) ∙ ap (ok (c .before .confidential .given .0 .0)) (omega arith)
 
 field-requires : tie.Need-field-requires

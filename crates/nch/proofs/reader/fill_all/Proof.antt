@@ -22,7 +22,8 @@ called c = c .before .before .before .before .before .before
 six-length : (c : tie.After-struct-known3) → length (c .before .before .before .fill-release6 .last .1 .1 .0) ≡ length (now (start (called c) .args .numbers))
 six-length c = c .before .before .before .fill-release6 .kept .1 .1 .0 ∙ calls-length (called c)
 
-seven-length : (c : tie.After-struct-known4) → length (c .before .before .before .fill-release7 .last .1 .1 .0) ≡ length (now (start (called (c .before .before .before .before .before .before)) .args .numbers))
+seven-length : (c : tie.After-struct-known4)
+    → length (c .before .before .before .fill-release7 .last .1 .1 .0) ≡ length (now (start (called (c .before .before .before .before .before .before)) .args .numbers))
 seven-length c = c .before .before .before .fill-release7 .kept .1 .1 .0 ∙ six-length (c .before .before .before .before .before .before)
 
 ground-requires : tie.Need-ground-requires

@@ -1,0 +1,237 @@
+/* Asks this build of the archive what another was asked, and holds its answers against what that one answered: a record of `compare --record` is read from standard
+ * input. There the answers were held against the second program's, so what is the same here is the same as the second program's. Everything that is lent has guards
+ * around it, and what is lent to be read must stay. The last line is 'N passed, M failed'; a function that is never called has failed.
+ *
+ *   replay            as above
+ *   replay --spoil    the first answer of each function is changed before it is looked at, which must show */
+#include <asternhaken.h>
+
+#include <stddef.h>
+#include <stdio.h>
+#include <stdlib.h>
+#include <string.h>
+
+enum { FUNCTIONS = 30, STATE = 255, GUARD = 16, SHOWN = 20 };
+
+/* In the order of src/ffi.rs. */
+enum { SETUP, NCH, FACCH, JOINED, RESELECTED, HANDED_OVER, RECONFIGURED, TICK, READ };
+
+static const char *const names[FUNCTIONS] = {
+    "setup", "nch", "facch", "joined", "reselected", "handed_over", "reconfigured", "tick", "read", "nch_read", "nch_write", "facch_read",
+    "message_type_read", "message_type_write", "call_reference_read", "call_reference_write", "call_state_read", "call_state_write",
+    "cause_read", "cause_write", "originator_read", "originator_write", "state_attributes_read", "state_attributes_write", "sms_read",
+    "sms_write", "talker_read", "talker_write", "digits_read", "digits_write"
+};
+
+static unsigned long calls[FUNCTIONS], passed, failed;
+static int spoil;
+
+/* ---- The record ---- */
+
+static void *room(size_t size)
+{
+    void *memory = malloc(size ? size : 1);
+    if (!memory) exit(2);
+    return memory;
+}
+
+static void take(void *into, size_t size)
+{
+    if (fread(into, 1, size, stdin) == size) return;
+    printf("the record ends inside a call\n0 passed, 1 failed\n");
+    exit(1);
+}
+
+static uint32_t small(void)
+{
+    uint32_t number;
+    take(&number, sizeof number);
+    return number;
+}
+
+/* ---- Lent memory ---- */
+
+struct lent {
+    uint8_t *at, *before; /* the content, between its guards; a copy */
+    size_t size;
+};
+
+static struct lent lend(size_t size)
+{
+    struct lent lent = { room(size + 2 * GUARD), room(size), size };
+    memset(lent.at, 0xa5, size + 2 * GUARD);
+    lent.at += GUARD;
+    return lent;
+}
+
+static struct lent lend_record(size_t size)
+{
+    struct lent lent = lend(size);
+    take(lent.at, size);
+    memcpy(lent.before, lent.at, size);
+    return lent;
+}
+
+static int guarded(const struct lent *lent)
+{
+    for (size_t i = 0; i < GUARD; i++)
+        if (lent->at[lent->size + i] != 0xa5 || lent->at[-1 - (ptrdiff_t)i] != 0xa5) return 0;
+    return 1;
+}
+
+static int untouched(const struct lent *lent)
+{
+    return guarded(lent) && !memcmp(lent->at, lent->before, lent->size);
+}
+
+static void give_back(struct lent *lent)
+{
+    free(lent->at - GUARD);
+    free(lent->before);
+}
+
+/* ---- Comparing ---- */
+
+/* The refusal stands in the record first, then what memory that was lent to be written held. */
+static void compare(unsigned function, uint32_t refusal, struct lent *into, int kept)
+{
+    static uint8_t *after;
+    static size_t most;
+    uint32_t expected = small();
+    if (!after || into->size > most) free(after), after = room(most = into->size);
+    take(after, into->size);
+    if (spoil && !calls[function]) refusal ^= 1;
+    calls[function]++;
+    if (refusal == expected && !memcmp(into->at, after, into->size) && guarded(into) && kept) passed++;
+    else if (failed++ < SHOWN)
+        printf("DIFFERENCE %s, call %lu: refusal %lu, the record has %lu; lent memory %s, guards %s, what was lent to be read %s\n", names[function],
+               calls[function], (unsigned long)refusal, (unsigned long)expected, memcmp(into->at, after, into->size) ? "differs" : "is the same",
+               guarded(into) ? "stand" : "are gone", kept ? "stayed" : "was written");
+}
+
+static struct lent state;
+
+/* Looked at before another call may change the state, or another state is lent: readings since then left it. */
+static void state_is_untouched(void)
+{
+    if (untouched(&state)) return;
+    failed++;
+    printf("DIFFERENCE a reading wrote the state\n");
+}
+
+static void state_call(unsigned function)
+{
+    state_is_untouched();
+    struct lent octets = lend_record(small());
+    uint32_t tick = small(), a = function == SETUP || function == JOINED ? small() : 0, b = function == SETUP ? small() : 0, refusal = 0;
+    switch (function) {
+    case SETUP: refusal = asternhaken_setup(state.at, state.size, (const uint32_t *)(const void *)octets.at, octets.size / 4, tick, a, b); break;
+    case NCH: refusal = asternhaken_nch(state.at, state.size, tick, octets.at, octets.size); break;
+    case FACCH: refusal = asternhaken_facch(state.at, state.size, tick, octets.at, octets.size); break;
+    case JOINED: refusal = asternhaken_joined(state.at, state.size, tick, a); break;
+    case RESELECTED: refusal = asternhaken_reselected(state.at, state.size, tick); break;
+    case HANDED_OVER: refusal = asternhaken_handed_over(state.at, state.size, tick); break;
+    case RECONFIGURED: refusal = asternhaken_reconfigured(state.at, state.size, tick); break;
+    default: refusal = asternhaken_tick(state.at, state.size, tick);
+    }
+    compare(function, refusal, &state, untouched(&octets));
+    memcpy(state.before, state.at, state.size);
+    give_back(&octets);
+}
+
+static void read_call(void)
+{
+    static struct lent value;
+    uint32_t entry = small(), part = small();
+    if (!value.at) value = lend(sizeof(uint64_t));
+    memset(value.at, 0x5a, value.size);
+    uint32_t refusal = asternhaken_read(state.at, state.size, entry, part, (uint64_t *)(void *)value.at);
+    compare(READ, refusal, &value, 1);
+}
+
+/* ---- The codecs: a reader fills numbers, a writer octets; an octet is given by itself or lent by itself ---- */
+
+static uint64_t *numbers_of(const struct lent *lent) { return (uint64_t *)(void *)lent->at; }
+
+static void octets_reader(unsigned function, uint32_t (*reader)(const uint8_t *, size_t, uint64_t *, size_t))
+{
+    struct lent octets = lend_record(small()), numbers = lend(small() * sizeof(uint64_t));
+    uint32_t refusal = reader(octets.at, octets.size, numbers_of(&numbers), numbers.size / 8);
+    compare(function, refusal, &numbers, untouched(&octets));
+    give_back(&octets), give_back(&numbers);
+}
+
+static void octet_reader(unsigned function, uint32_t (*reader)(uint8_t, uint64_t *, size_t))
+{
+    uint8_t octet = (uint8_t)small();
+    struct lent numbers = lend(small() * sizeof(uint64_t));
+    uint32_t refusal = reader(octet, numbers_of(&numbers), numbers.size / 8);
+    compare(function, refusal, &numbers, 1);
+    give_back(&numbers);
+}
+
+static void octets_writer(unsigned function, uint32_t (*writer)(const uint64_t *, size_t, uint8_t *, size_t))
+{
+    struct lent numbers = lend_record(small() * sizeof(uint64_t)), octets = lend_record(small());
+    uint32_t refusal = writer(numbers_of(&numbers), numbers.size / 8, octets.at, octets.size);
+    compare(function, refusal, &octets, untouched(&numbers));
+    give_back(&numbers), give_back(&octets);
+}
+
+static void octet_writer(unsigned function, uint32_t (*writer)(const uint64_t *, size_t, uint8_t *))
+{
+    struct lent numbers = lend_record(small() * sizeof(uint64_t)), octet = lend(1);
+    *octet.at = (uint8_t)small();
+    uint32_t refusal = writer(numbers_of(&numbers), numbers.size / 8, octet.at);
+    compare(function, refusal, &octet, untouched(&numbers));
+    give_back(&numbers), give_back(&octet);
+}
+
+static void codec_call(unsigned f)
+{
+    switch (f) {
+    case 9: octets_reader(f, asternhaken_nch_read); break;
+    case 10: octets_writer(f, asternhaken_nch_write); break;
+    case 11: octets_reader(f, asternhaken_facch_read); break;
+    case 12: octet_reader(f, asternhaken_message_type_read); break;
+    case 13: octet_writer(f, asternhaken_message_type_write); break;
+    case 14: octets_reader(f, asternhaken_call_reference_read); break;
+    case 15: octets_writer(f, asternhaken_call_reference_write); break;
+    case 16: octet_reader(f, asternhaken_call_state_read); break;
+    case 17: octet_writer(f, asternhaken_call_state_write); break;
+    case 18: octets_reader(f, asternhaken_cause_read); break;
+    case 19: octets_writer(f, asternhaken_cause_write); break;
+    case 20: octet_reader(f, asternhaken_originator_read); break;
+    case 21: octet_writer(f, asternhaken_originator_write); break;
+    case 22: octet_reader(f, asternhaken_state_attributes_read); break;
+    case 23: octet_writer(f, asternhaken_state_attributes_write); break;
+    case 24: octet_reader(f, asternhaken_sms_read); break;
+    case 25: octet_writer(f, asternhaken_sms_write); break;
+    case 26: octet_reader(f, asternhaken_talker_read); break;
+    case 27: octet_writer(f, asternhaken_talker_write); break;
+    case 28: octets_reader(f, asternhaken_digits_read); break;
+    case 29: octets_writer(f, asternhaken_digits_write); break;
+    default: printf("there is no function %u\n0 passed, 1 failed\n", f); exit(1);
+    }
+}
+
+int main(int argc, char **argv)
+{
+    int function;
+    spoil = argc == 2 && !strcmp(argv[1], "--spoil");
+    state = lend(0);
+    while ((function = getchar()) != EOF) {
+        if (function == STATE) state_is_untouched(), give_back(&state), state = lend_record(small());
+        else if (function < READ) state_call((unsigned)function);
+        else if (function == READ) read_call();
+        else codec_call((unsigned)function);
+    }
+    state_is_untouched();
+    for (unsigned f = 0; f < FUNCTIONS; f++) {
+        if (calls[f]) continue;
+        printf("asternhaken_%s is never called\n", names[f]);
+        failed++;
+    }
+    printf("%lu passed, %lu failed\n", passed, failed);
+    return failed != 0;
+}
