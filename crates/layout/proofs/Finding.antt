@@ -1,18 +1,18 @@
 -- Laws of the one pass that finds a key among the keys. Assumes nothing.
-use mathlib.Core.Path.{_≡_, refl, sym, ap, _∙_}
+use mathlib.Core.Path.{_≡_, sym, ap, _∙_}
 use mathlib.Core.Logic.{_⊎_, ⊎-elim}
-use mathlib.Core.List.{List, [], _∷_}
-use Prim.Native.Nat.{ℕ, suc, _+_, _*_, _≤_, _<_}
+use mathlib.Core.List.{List}
+use Prim.Native.Nat.{ℕ, _+_, _*_, _≤_, _<_}
 use native.Mathlib.Nat.{add-zero, add-suc, suc-add}
 use native.Mathlib.Numerals.{add-one}
 use native.Mathlib.Omega.{arith}
 use lib.Dec.{ltb}
-use lib.ListN.{length, getD, drop, drop-of-length-le}
-use borrow.Author.Tests.{ne-eqb, ltb-true, ltb-false}
+use lib.ListN.{length, getD, drop}
+use borrow.Author.Tests.{ltb-true, ltb-false}
 use Rattle.receiver.specs.Channels.{keyCount}
 use Rattle.receiver.specs.Model.{indexOf}
 use Rattle.receiver.proofs.Dropping.{by-test}
-use Rattle.receiver.proofs.Keys.{index-here, index-next}
+use Rattle.receiver.proofs.Keys.{found, index-here, index-next, index-le, index-past}
 use Rattle.layout.specs.Layout.{keysFrom, keyNo, decodeOf}
 use Rattle.layout.proofs.Numbers.{le-below}
 use Rattle.layout.proofs.Wide.{Octs}
@@ -51,16 +51,15 @@ module _ (ks : List ℕ) (key i found : ℕ) (n : length ks ≡ keyCount) (h : i
       (λ w. kept-next r (w .0) (⊎-elim (λ v. omega (arith, w .1, v .0)) (λ v. v .1) t)) s
 
 pub found-all : (ks : List ℕ) (key i found : ℕ) → length ks ≡ keyCount → keyCount ≤ i → i ≤ keyCount → found ≤ keyCount → Found ks key i found → found ≡ indexOf ks key
-unfolding indexOf
 found-all ks key i found n low high f p =
     by-test (ltb found keyCount) (λ t. sym (p .1 (ltb-true found keyCount t) .1))
-    (λ t.
-    let e : found ≡ keyCount = omega (arith, ltb-false found keyCount t) in sym (p .0 e ∙ rw (drop-of-length-le ks {i = i} (omega (arith, n))) (omega arith)))
+    (λ t. let e : found ≡ keyCount = omega (arith, ltb-false found keyCount t) in omega (arith, p .0 e, index-past ks key i (omega (arith, n))))
 
 absent : (ks : List ℕ) (key : ℕ) → ((i : ℕ) → i < length ks → getD ks i 0 ≡ key → ⊥) → indexOf ks key ≡ length ks
-unfolding indexOf
-absent [] key h = refl
-absent (k ∷ ks) key h = rw (ne-eqb k key (h 0 (omega arith))) (ap suc (absent ks key (λ i p. h (suc i) (omega arith))))
+absent ks key h =
+    by-test (ltb (indexOf ks key) (length ks))
+    (λ t. let q = ltb-true (indexOf ks key) (length ks) t in absurd (h (indexOf ks key) q (found ks key q)))
+    (λ t. omega (arith, index-le ks key, ltb-false (indexOf ks key) (length ks) t))
 
 -- a key of more than 32 bits is none of them
 pub found-none : (l : List ℕ) (key : ℕ) → Octs l → 4294967295 < key → keyCount ≡ indexOf (decodeOf l .keys) key

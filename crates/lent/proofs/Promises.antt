@@ -1,11 +1,11 @@
 -- The promises of specs/Promises. Assumes nothing.
 use mathlib.Core.Path.{_≡_, refl, sym, ap, _∙_}
-use mathlib.Core.List.{List, [], _∷_, _++_}
+use mathlib.Core.List.{List, [], _∷_, _++_, flatten}
 use mathlib.Core.Bool.{Bool, true, false}
 use Prim.Native.Nat.{ℕ}
 use lib.ListN.{length}
 use lib.Dec.{eqb}
-use borrow.Author.Tests.{eqb-false}
+use borrow.Author.Tests.{eqb-false, eq-eqb}
 use Rattle.bits.specs.Field.{pick}
 use Rattle.csn1.specs.declared.Refusal.{Refusal}
 use Rattle.receiver.specs.declared.Receiver.{Receiver}
@@ -13,13 +13,17 @@ use Rattle.receiver.specs.declared.Answer.{Answer}
 use Rattle.receiver.specs.Model.{startedOf}
 use Rattle.receiver.specs.Channels.{Channel, same}
 use Rattle.receiver.specs.Step.{Event, contentOf, refusalOf, refusedWith, stepOf}
-use Rattle.receiver.specs.One.{Said}
-use Rattle.receiver.specs.Promises.{under, answersOn, answers}
+use Rattle.receiver.specs.One.{Said, fresh}
+use Rattle.receiver.specs.Calls.{timerOf, Reply, replyBy}
+use Rattle.receiver.specs.Promises.{under, answersOn, answersEach, after, replyOf}
 use Rattle.receiver.proofs.Dropping.{by-test}
-use Rattle.receiver.proofs.Promises.{no-call-disturbs-another}
+use Rattle.receiver.proofs.Grounds.{refused-as}
+use Rattle.receiver.proofs.Isolation.{says-flat}
+use Rattle.receiver.proofs.Promises.{no-call-disturbs-another-at-any-event, the-answer-is-the-calls}
 use Rattle.layout.specs.Layout.{stateLength, decodeOf, lastOf}
 use Rattle.lent.specs.Events.{Fed, Left, codeOf, answered}
-use Rattle.lent.specs.Promises.{Run, heard, readUnder, No-call-disturbs-another-in-octets, A-refused-event-leaves-the-octets, The-length-stays, Fed-determines}
+use Rattle.lent.specs.Promises.{Run, heard, readUnder, readEach, leftAfter, shown, No-call-disturbs-another-in-octets, No-call-disturbs-another-at-any-event-in-octets}
+use Rattle.lent.specs.Promises.{The-answer-is-the-calls-in-octets, A-refused-event-leaves-the-octets, The-length-stays, Fed-determines}
 use Rattle.layout.proofs.Setting.{set-started, set-length}
 use Rattle.lent.proofs.Feeding.{refused-step, length-after, refused-stays}
 
@@ -38,9 +42,9 @@ not-answered key c r w e = either (same c (contentOf (e .happening) .channel))
     either false = refl
 
 -- one event: what is heard, and the receiver that is read afterwards
-module _ (key : ℕ) (c : Channel) (l : List ℕ) (whole : length l ≡ stateLength) (e : Event) (a : Left) (f : Fed l e (a .octets) (a .code)) where
-  step-heard : pick (eqb (a .code) 0) (heard key c e (lastOf (a .octets))) [] ≡ answersOn key c e (stepOf (decodeOf l) e)
-  step-heard =
+module _ (l : List ℕ) (whole : length l ≡ stateLength) (e : Event) (a : Left) (f : Fed l e (a .octets) (a .code)) where
+  step-heard : (key : ℕ) (c : Channel) → pick (eqb (a .code) 0) (heard key c e (lastOf (a .octets))) [] ≡ answersOn key c e (stepOf (decodeOf l) e)
+  step-heard key c =
       by-test (eqb (codeOf l e) 0)
       (λ p.
       let b : eqb (a .code) 0 ≡ true = ap (λ n. eqb n 0) (f .number) ∙ p in
@@ -57,21 +61,58 @@ module _ (key : ℕ) (c : Channel) (l : List ℕ) (whole : length l ≡ stateLen
   step-length : length (a .octets) ≡ stateLength
   step-length = ap length (f .octets) ∙ length-after l e ∙ whole
 
-run-heard : (key : ℕ) (c : Channel) (l : List ℕ) → length l ≡ stateLength → (es : List Event) (run : List Left) → Run l es run → readUnder key c es run ≡ answers key c (decodeOf l) es
-unfolding readUnder answers stepOf
+run-heard : (key : ℕ) (c : Channel) (l : List ℕ) → length l ≡ stateLength → (es : List Event) (run : List Left) → Run l es run → readEach key c es run ≡ answersEach key c (decodeOf l) es
+unfolding readEach answersEach stepOf
 run-heard key c l whole [] [] u = refl
 run-heard key c l whole [] (a ∷ rest) u = absurd u
 run-heard key c l whole (e ∷ es) [] u = absurd u
 run-heard key c l whole (e ∷ es) (a ∷ rest) u =
-    rw (step-heard key c l whole e a (u .0), ← step-receiver key c l whole e a (u .0))
-    (ap (λ (r : List Said). answersOn key c e (stepOf (decodeOf l) e) ++ r) (run-heard key c (a .octets) (step-length key c l whole e a (u .0)) es rest (u .1)))
+    rw (step-heard l whole e a (u .0) key c, ← step-receiver l whole e a (u .0))
+    (ap (λ (r : List (List Said)). answersOn key c e (stepOf (decodeOf l) e) ∷ r) (run-heard key c (a .octets) (step-length l whole e a (u .0)) es rest (u .1)))
+
+-- all in one list
+read-flat : (key : ℕ) (c : Channel) (es : List Event) (run : List Left) → flatten (readEach key c es run) ≡ readUnder key c es run
+unfolding readEach readUnder flatten
+read-flat key c [] rest = refl
+read-flat key c (e ∷ es) [] = refl
+read-flat key c (e ∷ es) (a ∷ rest) = ap (λ (l : List Said). pick (eqb (a .code) 0) (heard key c e (lastOf (a .octets))) [] ++ l) (read-flat key c es rest)
+
+-- a run leaves a state, of the receiver after its events
+run-after : (l : List ℕ) → length l ≡ stateLength → (es : List Event) (run : List Left) → Run l es run
+    → (length (leftAfter l run) ≡ stateLength) × (decodeOf (leftAfter l run) ≡ after (decodeOf l) es)
+unfolding after
+run-after l whole [] [] u = (whole, refl)
+run-after l whole [] (a ∷ rest) u = absurd u
+run-after l whole (e ∷ es) [] u = absurd u
+run-after l whole (e ∷ es) (a ∷ rest) u =
+    let q = run-after (a .octets) (step-length l whole e a (u .0)) es rest (u .1) in
+    (q .0, q .1 ∙ ap (λ (r : Receiver). after r es) (step-receiver l whole e a (u .0)))
+
+code-is : (l : List ℕ) (e : Event) → length l ≡ stateLength → codeOf l e ≡ stepOf (decodeOf l) e .refusal .number
+unfolding codeOf
+code-is l e whole = rw (eq-eqb (length l) stateLength whole) (sym (ap (λ (w : Refusal). w .number) (refused-as (decodeOf l) e)))
+
+pub no-call-disturbs-another-at-any-event-in-octets : No-call-disturbs-another-at-any-event-in-octets
+no-call-disturbs-another-at-any-event-in-octets l s keys left set t key h c es run ts u =
+    let z : startedOf s keys .refusal .number ≡ 0 = set-started l s keys (sym (set .number)) in
+    run-heard key c left (set-length l s keys left set) es run u
+    ∙ ap (λ (r : Receiver). answersEach key c r es) (set .receiver refl)
+    ∙ no-call-disturbs-another-at-any-event s keys t z key h c es ts
 
 pub no-call-disturbs-another-in-octets : No-call-disturbs-another-in-octets
 no-call-disturbs-another-in-octets l s keys left set t key h c es run ts u =
+    sym (read-flat key c es run) ∙ ap flatten (no-call-disturbs-another-at-any-event-in-octets l s keys left set t key h c es run ts u)
+    ∙ says-flat key c (timerOf c s) fresh (s .tick) es
+
+pub the-answer-is-the-calls-in-octets : The-answer-is-the-calls-in-octets
+the-answer-is-the-calls-in-octets l s keys left set t es run ts u e k a f =
     let z : startedOf s keys .refusal .number ≡ 0 = set-started l s keys (sym (set .number)) in
-    run-heard key c left (set-length l s keys left set) es run u
-    ∙ ap (λ (r : Receiver). answers key c r es) (set .receiver refl)
-    ∙ no-call-disturbs-another s keys t z key h c es ts
+    let w = run-after left (set-length l s keys left set) es run u in
+    let v : replyOf (stepOf (decodeOf (leftAfter left run)) e) ≡ replyBy s es e keys =
+    ap (λ (r : Receiver). replyOf (stepOf r e)) (w .1 ∙ ap (λ (r : Receiver). after r es) (set .receiver refl)) ∙ the-answer-is-the-calls s keys t z es ts e k in (
+      f .number ∙ code-is (leftAfter left run) e (w .0) ∙ ap (λ (y : Reply). y .refusal .number) v,
+      λ n. f .answer ∙ rw (eq-eqb (codeOf (leftAfter left run) e) 0 (sym (f .number) ∙ n)) (ap shown v),
+    )
 
 pub a-refused-event-leaves-the-octets : A-refused-event-leaves-the-octets
 a-refused-event-leaves-the-octets = refused-stays

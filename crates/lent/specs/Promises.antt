@@ -1,4 +1,4 @@
--- What is promised of the lent octets: events chain, and no call disturbs another (demand 3). Assumes nothing.
+-- What is promised of the lent octets: events chain, no call disturbs another (demand 3), and each answer is the calls'. Assumes nothing.
 use mathlib.Core.Path.{_≡_}
 use mathlib.Core.List.{List, [], _∷_, _++_}
 use Prim.Native.Nat.{ℕ, _<_}
@@ -9,8 +9,9 @@ use Rattle.receiver.specs.declared.Setup.{Setup}
 use Rattle.receiver.specs.Model.{indexOf}
 use Rattle.receiver.specs.Channels.{Channel, same}
 use Rattle.receiver.specs.Step.{Event, contentOf}
-use Rattle.receiver.specs.One.{Said, runOne, seen, fresh}
-use Rattle.receiver.specs.Promises.{under, timerOf, Ticks}
+use Rattle.receiver.specs.One.{Said, runOne, runEach, seen, fresh}
+use Rattle.receiver.specs.Calls.{timerOf, Reply, replyBy}
+use Rattle.receiver.specs.Promises.{under, Ticks}
 use Rattle.layout.specs.Layout.{Last, lastOf}
 use Rattle.layout.specs.Setup.{SetUp}
 use Rattle.lent.specs.Events.{Fed, Left, octetsAfter, codeOf}
@@ -36,6 +37,12 @@ readUnder key c [] rest = []
 readUnder key c (e ∷ es) [] = []
 readUnder key c (e ∷ es) (a ∷ rest) = pick (eqb (a .code) 0) (heard key c e (lastOf (a .octets))) [] ++ readUnder key c es rest
 
+-- the same with what is read after each call in a list of its own
+unfoldable pub readEach : ℕ → Channel → List Event → List Left → List (List Said)
+readEach key c [] rest = []
+readEach key c (e ∷ es) [] = []
+readEach key c (e ∷ es) (a ∷ rest) = pick (eqb (a .code) 0) (heard key c e (lastOf (a .octets))) [] ∷ readEach key c es rest
+
 -- For every lent octets that an accepted setup filled, and every run of events on them: what is read under a subscribed key on a channel is exactly what
 -- the one-call receiver answers to what that call sees.
 abbrev pub No-call-disturbs-another-in-octets : Type 0
@@ -50,13 +57,53 @@ No-call-disturbs-another-in-octets =
     → Run left es run
     → readUnder key c es run ≡ runOne key c (timerOf c s) fresh (seen key c (s .tick) es)
 
--- ## 2. A refused event
+-- The same event by event: nothing is read after another event than its own.
+abbrev pub No-call-disturbs-another-at-any-event-in-octets : Type 0
+No-call-disturbs-another-at-any-event-in-octets =
+    (l : List ℕ) (s : Setup) (keys left : List ℕ)
+    → SetUp l s keys left 0
+    → s .tick < 4294967296
+    → (key : ℕ)
+    → indexOf keys key < length keys
+    → (c : Channel) (es : List Event) (run : List Left)
+    → Ticks es
+    → Run left es run
+    → readEach key c es run ≡ runEach key c (timerOf c s) fresh (s .tick) es
+
+-- ## 2. The whole answer over octets
+
+-- the octets that a run leaves
+abbrev pub leftAfter : List ℕ → List Left → List ℕ
+leftAfter l [] = l
+leftAfter l (a ∷ rest) = leftAfter (a .octets) rest
+
+-- an answer as it is read, without its refusal
+abbrev pub shown : Reply → Last
+shown a = record { expired = a .expired; dropped = a .dropped; count = a .count; entries = a .entries }
+
+-- For every lent octets that an accepted setup filled, and after every run of events on them: the next call returns the number that the receivers of the single
+-- calls give, and where that is 0, what is read then is their whole answer.
+abbrev pub The-answer-is-the-calls-in-octets : Type 0
+The-answer-is-the-calls-in-octets =
+    (l : List ℕ) (s : Setup) (keys left : List ℕ)
+    → SetUp l s keys left 0
+    → s .tick < 4294967296
+    → (es : List Event) (run : List Left)
+    → Ticks es
+    → Run left es run
+    → (e : Event)
+    → e .tick < 4294967296
+    → (a : Left)
+    → Fed (leftAfter left run) e (a .octets) (a .code)
+    → (a .code ≡ replyBy s es e keys .refusal .number) × (a .code ≡ 0 → lastOf (a .octets) ≡ shown (replyBy s es e keys))
+
+-- ## 3. A refused event
 
 -- every octet stays as it was
 abbrev pub A-refused-event-leaves-the-octets : Type 0
 A-refused-event-leaves-the-octets = (l : List ℕ) (e : Event) → (codeOf l e ≡ 0 → ⊥) → octetsAfter l e ≡ l
 
--- ## 3. The length
+-- ## 4. The length
 
 -- no event changes it, so a state stays a state
 abbrev pub The-length-stays : Type 0

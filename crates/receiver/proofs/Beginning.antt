@@ -16,7 +16,7 @@ use Rattle.receiver.specs.declared.Setup.{Setup}
 use Rattle.receiver.specs.Channels.{keyCount, places, Channel}
 use Rattle.receiver.specs.Model.{emptySlot, indexOf, newReceiver, keyPlaces, longestTimer, isTimer, keysRight, setupRight, startedOf}
 use Rattle.receiver.specs.One.{showsNln, fresh}
-use Rattle.receiver.specs.Promises.{timerOf}
+use Rattle.receiver.specs.Calls.{timerOf}
 use Rattle.receiver.proofs.Meets.{empty-sound}
 use Rattle.receiver.proofs.Dropping.{by-test}
 use Rattle.receiver.proofs.Standing.{placeAt}
@@ -27,11 +27,11 @@ use Rattle.receiver.proofs.Isolation.{view, Good}
 
 -- ## What is asked of a setup
 
-record Right (s : Setup) (keys : List ℕ) : Type 0 where
-  few : length keys ≤ keyCount
+pub record Right (s : Setup) (keys : List ℕ) : Type 0 where
+  pub few : length keys ≤ keyCount
   first : (1 ≤ s .t3206) × (s .t3206 ≤ longestTimer)
   second : (1 ≤ s .t3208) × (s .t3208 ≤ longestTimer)
-  keyed : keysRight keys ≡ true
+  pub keyed : keysRight keys ≡ true
 
 timer-right : (t : ℕ) → isTimer t ≡ true → (1 ≤ t) × (t ≤ longestTimer)
 timer-right t e = let b = both-true (leb 1 t) (leb t longestTimer) e in (leb-true 1 t (b .0), leb-true t longestTimer (b .1))
@@ -58,18 +58,18 @@ pub starts : (s : Setup) (keys : List ℕ) → startedOf s keys .refusal .number
 unfolding startedOf
 starts s keys z = rw (passes s keys z)
 
-module _ (s : Setup) (keys : List ℕ) (t : s .tick < 4294967296) (z : startedOf s keys .refusal .number ≡ 0) (key : ℕ) (h : indexOf keys key < length keys) (c : Channel) where
-  made : Right s keys
-  made = right s keys (passes s keys z)
+pub made : (s : Setup) (keys : List ℕ) → startedOf s keys .refusal .number ≡ 0 → Right s keys
+made s keys z = right s keys (passes s keys z)
 
+module _ (s : Setup) (keys : List ℕ) (t : s .tick < 4294967296) (z : startedOf s keys .refusal .number ≡ 0) (key : ℕ) (h : indexOf keys key < length keys) (c : Channel) where
   subscribed : indexOf (keyPlaces keyCount keys) key < keyCount
-  subscribed = rw (lent-index keyCount keys (made .few) (made .keyed) key h) (omega (arith, made .few))
+  subscribed = rw (lent-index keyCount keys (made s keys z .few) (made s keys z .keyed) key h) (omega (arith, made s keys z .few))
 
   slot-empty : getD (replicate places emptySlot) (placeAt (keyPlaces keyCount keys) key c) emptySlot ≡ emptySlot
   slot-empty = getD-replicate places (placeAt (keyPlaces keyCount keys) key c) emptySlot emptySlot (place-lt (indexOf (keyPlaces keyCount keys) key) c subscribed)
 
   timers : (1 ≤ timerOf c s) × (timerOf c s ≤ longestTimer)
-  timers = for-each (λ (t : ℕ). (1 ≤ t) × (t ≤ longestTimer)) c _ _ (made .first) (made .second)
+  timers = for-each (λ (t : ℕ). (1 ≤ t) × (t ≤ longestTimer)) c _ _ (made s keys z .first) (made s keys z .second)
 
   pub started-good : Good key c (started s keys)
   started-good =

@@ -1,12 +1,12 @@
 -- What time and an event's rule leave of a half, on the wrapped clock and by the sum of steps. Assumes nothing.
-use mathlib.Core.Path.{_≡_, refl, sym, ap₂}
+use mathlib.Core.Path.{_≡_, refl, sym, ap, ap₂, _∙_}
 use mathlib.Core.Bool.{Bool, true, false, not}
 use mathlib.Core.List.{List, [], _∷_}
 use mathlib.Core.Option.{Option, none}
 use Prim.Native.Nat.{ℕ, zero, suc, _+_, _^_, _≤_, _<_}
 use native.Mathlib.Omega.{arith}
 use lib.Dec.{leb, ltb, eqb}
-use borrow.Author.Tests.{leb-true, leb-false, lt-ltb, le-ltb, eqb-true, eqb-false, not-true, not-false}
+use borrow.Author.Tests.{leb-true, leb-false, lt-ltb, le-ltb, eqb-true, eqb-false, ne-eqb, not-true, not-false}
 use Rattle.bits.specs.Field.{both, pick}
 use Rattle.csn1.specs.Told.{asBit}
 use Rattle.receiver.specs.declared.Record.{Record}
@@ -14,6 +14,7 @@ use Rattle.receiver.specs.declared.Slot.{Slot}
 use Rattle.receiver.specs.declared.Rule.{Rule}
 use Rattle.receiver.specs.Model.{emptySlot, longestTimer, wrapSub, lateStep, keep, spares, isHeld, ranOutOf, takenOf, keptOf, mapAt, countAt}
 use Rattle.receiver.specs.One.{Half, aged}
+use Rattle.receiver.specs.Calls.{lost}
 use Rattle.receiver.specs.Promises.{halfOf, heldOf, lostBetween}
 use Rattle.receiver.proofs.Places.{spares-keep}
 use Rattle.receiver.proofs.Clock.{elapsed}
@@ -45,7 +46,7 @@ kept-cases true true p z s = refl
 kept-cases true false true z s = refl
 kept-cases true false false z s = refl
 
-kept-what : (now timer : ℕ) (rule : Rule) (i : ℕ) (s : Slot)
+pub kept-what : (now timer : ℕ) (rule : Rule) (i : ℕ) (s : Slot)
     → keptOf now timer rule i s ≡ pick (isHeld s) (pick (leb timer (wrapSub now (s .since))) emptySlot (pick (spares rule i) s emptySlot)) s
 unfolding keptOf takenOf ranOutOf
 kept-what now timer rule i s = kept-cases (isHeld s) (leb timer (wrapSub now (s .since))) (spares rule i) emptySlot s
@@ -129,6 +130,32 @@ lost-one now timer rule i s =
     go true p h = refl
     go false true h = rw h
     go false false h = refl
+
+-- the same of the half that a place holds
+lost-half : (m n a b : ℕ) (x y : Record) → asBit (both (not (eqb m 0)) (not (not (eqb n 0)))) ≡ lost (halfOf m a x) (halfOf n b y)
+lost-half zero n a b x y = refl
+lost-half (suc zero) zero a b x y = refl
+lost-half (suc zero) (suc zero) a b x y = refl
+lost-half (suc zero) (suc (suc n)) a b x y = rw (ne-eqb (suc (suc n)) 0 (λ q. omega arith))
+lost-half (suc (suc m)) zero a b x y = rw (ne-eqb (suc (suc m)) 0 (λ q. omega arith))
+lost-half (suc (suc m)) (suc zero) a b x y = rw (ne-eqb (suc (suc m)) 0 (λ q. omega arith))
+lost-half (suc (suc m)) (suc (suc n)) a b x y = rw (ne-eqb (suc (suc m)) 0 (λ q. omega arith), ne-eqb (suc (suc n)) 0 (λ q. omega arith))
+
+lost-slot : (a b : ℕ) (s u : Slot) → asBit (both (isHeld s) (not (isHeld u))) ≡ lost (heldOf a s) (heldOf b u)
+lost-slot a b s u = lost-half (s .half) (u .half) (wrapSub a (s .since)) (wrapSub b (u .since)) (s .«record») (u .«record»)
+
+module _ (last now timer : ℕ) (s : Slot) (sound : Sound last timer s) (a : last < 2 ^ 32) (b : now < 2 ^ 32) (short : timer ≤ longestTimer) (step : wrapSub now last < lateStep) where
+  -- the clock alone
+  kept-aged : (i : ℕ) → heldOf now (keptOf now timer keep i s) ≡ aged timer (wrapSub now last) (heldOf last s)
+  kept-aged i = kept-held last now timer s sound a b short step keep i ∙ rw (spares-keep i)
+
+  pub expired-half : asBit (ranOutOf now timer s) ≡ lost (heldOf last s) (aged timer (wrapSub now last) (heldOf last s))
+  expired-half = expired-one now timer 0 s ∙ lost-slot last now s (keptOf now timer keep 0 s) ∙ ap (lost (heldOf last s)) (kept-aged 0)
+
+  pub dropped-half : (rule : Rule) (i : ℕ) → asBit (takenOf now timer rule i s) ≡ lost (aged timer (wrapSub now last) (heldOf last s)) (heldOf now (keptOf now timer rule i s))
+  dropped-half rule i =
+      dropped-one now timer rule i s ∙ lost-slot now now (keptOf now timer keep i s) (keptOf now timer rule i s)
+      ∙ ap (λ (h : Option Half). lost h (heldOf now (keptOf now timer rule i s))) (kept-aged i)
 
 module _ (now : ℕ) (timer : ℕ → ℕ) (rule : Rule) where
   pub expired-all : (i : ℕ) (l : List Slot)

@@ -56,7 +56,7 @@ module _ (keys : List ℕ) (ch now : ℕ) (slots : List Slot) (e : Record) {key 
 -- ## All entries
 
 module _ (keys : List ℕ) (ch now : ℕ) where
-  after-snoc : (slots : List Slot) (es : List Record) (e : Record)
+  pub after-snoc : (slots : List Slot) (es : List Record) (e : Record)
       → allAfter keys ch now slots (es ++ (e ∷ [])) ≡ slotsAfter keys ch now (allAfter keys ch now slots es) e
   unfolding allAfter
   after-snoc slots [] e = refl

@@ -15,10 +15,10 @@ use Rattle.receiver.specs.Model.{agree, joinedOf}
 use Rattle.receiver.specs.Channels.{Channel}
 use Rattle.receiver.specs.Step.{Cause, nothing, joining, moving, numbered}
 use Rattle.receiver.specs.One.{mayLead, goneBy, Kind, clear, piece, first, second, bare, unusable, kindOf, Which, theFirst, theSecond, Half, One, Known, says, stored}
-use Rattle.receiver.specs.One.{met, meetKind, meetOne, Seen, aged, changed, heldAfter, sparedBy, spared, passed, stepOne, fresh}
+use Rattle.receiver.specs.One.{met, meetKind, meetOne, Seen, aged, changed, heldAfter, sparedBy, spared, passed, stepOne, oneAfter, fresh}
 use Rattle.receiver.specs.History.{Moment, wait, happens, entry, followed, opened, untilEntry, afterEvent, pastOf, lastKnown, took, elapsed, Opposite}
 use Rattle.receiver.specs.History.{Storable, Same-nln, Leaves, Spares, Begins, younger, Standing, All-spare, Came-and-stayed}
-use Rattle.receiver.specs.Promises.{oneAfter, heldBefore}
+use Rattle.receiver.specs.Promises.{heldBefore}
 
 -- ## The history told from its end, and from the coming of the half
 

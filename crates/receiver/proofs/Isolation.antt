@@ -1,7 +1,7 @@
 -- The receiver of all calls, seen by one call on one channel, is the one-call receiver. Assumes nothing.
 use mathlib.Core.Path.{_≡_, refl, sym, ap, ap₂, _∙_}
 use mathlib.Core.Bool.{Bool, true, false, not}
-use mathlib.Core.List.{List, [], _∷_, _++_}
+use mathlib.Core.List.{List, [], _∷_, _++_, flatten}
 use mathlib.Core.Option.{Option, none, some}
 use Prim.Native.Nat.{ℕ, _^_, _≤_, _<_}
 use native.Mathlib.Nat.{zero-add}
@@ -21,9 +21,10 @@ use Rattle.receiver.specs.Channels.{keyCount, places, Channel, numberOf,
 use Rattle.receiver.specs.Model.{emptySlot, noNln, longestTimer, wrapSub, lateStep, late, indexOf, spares, timerAt, keptOf, sweptSlots}
 use Rattle.receiver.specs.Step.{Event, Cause, nothing, joining, moving, numbered, Content, contentOf, changes, cellAfter, taking, sparing}
 use Rattle.receiver.specs.Step.{ruleBy, ruleOf, groundsOf, refusalOf, refusedWith, acceptedAs, stepOf}
-use Rattle.receiver.specs.One.{showsNln, goneBy, forgottenBy, Half, Known, One, Sight, Seen, stepBetween, accepts, seen, aged, knownAfter}
-use Rattle.receiver.specs.One.{heldAfter, saidOf, sparedBy, spared, passed, stepOne, stepSaid, runOne}
-use Rattle.receiver.specs.Promises.{under, answersOn, answers, Ticks, after, oneAfter, heldOf, slotIn}
+use Rattle.receiver.specs.One.{showsNln, goneBy, forgottenBy, Half, Known, One, Said, Sight, sightOf, stepBetween, accepts, sees, seen, aged, knownAfter}
+use Rattle.receiver.specs.One.{heldAfter, saidOf, sparedBy, spared, passed, stepOne, stepSaid, runOne, runEach, oneAfter}
+use Rattle.receiver.specs.Calls.{clockAfter}
+use Rattle.receiver.specs.Promises.{under, answersOn, answers, answersEach, Ticks, after, heldOf, slotIn}
 use Rattle.receiver.proofs.Tables.{shows-same, drops-same, forgets-same, shown, showing, sight-same}
 use Rattle.receiver.proofs.Places.{place-lt, timerIn, timer-at, spares-at}
 use Rattle.receiver.proofs.Keys.{same-index}
@@ -53,7 +54,7 @@ pub record Good (key : ℕ) (c : Channel) (r : Receiver) : Type 0 where
 
 -- ## What an event drops
 
-swept-slot : (key : ℕ) (c : Channel) (r : Receiver) → Good key c r → (now : ℕ) (rule : Rule)
+pub swept-slot : (key : ℕ) (c : Channel) (r : Receiver) → Good key c r → (now : ℕ) (rule : Rule)
     → getD (sweptSlots r now rule) (placeAt (r .keys) key c) emptySlot ≡ keptOf now (timerIn c r) rule (placeAt (r .keys) key c) (slotIn key c r)
 unfolding sweptSlots
 swept-slot key c r g now rule =
@@ -114,19 +115,22 @@ known-same c l (numbered n) z = rw (shows-same c) (seen-next (showsNln c) (l .nl
 
 -- ## The entries of an event
 
-abbrev contentIn : Event → Content
+abbrev pub contentIn : Event → Content
 contentIn e = contentOf (e .happening)
 
 abbrev seenIn : ℕ → Channel → Event → Sight
-seenIn key c e = showing key c (contentIn e)
+seenIn key c e = sightOf key c (e .happening)
 
-abbrev acceptedOf : Receiver → Event → Answer
+same-seen : (key : ℕ) (c : Channel) (e : Event) → seenIn key c e ≡ showing key c (contentIn e)
+same-seen key c e = sight-same key c (e .happening)
+
+abbrev pub acceptedOf : Receiver → Event → Answer
 acceptedOf r e = acceptedAs r (e .tick) (contentIn e)
 
-abbrev sweptBy : Receiver → Event → List Slot
+abbrev pub sweptBy : Receiver → Event → List Slot
 sweptBy r e = sweptSlots r (e .tick) (ruleOf r e)
 
-abbrev leftIn : ℕ → Channel → Receiver → Event → Slot
+abbrev pub leftIn : ℕ → Channel → Receiver → Event → Slot
 leftIn key c r e = getD (sweptBy r e) (placeAt (r .keys) key c) emptySlot
 
 -- what they do at the place of a call, beside what they do at its own receiver
@@ -135,7 +139,7 @@ record Acts (key : ℕ) (c : Channel) (r : Receiver) (e : Event) : Type 0 where
   said : answersOn key c e (acceptedOf r e) ≡ saidOf c (heldOf (e .tick) (leftIn key c r e)) (seenIn key c e .entries)
   sound : Sound (e .tick) (timerIn c r) (slotIn key c (acceptedOf r e .receiver))
 
-length-swept : (r : Receiver) (now : ℕ) (rule : Rule) → length (r .slots) ≡ places → length (sweptSlots r now rule) ≡ places
+pub length-swept : (r : Receiver) (now : ℕ) (rule : Rule) → length (r .slots) ≡ places → length (sweptSlots r now rule) ≡ places
 unfolding sweptSlots
 length-swept r now rule h = length-mapAt (λ i s. keptOf now (timerAt r i) rule i s) 0 (r .slots) ∙ h
 
@@ -145,7 +149,7 @@ module _ (key : ℕ) (c : Channel) (r : Receiver) (g : Good key c r) (e : Event)
   unfolding answersOn heldAfter saidOf
   acts-other n =
       let o = other-channel (r .keys) (e .tick) key c (contentIn e .channel) (eqb-false (numberOf c) (numberOf (contentIn e .channel)) n) (sweptBy r e) (contentIn e .entries) in
-      record { held = rw (n, o); said = rw n; sound = rw o p }
+      record { held = rw (same-seen key c e, n, o); said = rw (same-seen key c e, n); sound = rw o p }
 
   -- entries on its own channel
   acts-own : groundsOf (e .happening) .number ≡ 0 → same c (contentIn e .channel) ≡ true → Acts key c r e
@@ -154,9 +158,9 @@ module _ (key : ℕ) (c : Channel) (r : Receiver) (g : Good key c r) (e : Event)
       let a : numberOf (contentIn e .channel) ≡ numberOf c = sym (eqb-true (numberOf c) (numberOf (contentIn e .channel)) n) in
       let x = entries (r .keys) (e .tick) key c (g .keyed) (g .subscribed) (timerIn c r) k (g .long) (sweptBy r e) (contentIn e .entries) (length-swept r (e .tick) (ruleOf r e) (g .places)) p in
       record {
-        held = rw (n, a) (x .held);
+        held = rw (same-seen key c e, n, a) (x .held);
         said =
-            rw n
+            rw (same-seen key c e, n)
             (ap (under key) (told-back (r .keys) (numberOf (contentIn e .channel)) (e .tick) (sweptBy r e) (contentIn e .entries) (few (e .happening) z)) ∙ rw a (x .said));
         sound = rw a (x .sound);
       }
@@ -171,25 +175,25 @@ pub record Accepted (r : Receiver) (e : Event) : Type 0 where
   pub short : wrapSub (e .tick) (r .tick) < lateStep
   pub allowed : groundsOf (e .happening) .number ≡ 0
 
-accepted : (r : Receiver) (e : Event) → accepts (r .tick) e ≡ true → Accepted r e
+pub accepted : (r : Receiver) (e : Event) → accepts (r .tick) e ≡ true → Accepted r e
 unfolding accepts
 accepted r e p =
     let b = both-true (ltb (wrapSub (e .tick) (r .tick)) (2 ^ 31)) (eqb (groundsOf (e .happening) .number) 0) p in
     record { short = ltb-true (wrapSub (e .tick) (r .tick)) (2 ^ 31) (b .0); allowed = eqb-true (groundsOf (e .happening) .number) 0 (b .1) }
 
 -- both receivers refuse the same events
-accepts-same : (r : Receiver) (e : Event) → accepts (r .tick) e ≡ eqb (refusalOf r e .number) 0
+pub accepts-same : (r : Receiver) (e : Event) → accepts (r .tick) e ≡ eqb (refusalOf r e .number) 0
 unfolding accepts refusalOf late ground
 accepts-same r e =
     by-test (leb lateStep (wrapSub (e .tick) (r .tick)))
     (λ p. rw (p, le-ltb (wrapSub (e .tick) (r .tick)) lateStep (leb-true lateStep (wrapSub (e .tick) (r .tick)) p)))
     (λ p. rw (p, lt-ltb (wrapSub (e .tick) (r .tick)) lateStep (leb-false lateStep (wrapSub (e .tick) (r .tick)) p)))
 
-stepped : (r : Receiver) (e : Event) → accepts (r .tick) e ≡ true → stepOf r e ≡ acceptedOf r e
+pub stepped : (r : Receiver) (e : Event) → accepts (r .tick) e ≡ true → stepOf r e ≡ acceptedOf r e
 unfolding stepOf
 stepped r e p = rw (sym (accepts-same r e) ∙ p)
 
-not-stepped : (r : Receiver) (e : Event) → accepts (r .tick) e ≡ false → stepOf r e ≡ refusedWith r (refusalOf r e)
+pub not-stepped : (r : Receiver) (e : Event) → accepts (r .tick) e ≡ false → stepOf r e ≡ refusedWith r (refusalOf r e)
 unfolding stepOf
 not-stepped r e p = rw (sym (accepts-same r e) ∙ p)
 
@@ -197,39 +201,36 @@ not-answered : (key : ℕ) (c : Channel) (r : Receiver) (e : Event) → answersO
 unfolding answersOn under
 not-answered key c r e = by-test (same c (contentIn e .channel)) (λ p. rw p) (λ p. rw p)
 
-abbrev seenOf : ℕ → Channel → Receiver → Event → Seen
-seenOf key c r e = record { step = stepBetween (r .tick) (e .tick); sight = seenIn key c e }
-
 module _ (key : ℕ) (c : Channel) (r : Receiver) (g : Good key c r) (e : Event) (k : e .tick < 2 ^ 32) (a : Accepted r e) where
-  left-sound : Sound (e .tick) (timerIn c r) (leftIn key c r e)
+  pub left-sound : Sound (e .tick) (timerIn c r) (leftIn key c r e)
   left-sound =
       rw (swept-slot key c r g (e .tick) (ruleOf r e))
       (kept-sound (r .tick) (e .tick) (timerIn c r) (slotIn key c r) (g .sound) (g .ticking) k (g .short) (a .short) (ruleOf r e) (placeAt (r .keys) key c))
 
   -- what is left before the entries
-  left-same : heldOf (e .tick) (leftIn key c r e) ≡ spared key c (passed (timerIn c r) (view key c r) (stepBetween (r .tick) (e .tick))) (seenIn key c e)
+  pub left-same : heldOf (e .tick) (leftIn key c r e) ≡ spared key c (passed (timerIn c r) (view key c r) (stepBetween (r .tick) (e .tick))) (seenIn key c e)
   left-same =
       ap (heldOf (e .tick)) (swept-slot key c r g (e .tick) (ruleOf r e))
       ∙ kept-held (r .tick) (e .tick) (timerIn c r) (slotIn key c r) (g .sound) (g .ticking) k (g .short) (a .short) (ruleOf r e) (placeAt (r .keys) key c)
-      ∙ sym (spared-same key r (g .keyed) (g .subscribed) c (contentIn e .cause) (aged (timerIn c r) (wrapSub (e .tick) (r .tick)) (heldOf (r .tick) (slotIn key c r))))
+      ∙ sym (rw (same-seen key c e) (spared-same key r (g .keyed) (g .subscribed) c (contentIn e .cause) (aged (timerIn c r) (wrapSub (e .tick) (r .tick)) (heldOf (r .tick) (slotIn key c r)))))
 
   acted : Acts key c r e
   acted = acts key c r g e k left-sound (a .allowed)
 
-  step-view : view key c (acceptedOf r e .receiver) ≡ stepOne key c (timerIn c r) (view key c r) (seenOf key c r e)
+  step-view : view key c (acceptedOf r e .receiver) ≡ stepOne key c (timerIn c r) (view key c r) (sees key c (r .tick) e)
   unfolding stepOne
   step-view =
       λ i.
       record {
         held = (acted .held ∙ ap (λ (h : Option Half). heldAfter c h (seenIn key c e .entries)) left-same) i;
-        cell = known-same c (r .cell) (contentIn e .cause) (low (e .happening) (a .allowed)) i;
+        cell = (known-same c (r .cell) (contentIn e .cause) (low (e .happening) (a .allowed)) ∙ ap (λ (v : Sight). knownAfter (known c (r .cell)) (v .cause)) (sym (same-seen key c e))) i;
       }
 
-  step-said : answersOn key c e (acceptedOf r e) ≡ stepSaid key c (timerIn c r) (view key c r) (seenOf key c r e)
+  pub step-said : answersOn key c e (acceptedOf r e) ≡ stepSaid key c (timerIn c r) (view key c r) (sees key c (r .tick) e)
   unfolding stepSaid
   step-said = acted .said ∙ ap (λ (h : Option Half). saidOf c h (seenIn key c e .entries)) left-same
 
-  step-good : Good key c (acceptedOf r e .receiver)
+  pub step-good : Good key c (acceptedOf r e .receiver)
   step-good =
       record {
         places = length-all (r .keys) (e .tick) (numberOf (contentIn e .channel)) (sweptBy r e) (contentIn e .entries) ∙ length-swept r (e .tick) (ruleOf r e) (g .places);
@@ -244,17 +245,33 @@ module _ (key : ℕ) (c : Channel) (r : Receiver) (g : Good key c r) (e : Event)
 -- ## Any events
 
 pub isolated : (key : ℕ) (c : Channel) (r : Receiver) → Good key c r → (es : List Event) → Ticks es
-    → answers key c r es ≡ runOne key c (timerIn c r) (view key c r) (seen key c (r .tick) es)
-unfolding answers runOne seen
+    → answersEach key c r es ≡ runEach key c (timerIn c r) (view key c r) (r .tick) es
+unfolding answersEach runEach
 isolated key c r g [] t = refl
 isolated key c r g (e ∷ es) t =
     by-test (accepts (r .tick) e)
     (λ p.
     let a = accepted r e p in
     let q = isolated key c (acceptedOf r e .receiver) (step-good key c r g e (t .0) a) es (t .1) in
-    rw (stepped r e p, p, sight-same key c (e .happening))
-    (ap₂ _++_ (step-said key c r g e (t .0) a) (q ∙ ap (λ (o : One). runOne key c (timerIn c r) o (seen key c (e .tick) es)) (step-view key c r g e (t .0) a))))
-    (λ p. rw (not-stepped r e p, p, not-answered key c r e) (isolated key c r g es (t .1)))
+    rw (stepped r e p, p)
+    (ap₂ (λ (x : List Said) (y : List (List Said)). x ∷ y) (step-said key c r g e (t .0) a)
+    (q ∙ ap (λ (o : One). runEach key c (timerIn c r) o (e .tick) es) (step-view key c r g e (t .0) a))))
+    (λ p. rw (not-stepped r e p, p, not-answered key c r e) (ap (λ (y : List (List Said)). [] ∷ y) (isolated key c r g es (t .1))))
+
+-- all in one list
+pub answers-flat : (key : ℕ) (c : Channel) (r : Receiver) (es : List Event) → flatten (answersEach key c r es) ≡ answers key c r es
+unfolding answersEach answers flatten
+answers-flat key c r [] = refl
+answers-flat key c r (e ∷ es) = ap (λ (l : List Said). answersOn key c e (stepOf r e) ++ l) (answers-flat key c (stepOf r e .receiver) es)
+
+pub says-flat : (key : ℕ) (c : Channel) (timer : ℕ) (o : One) (last : ℕ) (es : List Event)
+    → flatten (runEach key c timer o last es) ≡ runOne key c timer o (seen key c last es)
+unfolding runEach seen runOne flatten
+says-flat key c timer o last [] = refl
+says-flat key c timer o last (e ∷ es) =
+    by-test (accepts last e)
+    (λ p. rw p (ap (λ (l : List Said). stepSaid key c timer o (sees key c last e) ++ l) (says-flat key c timer (stepOne key c timer o (sees key c last e)) (e .tick) es)))
+    (λ p. rw p (says-flat key c timer o last es))
 
 pub viewed : (key : ℕ) (c : Channel) (r : Receiver) → Good key c r → (es : List Event) → Ticks es
     → view key c (after r es) ≡ oneAfter key c (timerIn c r) (view key c r) (seen key c (r .tick) es)
@@ -266,5 +283,23 @@ viewed key c r g (e ∷ es) t =
     let a = accepted r e p in
     let q = viewed key c (acceptedOf r e .receiver) (step-good key c r g e (t .0) a) es (t .1) in
     ap (λ (b : Answer). view key c (after (b .receiver) es)) (stepped r e p)
-    ∙ rw (p, sight-same key c (e .happening)) (q ∙ ap (λ (o : One). oneAfter key c (timerIn c r) o (seen key c (e .tick) es)) (step-view key c r g e (t .0) a)))
+    ∙ rw p (q ∙ ap (λ (o : One). oneAfter key c (timerIn c r) o (seen key c (e .tick) es)) (step-view key c r g e (t .0) a)))
     (λ p. ap (λ (b : Answer). view key c (after (b .receiver) es)) (not-stepped r e p) ∙ rw p (viewed key c r g es (t .1)))
+
+-- what accepted events keep
+pub after-keeps : (P : Receiver → Type 0) → ((r : Receiver) (e : Event) → e .tick < 2 ^ 32 → Accepted r e → P r → P (acceptedOf r e .receiver))
+    → (r : Receiver) → P r → (es : List Event) → Ticks es → P (after r es)
+unfolding after
+after-keeps P f r p [] t = p
+after-keeps P f r p (e ∷ es) t =
+    by-test (accepts (r .tick) e)
+    (λ q. rw (stepped r e q) (after-keeps P f (acceptedOf r e .receiver) (f r e (t .0) (accepted r e q) p) es (t .1)))
+    (λ q. rw (not-stepped r e q) (after-keeps P f r p es (t .1)))
+
+pub tick-after : (r : Receiver) (es : List Event) → after r es .tick ≡ clockAfter (r .tick) es
+unfolding after clockAfter
+tick-after r [] = refl
+tick-after r (e ∷ es) =
+    by-test (accepts (r .tick) e)
+    (λ q. ap (λ (b : Answer). after (b .receiver) es .tick) (stepped r e q) ∙ rw q (tick-after (acceptedOf r e .receiver) es))
+    (λ q. ap (λ (b : Answer). after (b .receiver) es .tick) (not-stepped r e q) ∙ rw q (tick-after r es))

@@ -11,7 +11,7 @@ use lib.Seq.{drop-cons}
 use borrow.Author.Tests.{eqb-true, eq-eqb, ne-eqb, lt-ltb, le-ltb, ltb-true, ltb-false, le-leb, lt-leb}
 use Rattle.bits.specs.Field.{both, pick}
 use Rattle.bits.proofs.Answers.{both-true}
-use Rattle.receiver.specs.Model.{lastKey, indexOf, keysRight, keyPlaces}
+use Rattle.receiver.specs.Model.{lastKey, noKey, indexOf, keysRight, keyPlaces}
 use Rattle.receiver.specs.Store.{standsFrom}
 use Rattle.receiver.proofs.Dropping.{by-test}
 
@@ -31,7 +31,7 @@ pub same-index : (ks : List ℕ) (a b : ℕ) → indexOf ks a < length ks → in
 same-index ks a b h e = sym (found ks a h) ∙ rw e (found ks b (rw e at h))
 
 -- a key is found no later than where it stands
-no-later : (ks : List ℕ) (i d : ℕ) → i < length ks → indexOf ks (getD ks i d) ≤ i
+pub no-later : (ks : List ℕ) (i d : ℕ) → i < length ks → indexOf ks (getD ks i d) ≤ i
 unfolding indexOf
 no-later [] i d h = absurd (omega arith)
 no-later (k ∷ ks) zero d h = rw (eq-eqb k k refl) (omega arith)
@@ -62,6 +62,24 @@ own-index (suc n) (k ∷ ks) l r (suc i) d h =
 pub lent-index : (n : ℕ) (ks : List ℕ) → length ks ≤ n → keysRight ks ≡ true → (key : ℕ) → indexOf ks key < length ks → indexOf (keyPlaces n ks) key ≡ indexOf ks key
 lent-index n ks l r key h = rw (found ks key h) at (own-index n ks l r (indexOf ks key) 0 h)
 
+ltb-suc : (a b : ℕ) → ltb (suc a) (suc b) ≡ ltb a b
+ltb-suc a b = go (ltb a b) refl
+  where
+    go : (t : Bool) → ltb a b ≡ t → ltb (suc a) (suc b) ≡ t
+    go true e = lt-ltb (suc a) (suc b) (omega (arith, ltb-true a b e))
+    go false e = le-ltb (suc a) (suc b) (omega (arith, ltb-false a b e))
+
+-- a key that a subscription may have is in the key places exactly where it was lent
+pub low-index : (n : ℕ) (ks : List ℕ) (key : ℕ) → length ks ≤ n → key ≤ lastKey → ltb (indexOf (keyPlaces n ks) key) n ≡ ltb (indexOf ks key) (length ks)
+unfolding indexOf
+low-index zero [] key h l = refl
+low-index zero (k ∷ ks) key h l = absurd (omega arith)
+low-index (suc n) [] key h l = rw (ne-eqb noKey key (λ q. omega arith)) (ltb-suc (indexOf (keyPlaces n []) key) n ∙ low-index n [] key (omega arith) l)
+low-index (suc n) (k ∷ ks) key h l =
+    by-test (eqb k key)
+    (λ p. rw p (lt-ltb 0 (suc n) (omega arith) ∙ sym (lt-ltb 0 (suc (length ks)) (omega arith))))
+    (λ p. rw p (ltb-suc (indexOf (keyPlaces n ks) key) n ∙ low-index n ks key (omega arith) l ∙ sym (ltb-suc (indexOf ks key) (length ks))))
+
 -- ## One key after the other, as the code looks
 
 pub index-here : (ks : List ℕ) (key i d : ℕ) → i < length ks → getD ks i d ≡ key → indexOf (drop i ks) key ≡ 0
@@ -86,13 +104,6 @@ unfolding indexOf
 index-past ks key i h = rw (drop-of-length-le ks {i = i} h)
 
 -- ## Whether a key stands from a place on
-
-ltb-suc : (a b : ℕ) → ltb (suc a) (suc b) ≡ ltb a b
-ltb-suc a b = go (ltb a b) refl
-  where
-    go : (t : Bool) → ltb a b ≡ t → ltb (suc a) (suc b) ≡ t
-    go true e = lt-ltb (suc a) (suc b) (omega (arith, ltb-true a b e))
-    go false e = le-ltb (suc a) (suc b) (omega (arith, ltb-false a b e))
 
 module _ (ks : List ℕ) (key i d : ℕ) where
   pub stands-here : i < length ks → getD ks i d ≡ key → standsFrom ks key i ≡ true

@@ -13,8 +13,13 @@ pub mod Standing
 pub mod Accepted
 pub mod Isolation
 pub mod Beginning
+pub mod LowKeys
+pub mod Totals
+pub mod Calls
+pub mod Replies
 pub mod Joining
 pub mod Promises
+pub mod Shared
 pub mod Entering
 pub mod Grounds
 pub mod History

@@ -1,26 +1,38 @@
 -- The promises of specs/Promises. Assumes nothing.
-use mathlib.Core.Path.{refl, sym, ap, _∙_}
-use mathlib.Core.List.{List, []}
+use mathlib.Core.Path.{_≡_, refl, sym, ap, _∙_}
+use mathlib.Core.List.{List, [], flatten}
 use mathlib.Core.Option.{Option}
 use lib.Dec.{eqb}
+use lib.ListN.{getD}
 use borrow.Author.Tests.{eqb-false}
 use Rattle.csn1.specs.declared.Refusal.{Refusal}
-use Rattle.receiver.specs.Model.{noRecord, timerAt, sweptSlots, expiredOf, droppedOf}
+use Rattle.receiver.specs.Model.{noRecord, timerAt, sweptSlots, expiredOf, droppedOf, startedOf}
 use Rattle.receiver.specs.Step.{refusalOf, ruleOf, stepOf}
-use Rattle.receiver.specs.One.{Half, One, spared, passed, stepSaid, fresh}
+use Rattle.receiver.specs.One.{Half, One, Said, sees, seen, spared, passed, stepSaid, oneAfter, fresh}
 use Rattle.receiver.specs.History.{Moment, untilEntry, pastOf}
-use Rattle.receiver.specs.Promises.{No-call-disturbs-another, Joins-exactly-when, oneAfter, Held-is-history, Joins-exactly-when-over-history, A-refused-event-changes-nothing}
+use Rattle.receiver.specs.Calls.{timerOf, notOurs, lastTick, callAfter}
+use Rattle.receiver.specs.Promises.{No-call-disturbs-another, No-call-disturbs-another-at-any-event}
+use Rattle.receiver.specs.Promises.{Joins-exactly-when, Held-is-history, Joins-exactly-when-over-history, A-refused-event-changes-nothing}
+use Rattle.receiver.specs.Promises.{saidAt, heardAt, A-call-joins-exactly-when, A-reply-and-a-receiver-are-an-answer, The-answer-is-the-calls}
 use Rattle.receiver.specs.Promises.{The-number-is-on-its-ground, The-wrapped-difference-is-the-sum, Every-lost-half-is-counted-once, Expiries-and-drops-are-counted-apart}
 use Rattle.receiver.proofs.Dropping.{by-test, expired-all, dropped-all, lost-all}
 use Rattle.receiver.proofs.Joining.{young-aged, young-spared, joins-only, joins-then}
 use Rattle.receiver.proofs.Grounds.{refused-as, late-first, in-time, on-ground}
 use Rattle.receiver.proofs.History.{came, stayed, held-after, held-until}
-use Rattle.receiver.proofs.Isolation.{isolated, viewed}
+use Rattle.receiver.proofs.Isolation.{isolated, answers-flat, says-flat, viewed}
+use Rattle.receiver.proofs.Calls.{state, said-is, long, not-refused}
+use Rattle.receiver.proofs.Replies.{reply}
 use Rattle.receiver.proofs.Beginning.{started, starts, started-good, started-view}
 
+pub no-call-disturbs-another-at-any-event : No-call-disturbs-another-at-any-event
+no-call-disturbs-another-at-any-event s keys t z key h c es ts =
+    rw (starts s keys z, ← started-view s keys t z key h c) (isolated key c (started s keys) (started-good s keys t z key h c) es ts)
+
+-- the same in one list
 pub no-call-disturbs-another : No-call-disturbs-another
 no-call-disturbs-another s keys t z key h c es ts =
-    rw (starts s keys z, ← started-view s keys t z key h c) (isolated key c (started s keys) (started-good s keys t z key h c) es ts)
+    sym (answers-flat key c (startedOf s keys .receiver) es) ∙ ap flatten (no-call-disturbs-another-at-any-event s keys t z key h c es ts)
+    ∙ says-flat key c (timerOf c s) fresh (s .tick) es
 
 pub the-wrapped-difference-is-the-sum : The-wrapped-difference-is-the-sum
 the-wrapped-difference-is-the-sum s keys t z key h c es ts =
@@ -58,6 +70,15 @@ joins-exactly-when-over-history key c timer long vs v k l =
           }) .0,
     )
 
+pub a-call-joins-exactly-when : A-call-joins-exactly-when
+a-call-joins-exactly-when s keys t z key h c es ts e k n i l =
+    let m : stepOf (state s keys t z es ts) e .refusal .number ≡ 0 = rw (starts s keys z) at n in
+    let p = said-is s keys t z es ts key h c e k (not-refused (state s keys t z es ts) e m) in
+    let q : heardAt s keys es e key c i ≡ saidAt key c (timerOf c s) (callAfter s es key c) (sees key c (lastTick s es) e) i =
+    rw (starts s keys z) (ap (λ (x : List Said). getD x i notOurs) p) in
+    let j = joins-exactly-when-over-history key c (timerOf c s) (long s keys t z es ts key h c) (seen key c (s .tick) es) (sees key c (lastTick s es) e) i l in
+    (λ x. j .0 (sym (ap (λ (w : Said). w .number) q) ∙ x), λ o. q ∙ j .1 o)
+
 pub a-refused-event-changes-nothing : A-refused-event-changes-nothing
 unfolding stepOf
 a-refused-event-changes-nothing r e n =
@@ -84,3 +105,18 @@ expiries-and-drops-are-counted-apart r e z =
       dropped-all (e .tick) (timerAt r) (ruleOf r e) 0 (r .slots),
     ))
     (λ p. absurd (eqb-false (refusalOf r e .number) 0 p (rw p at z)))
+
+pub a-reply-and-a-receiver-are-an-answer : A-reply-and-a-receiver-are-an-answer
+a-reply-and-a-receiver-are-an-answer a b p q =
+    λ i.
+    record {
+      refusal = p i .refusal;
+      expired = p i .expired;
+      dropped = p i .dropped;
+      count = p i .count;
+      entries = p i .entries;
+      receiver = q i;
+    }
+
+pub the-answer-is-the-calls : The-answer-is-the-calls
+the-answer-is-the-calls s keys t z es ts e k = rw (starts s keys z) (reply s keys t z es ts e k)

@@ -42,7 +42,7 @@ placeAt keys key c = placeOn (indexOf keys key) (numberOf c)
 -- ## The entries of a message
 
 -- an answer as one call hears it
-abbrev saidIn : Told → Said
+abbrev pub saidIn : Told → Said
 saidIn t = record { number = t .number; told = t .«record» }
 
 module _ (keys : List ℕ) (now : ℕ) where
@@ -56,7 +56,7 @@ module _ (keys : List ℕ) (now : ℕ) where
   length-all ch l (e ∷ es) = length-all ch (slotsAfter keys ch now l e) es ∙ length-after ch l e
 
   -- an entry leaves every place but its own
-  missed : (ch i : ℕ) (l : List Slot) (e : Record) → (i ≡ placeOf keys ch e → ⊥) → getD (slotsAfter keys ch now l e) i emptySlot ≡ getD l i emptySlot
+  pub missed : (ch i : ℕ) (l : List Slot) (e : Record) → (i ≡ placeOf keys ch e → ⊥) → getD (slotsAfter keys ch now l e) i emptySlot ≡ getD l i emptySlot
   unfolding slotsAfter
   missed ch i l e n =
       by-test (ours keys e) (λ p. rw p (getD-set-other l (placeOf keys ch e) i (metAt keys ch now l e .held) emptySlot n)) (λ p. rw p)
@@ -91,11 +91,11 @@ module _ (keys : List ℕ) (now : ℕ) where
           → heldOf now (getD (slotsAfter keys (numberOf c) now l e) (placeAt keys key c) emptySlot) ≡ meetOne c (heldOf now (getD l (placeAt keys key c) emptySlot)) e .held
       our-held l e n h p = ap (heldOf now) (our-slot l e n p) ∙ ap (λ (x : Heard). x .held) (meet-same c now (getD l (placeAt keys key c) emptySlot) e h)
 
-      told-key : (l : List Slot) (e : Record) → toldOf keys (numberOf c) now l e .key ≡ keyOf (e .call)
+      pub told-key : (l : List Slot) (e : Record) → toldOf keys (numberOf c) now l e .key ≡ keyOf (e .call)
       unfolding toldOf
       told-key l e = by-test (ours keys e) (λ p. rw p) (λ p. rw p)
 
-      our-said : (l : List Slot) (e : Record) → getD l (placeAt keys key c) emptySlot .half ≤ 2 → keyOf (e .call) ≡ key
+      pub our-said : (l : List Slot) (e : Record) → getD l (placeAt keys key c) emptySlot .half ≤ 2 → keyOf (e .call) ≡ key
           → saidIn (toldOf keys (numberOf c) now l e) ≡ meetOne c (heldOf now (getD l (placeAt keys key c) emptySlot)) e .said
       unfolding toldOf
       our-said l e h p =

@@ -9,7 +9,7 @@ use Rattle.receiver.specs.declared.Move.{Move}
 use Rattle.receiver.specs.declared.Move.the-variants.{Reselection, Handover, Reconfiguration}
 use Rattle.receiver.specs.Channels.{asks, leads, Channel, onNch, onFacch, numberOf, hasNln, same, drops, forgets}
 use Rattle.receiver.specs.Step.{Happening, heardNch, heardFacch, joins, moves, passes, Cause, nothing, joining, moving, numbered, numbering, Content, contentOf}
-use Rattle.receiver.specs.One.{hasSegments, mayLead, showsNln, hears, goneBy, forgottenBy, Sight, mine, nlnSeen, sightOf}
+use Rattle.receiver.specs.One.{hasSegments, mayLead, showsNln, hears, goneBy, forgottenBy, listedIn, Sight, mine, nlnSeen, causeSeen, sightOf}
 
 -- ## The tables
 
@@ -64,20 +64,21 @@ nln-same c true false n e = refl
 nln-same c false true n e = rw e
 nln-same c false false n e = refl
 
--- an event without entries
-none-seen : (key : ℕ) (c : Channel) (x : Cause) → _≡_ {A = Sight} (record { cause = x; entries = [] }) (record { cause = x; entries = pick (same c onNch) (mine key []) [] })
-unfolding mine
-none-seen key c x = go (same c onNch)
-  where
-    go : (b : Bool) → _≡_ {A = Sight} (record { cause = x; entries = [] }) (record { cause = x; entries = pick b [] [] })
-    go true = refl
-    go false = refl
+-- its entries and their channel; what may discard a half
+pub listed-same : (h : Happening) → listedIn h ≡ record { channel = contentOf h .channel; entries = contentOf h .entries }
+listed-same (heardNch s) = refl
+listed-same (heardFacch s) = refl
+listed-same (joins k) = refl
+listed-same (moves m) = refl
+listed-same passes = refl
+
+cause-same : (c : Channel) (h : Happening) → causeSeen c h ≡ shown c (contentOf h .cause)
+cause-same c (heardNch s) = nln-same c (showsNln c) (readOf s .«record» .numbered) (readOf s .«record» .nln) (shows-same c)
+cause-same c (heardFacch s) = refl
+cause-same c (joins k) = refl
+cause-same c (moves m) = refl
+cause-same c passes = refl
 
 pub sight-same : (key : ℕ) (c : Channel) (h : Happening) → sightOf key c h ≡ showing key c (contentOf h)
 unfolding sightOf
-sight-same key c (heardNch s) =
-    rw (← hears-same c onNch, nln-same c (showsNln c) (readOf s .«record» .numbered) (readOf s .«record» .nln) (shows-same c))
-sight-same key c (heardFacch s) = rw (← hears-same c onFacch)
-sight-same key c (joins k) = none-seen key c (joining k)
-sight-same key c (moves m) = none-seen key c (moving m)
-sight-same key c passes = none-seen key c nothing
+sight-same key c h = rw (listed-same h, cause-same c h, ← hears-same c (contentOf h .channel))

@@ -1,5 +1,6 @@
 -- The channels that notify: what tells them apart, and where their halves stand. Assumes nothing.
 use mathlib.Core.Bool.{Bool, true, false}
+use mathlib.Core.List.{List, [], _∷_}
 use Prim.Native.Nat.{ℕ, _+_, _*_, _/_, _%_}
 use lib.Dec.{eqb}
 use Rattle.bits.specs.Field.{pick}
@@ -45,6 +46,10 @@ leads ch = byNumber ch true false
 
 pub data Channel : Type 0 where
   onNch onFacch : Channel
+
+-- all of them, in the order of their numbers
+abbrev pub everyChannel : List Channel
+everyChannel = onNch ∷ onFacch ∷ []
 
 abbrev pub numberOf : Channel → ℕ
 numberOf onNch = 0

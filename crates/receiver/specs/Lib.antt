@@ -4,5 +4,6 @@ pub mod Store
 pub mod Entries
 pub mod Step
 pub mod One
+pub mod Calls
 pub mod History
 pub mod Promises

@@ -189,26 +189,42 @@ unfoldable pub mine : ℕ → List Record → List Record
 mine key [] = []
 mine key (e ∷ es) = pick (eqb (keyOf (e .call)) key) (e ∷ mine key es) (mine key es)
 
+-- the entries of an event, and the channel that they come on
+pub record Listed : Type 0 where
+  pub channel : Channel
+  pub entries : List Record
+
+-- an event that is no message has none
+abbrev pub noneListed : Listed
+noneListed = record { channel = onNch; entries = [] }
+
+abbrev pub listedIn : Happening → Listed
+listedIn (heardNch s) = record { channel = onNch; entries = nchEntries (readOf s .«record») }
+listedIn (heardFacch s) = record { channel = onFacch; entries = facchEntries (readFacch s .«record») }
+listedIn (joins k) = noneListed
+listedIn (moves m) = noneListed
+listedIn passes = noneListed
+
 -- a message's NLN; w: the channel shows it, b: the message has one
 abbrev pub nlnSeen : Bool → Bool → ℕ → Cause
 nlnSeen true true n = numbered n
 nlnSeen true false n = nothing
 nlnSeen false b n = nothing
 
--- the call's own among the entries of a message on a channel
-abbrev pub entriesSeen : ℕ → Channel → Channel → List Record → List Record
-entriesSeen key c d es = pick (hears c d) (mine key es) []
+-- what in an event may discard a half on a channel
+abbrev pub causeSeen : Channel → Happening → Cause
+causeSeen c (heardNch s) = nlnSeen (showsNln c) (readOf s .«record» .numbered) (readOf s .«record» .nln)
+causeSeen c (heardFacch s) = nothing
+causeSeen c (joins k) = joining k
+causeSeen c (moves m) = moving m
+causeSeen c passes = nothing
+
+-- the call's own among the entries, where its channel is theirs
+abbrev pub entriesSeen : ℕ → Channel → Listed → List Record
+entriesSeen key c l = pick (hears c (l .channel)) (mine key (l .entries)) []
 
 unfoldable pub sightOf : ℕ → Channel → Happening → Sight
-sightOf key c (heardNch s) =
-    record {
-      cause = nlnSeen (showsNln c) (readOf s .«record» .numbered) (readOf s .«record» .nln);
-      entries = entriesSeen key c onNch (nchEntries (readOf s .«record»));
-    }
-sightOf key c (heardFacch s) = record { cause = nothing; entries = entriesSeen key c onFacch (facchEntries (readFacch s .«record»)) }
-sightOf key c (joins k) = record { cause = joining k; entries = [] }
-sightOf key c (moves m) = record { cause = moving m; entries = [] }
-sightOf key c passes = record { cause = nothing; entries = [] }
+sightOf key c h = record { cause = causeSeen c h; entries = entriesSeen key c (listedIn h) }
 
 -- the step from one tick to another on a 32-bit counter that wraps
 abbrev pub stepBetween : ℕ → ℕ → ℕ
@@ -218,11 +234,14 @@ stepBetween last now = (now + 2 ^ 32 - last) % 2 ^ 32
 unfoldable pub accepts : ℕ → Event → Bool
 accepts last e = both (ltb (stepBetween last (e .tick)) (2 ^ 31)) (eqb (groundsOf (e .happening) .number) 0)
 
+-- what a call sees of an accepted event after a tick
+abbrev pub sees : ℕ → Channel → ℕ → Event → Seen
+sees key c last e = record { step = stepBetween last (e .tick); sight = sightOf key c (e .happening) }
+
 -- what a call sees of the events from a tick on: refused ones are not seen, and do not move the clock
 unfoldable pub seen : ℕ → Channel → ℕ → List Event → List Seen
 seen key c last [] = []
-seen key c last (e ∷ es) =
-    pick (accepts last e) (record { step = stepBetween last (e .tick); sight = sightOf key c (e .happening) } ∷ seen key c (e .tick) es) (seen key c last es)
+seen key c last (e ∷ es) = pick (accepts last e) (sees key c last e ∷ seen key c (e .tick) es) (seen key c last es)
 
 -- ## What it does
 
@@ -280,6 +299,18 @@ stepSaid key c timer s v = saidOf c (spared key c (passed timer s (v .step)) (v 
 unfoldable pub runOne : ℕ → Channel → ℕ → One → List Seen → List Said
 runOne key c timer s [] = []
 runOne key c timer s (v ∷ vs) = stepSaid key c timer s v ++ runOne key c timer (stepOne key c timer s v) vs
+
+-- the same with what it says to each event in a list of its own, which is empty for a refused one
+unfoldable pub runEach : ℕ → Channel → ℕ → One → ℕ → List Event → List (List Said)
+runEach key c timer o last [] = []
+runEach key c timer o last (e ∷ es) =
+    pick (accepts last e) (stepSaid key c timer o (sees key c last e) ∷ runEach key c timer (stepOne key c timer o (sees key c last e)) (e .tick) es)
+    ([] ∷ runEach key c timer o last es)
+
+-- the one-call receiver after what it saw
+unfoldable pub oneAfter : ℕ → Channel → ℕ → One → List Seen → One
+oneAfter key c timer s [] = s
+oneAfter key c timer s (v ∷ vs) = oneAfter key c timer (stepOne key c timer s v) vs
 
 -- at the start nothing is held and no NLN is known
 abbrev pub fresh : One

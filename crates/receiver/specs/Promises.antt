@@ -2,13 +2,14 @@
 -- Assumes nothing.
 use mathlib.Core.Path.{_≡_}
 use mathlib.Core.List.{List, [], _∷_, _++_}
-use mathlib.Core.Bool.{true, not}
+use mathlib.Core.Bool.{Bool, true, false, not}
 use mathlib.Core.Option.{Option, none, some}
-use Prim.Native.Nat.{ℕ, zero, suc, _+_, _<_, _≤_}
+use Prim.Native.Nat.{ℕ, zero, suc, _+_, _*_, _<_, _≤_}
 use lib.ListN.{length, take, getD}
 use lib.Dec.{eqb}
 use Rattle.bits.specs.Field.{both, pick}
 use Rattle.csn1.specs.Told.{asBit}
+use Rattle.call.specs.declared.Call.{Call}
 use Rattle.nch.specs.Told.{readOf}
 use Rattle.facch.specs.Told.{readOf as readFacch}
 use Rattle.receiver.specs.declared.Record.{Record}
@@ -17,10 +18,11 @@ use Rattle.receiver.specs.declared.Slot.{Slot}
 use Rattle.receiver.specs.declared.Told.{Told}
 use Rattle.receiver.specs.declared.Answer.{Answer}
 use Rattle.receiver.specs.declared.Setup.{Setup}
-use Rattle.receiver.specs.Channels.{placeOn, Channel, numberOf, byChannel, same}
-use Rattle.receiver.specs.Model.{noRecord, emptySlot, wrapSub, indexOf, isHeld, sweptSlots, agree, joinedOf, keep, startedOf}
+use Rattle.receiver.specs.Channels.{placeOn, Channel, numberOf, same}
+use Rattle.receiver.specs.Model.{noRecord, emptySlot, wrapSub, keyOf, indexOf, isHeld, sweptSlots, isCiphered, agree, joinedOf, keep, startedOf}
 use Rattle.receiver.specs.Step.{Event, Happening, heardNch, heardFacch, joins, moves, passes, contentOf, refusalOf, ruleOf, stepOf}
-use Rattle.receiver.specs.One.{kindOf, Which, theFirst, theSecond, Half, One, Said, Seen, seen, heldAfter, spared, passed, stepOne, stepSaid, runOne, fresh}
+use Rattle.receiver.specs.One.{kindOf, Which, theFirst, theSecond, Half, One, Said, Seen, seen, sees, sightOf, heldAfter, spared, passed, stepSaid, runOne, runEach, oneAfter, fresh}
+use Rattle.receiver.specs.Calls.{timerOf, notOurs, lastTick, Reply, replyBy}
 use Rattle.receiver.specs.History.{Moment, untilEntry, pastOf, Opposite, Came-and-stayed}
 
 -- ## 1. Isolation
@@ -38,9 +40,10 @@ unfoldable pub answers : ℕ → Channel → Receiver → List Event → List Sa
 answers key c r [] = []
 answers key c r (e ∷ es) = answersOn key c e (stepOf r e) ++ answers key c (stepOf r e .receiver) es
 
--- T3206 runs on the NCH, T3208 on the FACCH
-abbrev pub timerOf : Channel → Setup → ℕ
-timerOf c s = byChannel c (s .t3206) (s .t3208)
+-- the same with the answers to each event in a list of their own
+unfoldable pub answersEach : ℕ → Channel → Receiver → List Event → List (List Said)
+answersEach key c r [] = []
+answersEach key c r (e ∷ es) = answersOn key c e (stepOf r e) ∷ answersEach key c (stepOf r e .receiver) es
 
 -- every tick is a number of 32 bits
 abbrev pub Ticks : List Event → Type 0
@@ -59,6 +62,18 @@ No-call-disturbs-another =
     → (c : Channel) (es : List Event)
     → Ticks es
     → answers key c (startedOf s keys .receiver) es ≡ runOne key c (timerOf c s) fresh (seen key c (s .tick) es)
+
+-- The same event by event: no answer may stand at another event than its own.
+abbrev pub No-call-disturbs-another-at-any-event : Type 0
+No-call-disturbs-another-at-any-event =
+    (s : Setup) (keys : List ℕ)
+    → s .tick < 4294967296
+    → startedOf s keys .refusal .number ≡ 0
+    → (key : ℕ)
+    → indexOf keys key < length keys
+    → (c : Channel) (es : List Event)
+    → Ticks es
+    → answersEach key c (startedOf s keys .receiver) es ≡ runEach key c (timerOf c s) fresh (s .tick) es
 
 -- ## 2. When the one-call receiver joins
 
@@ -99,11 +114,6 @@ Joins-exactly-when =
     → (saidAt key c timer s v k .number ≡ 3 → Opposite-held c timer (heldBefore key c timer s v k) (entryAt v k))
     × ((o : Opposite-held c timer (heldBefore key c timer s v k) (entryAt v k))
     → (saidAt key c timer s v k ≡ record { number = 3; told = joinedWith (o .half) (entryAt v k) }) × (heldBefore key c timer s v (suc k) ≡ none))
-
--- the one-call receiver after what it saw
-unfoldable pub oneAfter : ℕ → Channel → ℕ → One → List Seen → One
-oneAfter key c timer s [] = s
-oneAfter key c timer s (v ∷ vs) = oneAfter key c timer (stepOne key c timer s v) vs
 
 -- the opposite half came in the past, nothing discarded it since, and their references agree
 pub record Opposite-came (key : ℕ) (c : Channel) (timer : ℕ) (past : List Moment) (e : Record) : Type 0 where
@@ -208,3 +218,151 @@ Expiries-and-drops-are-counted-apart =
     → stepOf r e .refusal .number ≡ 0
     → (stepOf r e .expired ≡ lostBetween (r .slots) (sweptSlots r (e .tick) keep))
     × (stepOf r e .dropped ≡ lostBetween (sweptSlots r (e .tick) keep) (sweptSlots r (e .tick) (ruleOf r e)))
+
+-- ## 6. The whole answer, from the one-call receivers alone
+
+abbrev pub replyOf : Answer → Reply
+replyOf a = record { refusal = a .refusal; expired = a .expired; dropped = a .dropped; count = a .count; entries = a .entries }
+
+-- A reply leaves nothing of an answer out but the receiver.
+abbrev pub A-reply-and-a-receiver-are-an-answer : Type 0
+A-reply-and-a-receiver-are-an-answer = (a b : Answer) → replyOf a ≡ replyOf b → a .receiver ≡ b .receiver → a ≡ b
+
+-- the answer to the next event, after a setup and events
+abbrev pub replyTo : Setup → List ℕ → List Event → Event → Reply
+replyTo s keys es e = replyOf (stepOf (after (startedOf s keys .receiver) es) e)
+
+-- For every accepted setup and after any events, the whole answer to the next event is what the receivers of the single calls give.
+abbrev pub The-answer-is-the-calls : Type 0
+The-answer-is-the-calls =
+    (s : Setup) (keys : List ℕ)
+    → s .tick < 4294967296
+    → startedOf s keys .refusal .number ≡ 0
+    → (es : List Event)
+    → Ticks es
+    → (e : Event)
+    → e .tick < 4294967296
+    → replyTo s keys es e ≡ replyBy s es e keys
+
+-- ## 7. When a call is told 3
+
+-- the k-th entry of a call in an event, and what it is told after a setup and events
+abbrev pub ownEntry : ℕ → Channel → Event → ℕ → Record
+ownEntry key c e k = getD (sightOf key c (e .happening) .entries) k noRecord
+
+abbrev pub heardAt : Setup → List ℕ → List Event → Event → ℕ → Channel → ℕ → Said
+heardAt s keys es e key c k = getD (answersOn key c e (stepOf (after (startedOf s keys .receiver) es) e)) k notOurs
+
+-- what the call saw before that entry
+abbrev pub pastAt : Setup → List Event → Event → ℕ → Channel → ℕ → List Moment
+pastAt s es e key c k = untilEntry (pastOf [] (seen key c (s .tick) es)) (sees key c (lastTick s es) e) k
+
+-- For every accepted setup and after any events, the k-th entry of a subscribed call in the next accepted event is told 3 exactly where the opposite half
+-- came and nothing discarded it since; then it is told the joined record.
+abbrev pub A-call-joins-exactly-when : Type 0
+A-call-joins-exactly-when =
+    (s : Setup) (keys : List ℕ)
+    → s .tick < 4294967296
+    → startedOf s keys .refusal .number ≡ 0
+    → (key : ℕ)
+    → indexOf keys key < length keys
+    → (c : Channel) (es : List Event)
+    → Ticks es
+    → (e : Event)
+    → e .tick < 4294967296
+    → replyTo s keys es e .refusal .number ≡ 0
+    → (k : ℕ)
+    → k < length (sightOf key c (e .happening) .entries)
+    → (heardAt s keys es e key c k .number ≡ 3
+    → Opposite-came key c (timerOf c s) (pastAt s es e key c k) (ownEntry key c e k))
+    × ((o : Opposite-came key c (timerOf c s) (pastAt s es e key c k) (ownEntry key c e k))
+    → heardAt s keys es e key c k ≡ record { number = 3; told = joinedWith (o .half) (ownEntry key c e k) })
+
+-- ## 8. What the receiver and the one-call receiver share
+-- An error here would be in both, so each is said in document 01's words.
+
+-- "reference times 2 plus service flag (0 VBS, 1 VGCS)"; so two calls of one key have one reference and one service
+abbrev pub A-key-is-twice-the-reference-plus-the-service : Type 0
+A-key-is-twice-the-reference-plus-the-service =
+    (c : Call) → (c .vgcs ≡ false → keyOf c ≡ c .reference * 2) × (c .vgcs ≡ true → keyOf c ≡ c .reference * 2 + 1)
+
+abbrev pub A-key-tells-reference-and-service-apart : Type 0
+A-key-tells-reference-and-service-apart = (a b : Call) → keyOf a ≡ keyOf b → (a .reference ≡ b .reference) × (a .vgcs ≡ b .vgcs)
+
+-- "Ciphered means the key number isn't 0"; reduced references "all count as ciphered"
+abbrev pub A-call-is-ciphered-by-its-key-number : Type 0
+A-call-is-ciphered-by-its-key-number =
+    (e : Record)
+    → (e .full ≡ true → (e .call .cipher ≡ 0 → isCiphered e ≡ false) × ((e .call .cipher ≡ 0 → ⊥) → isCiphered e ≡ true))
+    × (e .full ≡ false → isCiphered e ≡ true)
+
+-- the 36 bits of two references
+pub record Same-reference (a b : Call) : Type 0 where
+  pub reference : a .reference ≡ b .reference
+  pub service : a .vgcs ≡ b .vgcs
+  pub acknowledged : a .acknowledged ≡ b .acknowledged
+  pub priority : a .priority ≡ b .priority
+  pub cipher : a .cipher ≡ b .cipher
+
+-- "Two full references under one key must agree in all 36 bits"; where one is reduced, nothing is asked
+abbrev pub Full-references-agree-in-all-bits : Type 0
+Full-references-agree-in-all-bits =
+    (a b : Record)
+    → (a .full ≡ true
+    → b .full ≡ true
+    → (agree a b ≡ true → Same-reference (a .call) (b .call)) × (Same-reference (a .call) (b .call) → agree a b ≡ true))
+    × (a .full ≡ false → agree a b ≡ true)
+    × (b .full ≡ false → agree a b ≡ true)
+
+-- a record in three parts: VSTK_RAND, the count with B22, and the rest
+abbrev pub randIn : Record → Bool × ℕ
+randIn e = (e .given, e .rand)
+
+abbrev pub countIn : Record → Bool × ℕ × Bool
+countIn e = (e .common .counted, e .common .cellcount, e .common .b22)
+
+abbrev pub restIn : Record → Record
+restIn e =
+    record {
+      full = e .full;
+      call = e .call;
+      segmented = e .segmented;
+      segment = e .segment;
+      given = false;
+      rand = 0;
+      emergency = e .emergency;
+      common =
+          record {
+            counted = false;
+            cellcount = 0;
+            b22 = false;
+            uplinked = e .common .uplinked;
+            uplink = e .common .uplink;
+            amr = e .common .amr;
+            fullrated = e .common .fullrated;
+            fullrate = e .common .fullrate;
+            halfrated = e .common .halfrated;
+            halfrate = e .common .halfrate;
+            sms = e .common .sms;
+            confidential = e .common .confidential;
+            private = e .common .private;
+          };
+    }
+
+abbrev pub A-record-is-its-three-parts : Type 0
+A-record-is-its-three-parts = (a b : Record) → restIn a ≡ restIn b → randIn a ≡ randIn b → countIn a ≡ countIn b → a ≡ b
+
+-- "A joined one takes everything from the first half"
+abbrev pub The-rest-is-of-the-first-half : Type 0
+The-rest-is-of-the-first-half = (first second : Record) → restIn (joinedOf first second) ≡ restIn first
+
+-- "VSTK_RAND from the second", which always has one
+abbrev pub The-rand-is-of-the-second-half : Type 0
+The-rand-is-of-the-second-half = (first second : Record) → second .given ≡ true → randIn (joinedOf first second) ≡ randIn second
+
+-- "and the count (with B22) from the second if there, else the first, else none"
+abbrev pub The-count-is-of-the-second-half-or-the-first : Type 0
+The-count-is-of-the-second-half-or-the-first =
+    (first second : Record)
+    → (second .common .counted ≡ true → countIn (joinedOf first second) ≡ countIn second)
+    × (second .common .counted ≡ false → countIn (joinedOf first second) ≡ countIn first)

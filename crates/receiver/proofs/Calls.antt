@@ -1,0 +1,61 @@
+-- The receiver after a setup and events, as each of its calls sees it. Assumes nothing.
+use mathlib.Core.Path.{_≡_, refl, sym, ap, ap₂, _∙_}
+use mathlib.Core.Bool.{true}
+use mathlib.Core.List.{List}
+use Prim.Native.Nat.{ℕ, _^_, _≤_, _<_}
+use lib.ListN.{length}
+use borrow.Author.Tests.{eq-eqb}
+use Rattle.csn1.specs.declared.Refusal.{Refusal}
+use Rattle.receiver.specs.declared.Receiver.{Receiver}
+use Rattle.receiver.specs.declared.Setup.{Setup}
+use Rattle.receiver.specs.Channels.{Channel}
+use Rattle.receiver.specs.Model.{indexOf, startedOf}
+use Rattle.receiver.specs.Step.{Event, refusalOf, stepOf}
+use Rattle.receiver.specs.One.{One, sightOf, stepBetween, accepts, seen, spared, passed, stepSaid, sees, oneAfter}
+use Rattle.receiver.specs.Calls.{timerOf, lastTick, callAfter, leftBy}
+use Rattle.receiver.specs.Promises.{answersOn, Ticks, after, heldOf}
+use Rattle.receiver.proofs.Places.{timerIn}
+use Rattle.receiver.proofs.Grounds.{refused-as}
+use Rattle.receiver.proofs.Isolation.{view, Good, leftIn, accepted, accepts-same, stepped, left-same, step-said, step-good, viewed, after-keeps, tick-after}
+use Rattle.receiver.proofs.Beginning.{started, started-good, started-view}
+
+-- an event that is not refused is accepted
+pub not-refused : (r : Receiver) (e : Event) → stepOf r e .refusal .number ≡ 0 → accepts (r .tick) e ≡ true
+not-refused r e z = accepts-same r e ∙ eq-eqb (refusalOf r e .number) 0 (sym (ap (λ (w : Refusal). w .number) (refused-as r e)) ∙ z)
+
+module _ (s : Setup) (keys : List ℕ) (t : s .tick < 4294967296) (z : startedOf s keys .refusal .number ≡ 0) (es : List Event) (ts : Ticks es) where
+  abbrev pub state : Receiver
+  state = after (started s keys) es
+
+  pub clock-is : state .tick ≡ lastTick s es
+  clock-is = tick-after (started s keys) es
+
+  module _ (key : ℕ) (h : indexOf keys key < length keys) (c : Channel) where
+    pub good : Good key c state
+    good = after-keeps (Good key c) (λ r e k a g. step-good key c r g e k a) (started s keys) (started-good s keys t z key h c) es ts
+
+    pub timer-is : timerIn c state ≡ timerOf c s
+    timer-is = after-keeps (λ (r : Receiver). timerIn c r ≡ timerOf c s) (λ r e k a p. p) (started s keys) refl es ts
+
+    pub call-is : view key c state ≡ callAfter s es key c
+    call-is =
+        viewed key c (started s keys) (started-good s keys t z key h c) es ts
+        ∙ ap (λ (o : One). oneAfter key c (timerOf c s) o (seen key c (s .tick) es)) (started-view s keys t z key h c)
+
+    pub long : 1 ≤ timerOf c s
+    long = started-good s keys t z key h c .long
+
+    module _ (e : Event) (k : e .tick < 2 ^ 32) (p : accepts (state .tick) e ≡ true) where
+      -- what the event says to the call
+      pub said-is : answersOn key c e (stepOf state e) ≡ stepSaid key c (timerOf c s) (callAfter s es key c) (sees key c (lastTick s es) e)
+      said-is =
+          ap (answersOn key c e) (stepped state e p) ∙ step-said key c state good e k (accepted state e p)
+          ∙ ap₂ (λ (n : ℕ) (o : One). stepSaid key c n o (sees key c (state .tick) e)) timer-is call-is
+          ∙ ap (λ (n : ℕ). stepSaid key c (timerOf c s) (callAfter s es key c) (sees key c n e)) clock-is
+
+      -- and what it leaves of its half before its entries
+      pub left-is : heldOf (e .tick) (leftIn key c state e) ≡ leftBy s es e key c
+      left-is =
+          left-same key c state good e k (accepted state e p)
+          ∙ ap₂ (λ (n : ℕ) (o : One). spared key c (passed n o (stepBetween (state .tick) (e .tick))) (sightOf key c (e .happening))) timer-is call-is
+          ∙ ap (λ (n : ℕ). spared key c (passed (timerOf c s) (callAfter s es key c) (stepBetween n (e .tick))) (sightOf key c (e .happening))) clock-is

@@ -1,0 +1,122 @@
+-- The answer to an event, put together from the receivers of the single calls. Written apart from the receiver, as One is: no place, no sweep and no step of it
+-- is used. Beside what One shares with the receiver: the timer of a channel (byChannel), the subscribed keys (indexOf), and how an answer
+-- is laid out (Told, noTold). Assumes nothing.
+use mathlib.Core.List.{List, [], _∷_}
+use mathlib.Core.Bool.{Bool}
+use mathlib.Core.Option.{Option, none, some}
+use Prim.Native.Nat.{ℕ, _+_, _^_}
+use lib.ListN.{length, take}
+use lib.Dec.{ltb}
+use Rattle.bits.specs.Field.{pick}
+use Rattle.csn1.specs.declared.Refusal.{Refusal}
+use Rattle.csn1.specs.Format.{noRefusal, ground}
+use Rattle.csn1.specs.Told.{padded}
+use Rattle.receiver.specs.declared.Record.{Record}
+use Rattle.receiver.specs.declared.Told.{Told}
+use Rattle.receiver.specs.declared.Setup.{Setup}
+use Rattle.receiver.specs.Channels.{Channel, everyChannel, byChannel}
+use Rattle.receiver.specs.Model.{noRecord, keyOf, indexOf, mapAt}
+use Rattle.receiver.specs.Step.{Event, groundsOf, noTold}
+use Rattle.receiver.specs.One.{Half, One, Said, mine, listedIn, sightOf, stepBetween, accepts, seen, meetOne, heldAfter, spared, passed, oneAfter, fresh}
+
+-- T3206 runs on the NCH, T3208 on the FACCH
+abbrev pub timerOf : Channel → Setup → ℕ
+timerOf c s = byChannel c (s .t3206) (s .t3208)
+
+-- the tick of the last accepted event
+unfoldable pub clockAfter : ℕ → List Event → ℕ
+clockAfter last [] = last
+clockAfter last (e ∷ es) = clockAfter (pick (accepts last e) (e .tick) last) es
+
+-- the entries of an event, and their channel
+abbrev pub listed : Event → List Record
+listed e = listedIn (e .happening) .entries
+
+abbrev pub channelIn : Event → Channel
+channelIn e = listedIn (e .happening) .channel
+
+-- 1 where a half was held and none is
+abbrev pub lost : Option Half → Option Half → ℕ
+lost none h = 0
+lost (some g) none = 1
+lost (some g) (some h) = 0
+
+abbrev pub sumOver : {A : Type 0} → (A → ℕ) → List A → ℕ
+sumOver f [] = 0
+sumOver f (x ∷ xs) = f x + sumOver f xs
+
+-- the sum over keys and channels
+abbrev pub total : (ℕ → Channel → ℕ) → List ℕ → ℕ
+total f keys = sumOver (λ key. sumOver (f key) everyChannel) keys
+
+abbrev pub subscribed : List ℕ → ℕ → Bool
+subscribed keys key = ltb (indexOf keys key) (length keys)
+
+abbrev pub notOurs : Said
+notOurs = record { number = 0; told = noRecord }
+
+-- what is said to an entry, under its key
+abbrev pub named : ℕ → Said → Told
+named key w = record { key = key; number = w .number; «record» = w .told }
+
+-- an answer, the receiver that it leaves aside
+pub record Reply : Type 0 where
+  pub refusal : Refusal
+  pub expired : ℕ
+  pub dropped : ℕ
+  pub count : ℕ
+  pub entries : List Told
+
+-- an answer has nine places for entries
+abbrev pub laidOut : List Told → List Told
+laidOut l = padded noTold 9 l
+
+-- a refusal alone
+abbrev pub refusedBy : Refusal → Reply
+refusedBy w = record { refusal = w; expired = 0; dropped = 0; count = 0; entries = laidOut [] }
+
+-- after a setup and events
+module _ (s : Setup) (es : List Event) where
+  -- the receiver of one call on one channel
+  abbrev pub callAfter : ℕ → Channel → One
+  callAfter key c = oneAfter key c (timerOf c s) fresh (seen key c (s .tick) es)
+
+  abbrev pub lastTick : ℕ
+  lastTick = clockAfter (s .tick) es
+
+  -- the next event
+  module _ (e : Event) where
+    -- the call when the time up to the event has passed
+    abbrev pub callAt : ℕ → Channel → One
+    callAt key c = passed (timerOf c s) (callAfter key c) (stepBetween lastTick (e .tick))
+
+    -- the half that the event leaves it, before its entries
+    abbrev pub leftBy : ℕ → Channel → Option Half
+    leftBy key c = spared key c (callAt key c) (sightOf key c (e .happening))
+
+    -- what it says to an entry, having taken its own of the earlier ones
+    abbrev pub saidUnder : ℕ → List Record → Record → Said
+    saidUnder key earlier x = meetOne (channelIn e) (heldAfter (channelIn e) (leftBy key (channelIn e)) (mine key earlier)) x .said
+
+    -- 9 goes before the rest
+    abbrev pub groundBy : Refusal
+    groundBy = pick (ltb (stepBetween lastTick (e .tick)) (2 ^ 31)) (groundsOf (e .happening)) (ground 9)
+
+    -- the keys come last: no call knows them
+    module _ (keys : List ℕ) where
+      abbrev pub toldTo : List Record → Record → Told
+      toldTo earlier x = named (keyOf (x .call)) (pick (subscribed keys (keyOf (x .call))) (saidUnder (keyOf (x .call)) earlier x) notOurs)
+
+      -- expired are the halves that time took, dropped those that the event took of the rest; the k-th entry comes behind the first k
+      abbrev pub acceptedBy : Reply
+      acceptedBy =
+          record {
+            refusal = noRefusal;
+            expired = total (λ key c. lost (callAfter key c .held) (callAt key c .held)) keys;
+            dropped = total (λ key c. lost (callAt key c .held) (leftBy key c)) keys;
+            count = length (listed e);
+            entries = laidOut (mapAt (λ k x. toldTo (take k (listed e)) x) 0 (listed e));
+          }
+
+      unfoldable pub replyBy : Reply
+      replyBy = pick (accepts lastTick e) acceptedBy (refusedBy groundBy)
