@@ -7,7 +7,7 @@ use lib.ListN.{length, getD}
 use lib.Dec.{ltb, eqb}
 use native.Mathlib.Omega.{arith}
 use borrow.Author.Tests.{eqb-true, eq-eqb, ne-eqb, lt-ltb, le-ltb, lt-leb, le-leb}
-use Rattle.bits.specs.Field.{both, pick}
+use Rattle.bits.specs.Field.{pick}
 use Rattle.csn1.specs.declared.Refusal.{Refusal}
 use Rattle.csn1.specs.Format.{ground}
 use Rattle.csn1.specs.Told.{padded}
@@ -16,11 +16,11 @@ use Rattle.receiver.specs.declared.Cell.{Cell}
 use Rattle.receiver.specs.declared.Told.{Told}
 use Rattle.receiver.specs.declared.Receiver.{Receiver}
 use Rattle.receiver.specs.declared.Rule.{Rule}
-use Rattle.receiver.specs.Channels.{keyCount, places, Channel, numberOf, hasNln}
-use Rattle.receiver.specs.Model.{noCell, late, ruleFor, expiredOf, droppedOf, sweptSlots, remade}
+use Rattle.receiver.specs.Channels.{places, numberOf}
+use Rattle.receiver.specs.Model.{noCell, late, expiredOf, droppedOf, sweptSlots, remade}
 use Rattle.receiver.specs.Store.{withSlots}
 use Rattle.receiver.specs.Step.{noTold, mostEntries, allAfter, allTold, Event, joins, groundsOf, refusalOf, refusedWith, acceptedAs, stepOf}
-use Rattle.receiver.specs.Step.{Content, contentOf, numbering, changes, cellAfter, ruleBy}
+use Rattle.receiver.specs.Step.{Content, contentOf, cellAfter, ruleBy}
 use Rattle.receiver.proofs.Dropping.{by-test}
 use Rattle.layout.specs.Octets.{leAt, table}
 use Rattle.layout.specs.Layout.{stateLength, tickFrom, isState, cellAt, decodeOf, toldNo, putHead, keysIn}
@@ -201,11 +201,6 @@ module _ (l : List ℕ) (e : Event) (n : ℕ) (q : n ≡ earlyCode l (e .tick)) 
         → Accepted l (e .tick) rule cell (numberOf (x .channel)) (x .entries) left
         → Fed l e left 0
     fed-accepted rule cell left g x w r c a = accepted-as l e left (none-early .1 ∙ g) x w (rw (← r, ← c) a)
-
--- the rule of a message's NLN, b: if there is one
-pub numbering-rule : (r : Receiver) (b : Bool) (n : ℕ) → ruleFor (λ (c : Channel). both (hasNln c) (both b (changes (r .cell) n))) keyCount ≡ ruleBy r (numbering b n)
-numbering-rule r true n = refl
-numbering-rule r false n = refl
 
 -- ## The length
 

@@ -12,6 +12,7 @@ use Rattle.csn1.specs.Told.{asBit, isOne}
 use Rattle.csn1.proofs.Writing.{bit-back, flag-byte}
 use Rattle.call.specs.Call.{noCall}
 use Rattle.arrays.specs.Limits.{word}
+use Rattle.arrays.proofs.Running.{parts-at}
 use Rattle.nch.specs.Told.{noReduced, noRandom}
 use Rattle.nch.specs.Write.{callsOf}
 use Rattle.nch.specs.Owners.{nth, randomsOf, marksOf}
@@ -46,41 +47,21 @@ markAt k = firstMark + k
 module _ (ns : List ℕ) where
   call-from : (i : ℕ) → i < mostCalls → getD (recordFrom ns .calls) i noCall ≡ callFrom ns (callAt i)
   unfolding recordBy
-  call-from zero h = refl
-  call-from (suc zero) h = refl
-  call-from (suc (suc zero)) h = refl
-  call-from (suc (suc (suc zero))) h = refl
-  call-from (suc (suc (suc (suc i)))) h = absurd (omega arith)
+  call-from i h = parts-at callLength (callFrom ns) firstCall mostCalls noCall i h
 
   reduced-from : (j : ℕ) → j < mostReduceds → getD (recordFrom ns .release6 .reduced) j noReduced ≡ reducedFrom ns (reducedAt j)
   unfolding recordBy release6By
-  reduced-from zero h = refl
-  reduced-from (suc zero) h = refl
-  reduced-from (suc (suc zero)) h = refl
-  reduced-from (suc (suc (suc zero))) h = refl
-  reduced-from (suc (suc (suc (suc zero)))) h = refl
-  reduced-from (suc (suc (suc (suc (suc j))))) h = absurd (omega arith)
+  reduced-from j h = parts-at reducedLength (reducedFrom ns) firstReduced mostReduceds noReduced j h
 
   random-from : (k : ℕ) → k < mostRandoms → getD (recordFrom ns .release6 .randoms) k noRandom ≡ randomFrom ns (randomAt k)
   unfolding recordBy release6By
-  random-from zero h = refl
-  random-from (suc zero) h = refl
-  random-from (suc (suc zero)) h = refl
-  random-from (suc (suc (suc zero))) h = refl
-  random-from (suc (suc (suc (suc zero)))) h = refl
-  random-from (suc (suc (suc (suc (suc zero))))) h = refl
-  random-from (suc (suc (suc (suc (suc (suc zero)))))) h = refl
-  random-from (suc (suc (suc (suc (suc (suc (suc zero))))))) h = refl
-  random-from (suc (suc (suc (suc (suc (suc (suc (suc zero)))))))) h = refl
-  random-from (suc (suc (suc (suc (suc (suc (suc (suc (suc k))))))))) h = absurd (omega arith)
+  random-from k h = parts-at randomLength (randomFrom ns) firstRandom mostRandoms noRandom k h
 
   mark-from : (k : ℕ) → k < mostMarks → getD (recordFrom ns .release7 .marks) k false ≡ isOne (getD ns (markAt k) 0)
   unfolding recordBy release7By
-  mark-from zero h = refl
-  mark-from (suc zero) h = refl
-  mark-from (suc (suc zero)) h = refl
-  mark-from (suc (suc (suc zero))) h = refl
-  mark-from (suc (suc (suc (suc k)))) h = absurd (omega arith)
+  mark-from k h =
+      let e : firstMark + 1 * k ≡ markAt k = omega arith in
+      parts-at 1 (λ at. isOne (getD ns at 0)) firstMark mostMarks false k h ∙ ap (λ (at : ℕ). isOne (getD ns at 0)) e
 
   -- the arrays have their places
   calls-placed : length (recordFrom ns .calls) ≡ mostCalls

@@ -7,8 +7,9 @@ use Rattle.nch.specs.Told.{readOf}
 use Rattle.nch.proofs.InLimits.{read-fits, record-read, read-whole}
 use Rattle.receiver.specs.Step.{contentOf, heardNch, nch}
 use Rattle.receiver.proofs.Accepted.{few}
+use Rattle.receiver.proofs.Entering.{numbering-rule}
 use Rattle.layout.specs.Layout.{decodeOf}
-use Rattle.lent.proofs.Feeding.{fed-early, whole-then, fed-refused, fed-accepted, numbering-rule}
+use Rattle.lent.proofs.Feeding.{fed-early, whole-then, fed-refused, fed-accepted}
 use Rattle.lent.proofs.events.nch.Statement.{statement}
 use Rattle.lent.proofs.events.nch.Tie as tie
 
