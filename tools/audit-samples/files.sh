@@ -19,7 +19,7 @@ holds 'd: not listed' 1 'crates/other:1: crates.txt does not list other'
 tree
 rm -r "$t/crates.txt" "$t/crates"
 holds 'd: nothing there' 1 "crates.txt:1: nothing to audit here
-$(for subject in contracts names promises imports; do echo "crates.txt:1: there are no files for tools/audit-$subject.awk"; done)"
+$(for subject in contracts names promises imports inner; do echo "crates.txt:1: there are no files for tools/audit-$subject.awk"; done)"
 for r in work tmp opt root home; do
     bad "e: a path, $r" docs/PLACES.md 2 'a path of one machine' "First line.
 See ($s$r/x)."

@@ -33,7 +33,7 @@ use lib.ListN.{
 }
 x = length'
 worse 'i: in a specification' crates/good/specs/Lib.antt 1 'the first line does not say the subject
-crates/good/specs/Lib.antt:3: imports length and does not use it' 'use lib.ListN.{length}'
+crates/good/specs/Lib.antt:4: imports length and does not use it' 'use lib.ListN.{length}'
 bad 'i: in a contract' $more 2 'imports length and does not use it' '// More of it.
 ghost use lib.ListN.{length};
 fn told(xs: &[u8]) -> usize

@@ -2,3 +2,4 @@ pub mod Running
 pub mod Filling
 pub mod Within
 pub mod Zeroed
+pub mod Seen

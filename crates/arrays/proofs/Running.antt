@@ -12,7 +12,8 @@ use borrow.Author.Tests.{le-leb, lt-leb}
 use Rattle.bits.specs.Field.{pick}
 use Rattle.csn1.specs.Told.{padded}
 use Rattle.csn1.proofs.Lists.{length-padded}
-use Rattle.arrays.specs.Runs.{stored, each, listRun, parts}
+use Rattle.arrays.specs.Runs.{stored, each, partsFrom}
+use Rattle.arrays.specs.Inner.{listRun}
 
 -- ## One run
 
@@ -137,7 +138,7 @@ module _ {A : Type 0} (f : A → List ℕ) (w : ℕ) (fixed : (a : A) → length
 
 module _ {A : Type 0} (w : ℕ) where
   -- the k-th of them
-  pub parts-at : (f : ℕ → A) (at n : ℕ) (d : A) (k : ℕ) → k < n → getD (parts f at w n) k d ≡ f (at + w * k)
+  pub parts-at : (f : ℕ → A) (at n : ℕ) (d : A) (k : ℕ) → k < n → getD (partsFrom f at w n) k d ≡ f (at + w * k)
   parts-at f at zero d k h = absurd (omega arith)
   parts-at f at (suc n) d zero h =
       let e : at ≡ at + w * 0 = omega arith in
@@ -147,7 +148,7 @@ module _ {A : Type 0} (w : ℕ) where
       parts-at f (at + w) n d k (omega arith) ∙ ap f e
 
   -- two ways to read them
-  pub parts-same : (f g : ℕ → A) (at n : ℕ) → ((k : ℕ) → k < n → f (at + w * k) ≡ g (at + w * k)) → parts f at w n ≡ parts g at w n
+  pub parts-same : (f g : ℕ → A) (at n : ℕ) → ((k : ℕ) → k < n → f (at + w * k) ≡ g (at + w * k)) → partsFrom f at w n ≡ partsFrom g at w n
   parts-same f g at zero h = refl
   parts-same f g at (suc n) h =
       let e : at + w * 0 ≡ at = omega arith in

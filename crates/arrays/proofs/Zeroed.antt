@@ -17,8 +17,8 @@ use Rattle.csn1.proofs.Reading.{opt-short, opt-none}
 use Rattle.csn1.proofs.Lists.{Entries, padded-none, length-padded, entries-begin, entries-none, entries-end, entries-kept, kept-acc, entries-counted, counted-acc}
 use Rattle.csn1.proofs.Callees.{release-refused, release-absent, release-there}
 use Rattle.csn1.proofs.Answers.{entries-told, opt-bad, opt-ok}
-use Rattle.arrays.specs.Runs.{stored, each, listRun}
-use Rattle.arrays.specs.Filled.{Zeros, Filled, Left}
+use Rattle.arrays.specs.Runs.{stored, each}
+use Rattle.arrays.specs.Inner.{Zeros, Filled, Left, listRun}
 use Rattle.arrays.proofs.Running.{length-stored, stored-led, each-set}
 use Rattle.arrays.proofs.Filling.{sets-zeros}
 

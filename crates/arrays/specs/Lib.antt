@@ -1,3 +1,3 @@
 pub mod Limits
 pub mod Runs
-pub mod Filled
+pub mod Inner

@@ -1,3 +1,4 @@
 pub mod Laws
 pub mod Octets
 pub mod Answers
+pub mod Promises

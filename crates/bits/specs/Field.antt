@@ -1,5 +1,5 @@
 -- Octets as bits. Bit 0 is the top bit of the first octet, bit 8 the top bit of the second. Assumes nothing.
-use mathlib.Core.List.{List}
+use mathlib.Core.List.{List, [], _∷_}
 use mathlib.Core.Bool.{Bool, true, false}
 use Prim.Native.Nat.{ℕ, zero, suc, _+_, _-_, _*_, _/_, _%_, _^_}
 use lib.ListN.{length, getD, set}
@@ -42,6 +42,11 @@ both false b = false
 abbrev pub pick : {A : Type 0} → Bool → A → A → A
 pick true a b = a
 pick false a b = b
+
+-- tests in the order in which they are made, each with the number of its refusal: the number of the first that is not passed, 0 where all are
+abbrev pub firstDue : List (Bool × ℕ) → ℕ
+firstDue [] = 0
+firstDue (t ∷ ts) = pick (t .0) (firstDue ts) (t .1)
 
 -- the octets have the w bits from at on, and no field is wider than 64
 abbrev pub inside : List ℕ → ℕ → ℕ → Bool

@@ -20,7 +20,8 @@ use Rattle.csn1.proofs.Writing.{flag-lt, flag-byte, put-none, put-last, put-the
 use Rattle.call.specs.declared.Call.{Call}
 use Rattle.call.specs.declared.Description.{Description}
 use Rattle.call.specs.Call.{groupCall, description, frequencies, callValue, descriptionValue, frequenciesOf}
-use Rattle.call.specs.Write.{callInRange, callIsLow, callLengthRight, callHopsRight, callSize, headNumber, Room, canPutCall, afterPutCall}
+use Rattle.call.specs.Write.{callInRange, callIsLow, callLengthRight, callHopsRight, callSize, canPutCall, afterPutCall}
+use Rattle.call.specs.Inner.{headNumber, Room}
 use Rattle.call.proofs.Laws.{widths, when-anywhere, opt-anywhere, frequencies-anywhere, description-anywhere, frequencies-size, description-size, value-size}
 use Rattle.call.proofs.Record.{call-fits}
 
@@ -34,7 +35,7 @@ module _ (s d e : List ℕ) (p n f : ℕ) where
   list-put false r t x y = absurd (let z : _≡_ {A = ℕ} 0 1 = cc in omega arith)
   list-put true r t x y =
       let w = frequencies-size 0 0 (inr f) in
-      let l : p + 65 ≤ length s * 8 = omega (arith, r .within) in
+      let l : p + 65 ≤ length s * 8 = omega (arith, r .enough) in
       put-last d e (p + 1) 64 f y (omega arith) (omega (arith, put-length s d p 1 1 x (omega arith) (omega arith) (omega arith))) (r .fits)
       ∙ put-then s d p 1 1 x (omega arith) (omega arith) (omega arith) (numBits 64 f)
 
@@ -43,7 +44,7 @@ module _ (s d e : List ℕ) (p n f : ℕ) where
   octets-put true r t x y = absurd (let z : _≡_ {A = ℕ} 0 1 = cc in omega arith)
   octets-put false r t x y =
       let w = frequencies-size 0 0 (inl (n, f)) in
-      let l : p + 9 + 8 * n ≤ length s * 8 = omega (arith, r .within) in
+      let l : p + 9 + 8 * n ≤ length s * 8 = omega (arith, r .enough) in
       let k : n ≤ 8 = leb-true n 8 (both-true (leb 1 n) (leb n 8) (r .fits .0 .1) .1) in
       let q : 0 ∷ numBits 8 n ≡ numBits 9 n = led-join 8 0 n (omega arith) (omega arith) ∙ ap (numBits 9) (omega arith) in
       put-last d e (p + 9) (8 * n) f y (omega arith) (omega (arith, put-length s d p 9 n x (omega arith) (omega arith) (omega arith))) (r .fits .1)
@@ -60,7 +61,7 @@ module _ (s d : List ℕ) (p : ℕ) (c : Description) (r : Room (format descript
     channel-lt = omega (arith, r .fits .0 .0 .0, flag-lt (c .hopping), flag-byte (c .hopping))
 
     channel-within : p + 25 ≤ length s * 8
-    channel-within = omega (arith, r .within, description-size 0 0 (descriptionValue c))
+    channel-within = omega (arith, r .enough, description-size 0 0 (descriptionValue c))
 
     pub channel-length : length d ≡ length s
     channel-length = put-length s d p 25 (c .channel * 2 + boolByte (c .hopping)) x (omega arith) channel-within channel-lt
@@ -88,7 +89,7 @@ module _ (s d : List ℕ) (p : ℕ) (c : Description) (r : Room (format descript
         go true r e =
             record {
               fits = r .fits .1;
-              within = omega (arith, r .within, channel-length, description-size 0 0 ((c .channel, 1), some (frequenciesOf c)), frequencies-size 0 0 (frequenciesOf c));
+              enough = omega (arith, r .enough, channel-length, description-size 0 0 ((c .channel, 1), some (frequenciesOf c)), frequencies-size 0 0 (frequenciesOf c));
               few = omega (arith, r .few, channel-length);
             }
 
@@ -104,7 +105,7 @@ module _ (s d : List ℕ) (p : ℕ) (c : Call) (r : Room groupCall (callValue c)
   head-lt = omega (arith, head-is, glued-lt widths (callValue c .0) (r .fits .0 .0), flag-lt (c .described))
 
   head-within : p + 37 ≤ length s * 8
-  head-within = omega (arith, r .within, value-size 0 0 (callValue c) refl)
+  head-within = omega (arith, r .enough, value-size 0 0 (callValue c) refl)
 
   pub head-length : length d ≡ length s
   head-length = put-length s d p 37 (headNumber c) x (omega arith) head-within head-lt
@@ -137,7 +138,7 @@ module _ (s d : List ℕ) (p : ℕ) (c : Call) (r : Room groupCall (callValue c)
       go true r e =
           record {
             fits = r .fits .1;
-            within = omega (arith, r .within, head-length, value-size 0 0 (callValue c .0, some (descriptionValue (c .description))) refl, description-size 0 0 (descriptionValue (c .description)));
+            enough = omega (arith, r .enough, head-length, value-size 0 0 (callValue c .0, some (descriptionValue (c .description))) refl, description-size 0 0 (descriptionValue (c .description)));
             few = omega (arith, r .few, head-length);
           }
 
@@ -174,7 +175,7 @@ module _ (s : List ℕ) (p : ℕ) (c : Call) (t u : Bool) (k : ℕ) (x : t ≡ b
         let g = both-true (leb (length s) 4096) (leb (p + k) (length s * 8)) (sym y ∙ not-false u f) in
         record {
           fits = call-fits c (a .0) (b .0) (d .0) (d .1);
-          within = omega (arith, leb-true (p + k) (length s * 8) (g .1));
+          enough = omega (arith, leb-true (p + k) (length s * 8) (g .1));
           few = leb-true (length s) 4096 (g .0);
         }
 

@@ -20,7 +20,8 @@ use Rattle.call.specs.declared.DescriptionAt.{DescriptionAt}
 use Rattle.call.specs.declared.FrequenciesAt.{FrequenciesAt}
 use Rattle.call.specs.declared.Quick.{Quick}
 use Rattle.call.specs.Call.{allocation, frequencies, description, DescriptionValue, CallValue, groupCall, descriptionOf}
-use Rattle.call.specs.Told.{callAtOf, descriptionAtOf, frequenciesAtOf, callFrom, gathered, flatFrom, notQuick, Quickly}
+use Rattle.call.specs.Told.{callAtOf}
+use Rattle.call.specs.Inner.{descriptionAtOf, frequenciesAtOf, callFromHead, gathered, flatFrom, notQuick, Quickly}
 
 -- a value changed twice on its way out is changed once
 changed : {A B C : Type 0} (x : Res A) (f : A → B) (g : B → C)
@@ -158,7 +159,7 @@ module _ (s : List ℕ) (p h : ℕ) (e : Bits h ≡ fetched s p 36) where
 
 -- the 36 bits cut into their numbers are the call's
 pub call-told : (h : ℕ) (d : Option DescriptionValue) (q : ℕ)
-    → record { refusal = noRefusal; call = callFrom h (isThere d) (descriptionOf d); at = q } ≡ callAtOf (ok (cuts widths h, d) q)
+    → record { refusal = noRefusal; call = callFromHead h (isThere d) (descriptionOf d); at = q } ≡ callAtOf (ok (cuts widths h, d) q)
 call-told h d q =
     let service : h % 512 / 256 ≡ h / 256 % 2 = omega arith in
     let acknowledgement : h % 512 % 256 / 128 ≡ h / 128 % 2 = omega arith in
@@ -168,7 +169,7 @@ call-told h d q =
 
 -- a call told from its 36 bits and its description
 abbrev pub called : ℕ → DescriptionAt → CallAt
-called h d = record { refusal = noRefusal; call = callFrom h true (d .description); at = d .at }
+called h d = record { refusal = noRefusal; call = callFromHead h true (d .description); at = d .at }
 
 -- a call whose description x was refused, and one that has it
 module _ (h : ℕ) (d : DescriptionAt) where

@@ -15,11 +15,28 @@ use Rattle.call.specs.declared.Description.{Description}
 
 -- ## The grammar, with the refusals of document 01 where they are met
 
--- no reference is above 99,999,999
-abbrev pub lowReference : List ℕ → Bool
-lowReference h = leb (getD h 0 0) 99999999
+-- Each part of a value has a name, beside the line of the grammar that reads it and in its order.
 
 -- <Group Call Reference : bit(36)>: reference, service flag, acknowledgement flag, priority, cipher key number (24.008)
+abbrev pub callReference : List ℕ → ℕ
+callReference h = getD h 0 0
+
+abbrev pub serviceFlag : List ℕ → ℕ
+serviceFlag h = getD h 1 0
+
+abbrev pub acknowledgementFlag : List ℕ → ℕ
+acknowledgementFlag h = getD h 2 0
+
+abbrev pub callPriority : List ℕ → ℕ
+callPriority h = getD h 3 0
+
+abbrev pub cipherKeyNumber : List ℕ → ℕ
+cipherKeyNumber h = getD h 4 0
+
+-- no reference is above 99,999,999
+abbrev pub lowReference : List ℕ → Bool
+lowReference h = leb (callReference h) 99999999
+
 abbrev pub reference : Grammar (List ℕ)
 reference = refuse 4 lowReference (numbers (27 ∷ 1 ∷ 1 ∷ 3 ∷ 4 ∷ []))
 
@@ -31,6 +48,12 @@ oneToEight n = both (leb 1 n) (leb n 8)
 abbrev pub allocation : Grammar (ℕ × ℕ)
 allocation = refuse 3 oneToEight (number 8) then-by λ n. number (8 * n)
 
+abbrev pub allocationLength : ℕ × ℕ → ℕ
+allocationLength a = a .0
+
+abbrev pub allocationOctets : ℕ × ℕ → ℕ
+allocationOctets a = a .1
+
 -- {0 <Mobile Allocation> | 1 <Frequency Short List : bit(64)>}
 abbrev pub frequencies : Grammar ((ℕ × ℕ) ⊎ ℕ)
 frequencies = one-of allocation (number 64)
@@ -39,10 +62,16 @@ frequencies = one-of allocation (number 64)
 abbrev pub hoppingBit : ℕ → ℕ
 hoppingBit c = c / 2 ^ 12 % 2
 
-abbrev pub agrees : ℕ × ℕ → Bool
-agrees v = eqb (hoppingBit (v .0)) (v .1)
-
 -- <Channel Description : bit(24)> and the hopping flag, which must say the same
+abbrev pub channelDescription : ℕ × ℕ → ℕ
+channelDescription v = v .0
+
+abbrev pub hoppingFlag : ℕ × ℕ → ℕ
+hoppingFlag v = v .1
+
+abbrev pub agrees : ℕ × ℕ → Bool
+agrees v = eqb (hoppingBit (channelDescription v)) (hoppingFlag v)
+
 abbrev pub channel : Grammar (ℕ × ℕ)
 channel = refuse 5 agrees (number 24 and number 1)
 
@@ -51,7 +80,13 @@ DescriptionValue = (ℕ × ℕ) × Option ((ℕ × ℕ) ⊎ ℕ)
 
 -- <Group Channel Description> ::= <Channel Description : bit(24)> {0 | 1 {0 <Mobile Allocation> | 1 <Frequency Short List>}}
 abbrev pub description : Grammar DescriptionValue
-description = channel then-by λ v. only-if (isOne (v .1)) frequencies
+description = channel then-by λ v. only-if (isOne (hoppingFlag v)) frequencies
+
+abbrev pub channelPart : DescriptionValue → ℕ × ℕ
+channelPart d = d .0
+
+abbrev pub frequencyPart : DescriptionValue → Option ((ℕ × ℕ) ⊎ ℕ)
+frequencyPart d = d .1
 
 abbrev pub CallValue : Type 0
 CallValue = List ℕ × Option DescriptionValue
@@ -59,6 +94,12 @@ CallValue = List ℕ × Option DescriptionValue
 -- <Group Call information> ::= <Group Call Reference : bit(36)> {0|1 <Group Channel Description>}
 abbrev pub callGrammar : Grammar CallValue
 callGrammar = reference and flagged description
+
+abbrev pub groupCallReference : CallValue → List ℕ
+groupCallReference v = v .0
+
+abbrev pub groupChannelDescription : CallValue → Option DescriptionValue
+groupChannelDescription v = v .1
 
 unfoldable pub groupCall : Format CallValue
 groupCall = format callGrammar
@@ -74,23 +115,23 @@ noCall = record { reference = 0; vgcs = false; acknowledged = false; priority = 
 -- a description from its channel, its hopping flag and its frequencies
 abbrev pub withFrequencies : ℕ → Bool → Option ((ℕ × ℕ) ⊎ ℕ) → Description
 withFrequencies c h none = record { channel = c; hopping = h; shortlist = false; length = 0; frequencies = 0 }
-withFrequencies c h (some (inl a)) = record { channel = c; hopping = h; shortlist = false; length = a .0; frequencies = a .1 }
+withFrequencies c h (some (inl a)) = record { channel = c; hopping = h; shortlist = false; length = allocationLength a; frequencies = allocationOctets a }
 withFrequencies c h (some (inr l)) = record { channel = c; hopping = h; shortlist = true; length = 0; frequencies = l }
 
 abbrev pub descriptionOf : Option DescriptionValue → Description
 descriptionOf none = noDescription
-descriptionOf (some d) = withFrequencies (d .0 .0) (isOne (d .0 .1)) (d .1)
+descriptionOf (some d) = withFrequencies (channelDescription (channelPart d)) (isOne (hoppingFlag (channelPart d))) (frequencyPart d)
 
 abbrev pub callOf : CallValue → Call
 callOf v =
     record {
-      reference = getD (v .0) 0 0;
-      vgcs = isOne (getD (v .0) 1 0);
-      acknowledged = isOne (getD (v .0) 2 0);
-      priority = getD (v .0) 3 0;
-      cipher = getD (v .0) 4 0;
-      described = isThere (v .1);
-      description = descriptionOf (v .1);
+      reference = callReference (groupCallReference v);
+      vgcs = isOne (serviceFlag (groupCallReference v));
+      acknowledged = isOne (acknowledgementFlag (groupCallReference v));
+      priority = callPriority (groupCallReference v);
+      cipher = cipherKeyNumber (groupCallReference v);
+      described = isThere (groupChannelDescription v);
+      description = descriptionOf (groupChannelDescription v);
     }
 
 -- ## And back: the value that a record says

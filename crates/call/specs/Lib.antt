@@ -1,3 +1,4 @@
 pub mod Call
 pub mod Told
 pub mod Write
+pub mod Inner

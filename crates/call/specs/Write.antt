@@ -1,11 +1,11 @@
 -- What a writer refuses in a call: one test for each number of document 01's table. Assumes nothing.
 use mathlib.Core.List.{List}
 use mathlib.Core.Bool.{Bool, true, false, not}
-use Prim.Native.Nat.{ℕ, _+_, _*_, _^_, _≤_}
+use Prim.Native.Nat.{ℕ, _+_, _*_, _^_}
 use lib.ListN.{length}
 use lib.Dec.{leb, ltb, eqb}
 use Rattle.bits.specs.Field.{both, pick}
-use Rattle.csn1.specs.Format.{Format, putBits}
+use Rattle.csn1.specs.Format.{putBits}
 use Rattle.csn1.specs.Told.{asBit}
 use Rattle.call.specs.declared.Call.{Call}
 use Rattle.call.specs.declared.Description.{Description}
@@ -64,17 +64,6 @@ callHopsRight c = pick (c .described) (eqb (hoppingBit (c .description .channel)
 -- how many bits its written form takes
 unfoldable pub callSize : Call → ℕ
 callSize c = length (groupCall .bits 0 0 (callValue c))
-
--- the 36 bits and the flag behind them, as one number
-abbrev pub headNumber : Call → ℕ
-headNumber c =
-    ((c .reference * 4 + asBit (c .vgcs) * 2 + asBit (c .acknowledged)) * 256 + c .priority * 32) + c .cipher * 2 + asBit (c .described)
-
--- a part that can be written, and octets, not too many, that have its bits from p on
-pub record Room {A : Type 0} (F : Format A) (v : A) (s : List ℕ) (p : ℕ) : Type 0 where
-  pub fits : F .fits v
-  pub within : p + length (F .bits 0 0 v) ≤ length s * 8
-  pub few : length s ≤ 4096
 
 -- it can be written, and the octets have the bits from p on
 unfoldable pub canPutCall : List ℕ → ℕ → Call → Bool

@@ -6,7 +6,8 @@ ghost use Rattle.csn1.specs.Format.{bad};
 ghost use Rattle.csn1.specs.Grammar.{format};
 ghost use Rattle.csn1.specs.Told.{readAt};
 ghost use Rattle.call.specs.Call.{groupCall, description, frequencies, noDescription, noCall};
-ghost use Rattle.call.specs.Told.{callAtOf, descriptionAtOf, frequenciesAtOf, callFrom, gathered, flatFrom, notQuick, Quickly};
+ghost use Rattle.call.specs.Told.{callAtOf};
+ghost use Rattle.call.specs.Inner.{descriptionAtOf, frequenciesAtOf, callFromHead, gathered, flatFrom, notQuick, Quickly};
 use bits::Got;
 use csn1::Refusal;
 
@@ -210,7 +211,7 @@ fn refused_call(refusal: Refusal) -> CallAt
 // The call from its 36 bits and its description.
 fn call_from(head: u64, described: bool, description: Description) -> Call
     requires { ⌜ head < 68719476736 ⌝ }
-    ensures { λ r. ⌜ r ≡ callFrom head described description ⌝ }
+    ensures { λ r. ⌜ r ≡ callFromHead head described description ⌝ }
 {
     Call {
         reference: (head / 512) as u32,

@@ -6,7 +6,8 @@ ghost use Rattle.bits.specs.Field.{both};
 ghost use Rattle.csn1.specs.Format.{putBits};
 ghost use Rattle.csn1.specs.Grammar.{format};
 ghost use Rattle.call.specs.Call.{frequencies, description, frequenciesOf, descriptionValue};
-ghost use Rattle.call.specs.Write.{callInRange, callIsZero, callIsLow, callLengthRight, callHopsRight, descriptionIsZero, frequenciesInRange, callSize, canPutCall, afterPutCall, headNumber, Room};
+ghost use Rattle.call.specs.Write.{callInRange, callIsZero, callIsLow, callLengthRight, callHopsRight, descriptionIsZero, frequenciesInRange, callSize, canPutCall, afterPutCall};
+ghost use Rattle.call.specs.Inner.{headNumber, Room};
 use crate::Call;
 use crate::Description;
 

@@ -9,7 +9,7 @@ use lib.ListN.{length, getD, take, drop, length-append}
 use borrow.Author.Tests.{eq-eqb, ne-eqb}
 use Rattle.bits.specs.Field.{afterPut}
 use Rattle.csn1.specs.Format.{Format, numBits, total, rowBits, rowFits, _⨟_, opt, itemsBits, list, padBit, release, putBits}
-use Rattle.csn1.specs.Put.{Put, PutLow}
+use Rattle.csn1.specs.Inner.{Put, PutLow}
 use Rattle.csn1.specs.Told.{there}
 use Rattle.csn1.proofs.Holding.{put-join, length-numBits}
 use Rattle.csn1.proofs.Lawful.{pad-lt}

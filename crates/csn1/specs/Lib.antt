@@ -2,4 +2,4 @@ pub mod Format
 pub mod Grammar
 pub mod Promises
 pub mod Told
-pub mod Put
+pub mod Inner

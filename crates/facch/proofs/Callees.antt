@@ -29,7 +29,8 @@ use Rattle.facch.specs.declared.additions.Release6At.{Release6At}
 use Rattle.facch.specs.declared.additions.Release7At.{Release7At}
 use Rattle.facch.specs.Message.{Release6Value, Release7Value, release6, release7, paging, notification, readOctets}
 use Rattle.facch.specs.Told.{readingOf}
-use Rattle.facch.specs.Parts.{countAtOf, release6AtOf, release7AtOf}
+use Rattle.facch.specs.Parts.{release6AtOf, release7AtOf}
+use Rattle.facch.specs.Inner.{countAtOf}
 
 -- behind a release's H
 abbrev behind : {A : Type 0} → Res A → Res (Option A)

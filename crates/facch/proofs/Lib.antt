@@ -1,2 +1,3 @@
 pub mod Callees
 pub mod Promises
+pub mod Back

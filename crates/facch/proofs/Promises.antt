@@ -7,13 +7,16 @@ use native.Mathlib.Omega.{arith}
 use lib.ListN.{length}
 use lib.Dec.{leb}
 use borrow.Author.Tests.{le-leb}
-use Rattle.bits.specs.Field.{both, pick}
-use Rattle.csn1.specs.Format.{Res, ok, bad, ground}
+use Rattle.bits.specs.Field.{bit, field, both, pick}
+use Rattle.csn1.specs.Format.{Res, ok, bad, ground, padBit}
 use Rattle.csn1.specs.Promises.{Stands, Grounded, Lawful}
 use Rattle.csn1.proofs.Promises.{lawful}
+use Rattle.call.specs.Call.{groupCall}
 use Rattle.facch.specs.Message.{Value, message, notification, readOctets}
-use Rattle.facch.specs.Told.{readingOf}
-use Rattle.facch.specs.Promises.{Stands-there, Every-reading-stands-in-the-octets, What-stands-in-the-octets-is-read}
+use Rattle.facch.specs.Told.{recordOf, readingOf}
+use Rattle.facch.specs.Back.{valueOf, causeIn}
+use Rattle.facch.proofs.Back.{a-record-tells-its-message}
+use Rattle.facch.specs.Promises.{Stands-there, Every-reading-stands-in-the-octets, What-stands-in-the-octets-is-read, Listed-records}
 
 notification-lawful : Lawful notification
 unfolding notification
@@ -22,12 +25,17 @@ notification-lawful = lawful message (omega arith)
 -- what was read stands there
 read-stands : (s : List ℕ) (v : Value) (q : ℕ) → readOctets s ≡ ok v q → notification .read s 0 ≡ ok v q → Stands-there s
 read-stands s v q e x =
+    let d : Stands notification s 0 v q = notification-lawful .stands s 0 v q (omega arith) x in
+    let c : ℕ = causeIn (v .1 .1 .1) in
     record {
-      value = v;
-      told = sym (ap (λ (y : Res Value). readingOf y .«record») e);
+      first = v .0;
+      cause = c;
       stands =
-          subst (λ (n : ℕ). Stands notification s 0 v n) (sym (ap (λ (y : Res Value). readingOf y .used) e))
-          (notification-lawful .stands s 0 v q (omega arith) x);
+          subst (λ (y : Res Value). Stands notification s 0 (valueOf (v .0) c (readingOf y .«record»)) (readingOf y .used)) (sym e)
+          (subst (λ (w : Value). Stands notification s 0 w q) (sym (a-record-tells-its-message v (d .fitting))) d);
+      told =
+          subst (λ (y : Res Value). recordOf (valueOf (v .0) c (readingOf y .«record»)) ≡ readingOf y .«record») (sym e)
+          (ap recordOf (a-record-tells-its-message v (d .fitting)));
     }
 
 pub every-reading-stands-in-the-octets : Every-reading-stands-in-the-octets
@@ -44,3 +52,7 @@ pub what-stands-in-the-octets-is-read : What-stands-in-the-octets-is-read
 what-stands-in-the-octets-is-read s v h l f w k =
     rw (le-leb 2 (length s) h, le-leb (length s) 23 l, notification-lawful .back s 0 v f (omega arith) k)
     (ap (λ (n : ℕ). readingOf (ok v n)) (omega arith))
+
+pub listed-records : Listed-records
+unfolding notification groupCall field bit padBit
+listed-records = record { uplink = refl; emergency = refl }

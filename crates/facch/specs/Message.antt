@@ -11,14 +11,32 @@ use Rattle.csn1.specs.Format.{Res, bad, ground, Format}
 use Rattle.csn1.specs.Grammar.{Grammar, number, numbers, low-high, _and_, flagged, later, one-of, refuse, format}
 use Rattle.call.specs.Call.{CallValue, callGrammar}
 
+-- Each part of a value has a name, beside the line of the grammar that reads it and in its order.
+
 -- ## The releases
+
+-- <CELL_GLOBAL_COUNT: bit (2)> <B22_COUNT: bit>
+abbrev pub counts : Grammar (ℕ × ℕ)
+counts = number 2 and number 1
+
+abbrev pub cellGlobalCount : ℕ × ℕ → ℕ
+cellGlobalCount c = c .0
+
+abbrev pub b22Count : ℕ × ℕ → ℕ
+b22Count c = c .1
 
 abbrev pub Release6Value : Type 0
 Release6Value = Option (ℕ × ℕ) × Option ℕ
 
 -- {0 | 1 <CELL_GLOBAL_COUNT: bit (2)> <B22_COUNT: bit>} {0 | 1 <VSTK_RAND: bit (36)>}
 abbrev pub release6 : Grammar Release6Value
-release6 = flagged (number 2 and number 1) and flagged (number 36)
+release6 = flagged counts and flagged (number 36)
+
+abbrev pub countPart : Release6Value → Option (ℕ × ℕ)
+countPart v = v .0
+
+abbrev pub vstkRand : Release6Value → Option ℕ
+vstkRand v = v .1
 
 abbrev pub Release7Value : Type 0
 Release7Value = ℕ × (ℕ × Option ℕ)
@@ -27,6 +45,15 @@ Release7Value = ℕ × (ℕ × Option ℕ)
 -- (003's braces put Paging Cause outside; document 01 places it inside Release 7)
 abbrev pub release7 : Grammar Release7Value
 release7 = low-high and low-high and flagged (number 1)
+
+abbrev pub uplinkAccess : Release7Value → ℕ
+uplinkAccess v = v .0
+
+abbrev pub emergencyInd : Release7Value → ℕ
+emergencyInd v = v .1 .0
+
+abbrev pub pagingCause : Release7Value → Option ℕ
+pagingCause v = v .1 .1
 
 -- ## The whole
 
@@ -41,6 +68,18 @@ Value = ℕ × ((CallValue ⊎ List ℕ) × (Option Release6Value × Option Rele
 -- {0 <Group Call information> | 1 <Paging Information>} {null | L | H <Release 6>} {null | L | H <Release 7>} <spare padding>
 abbrev pub message : Grammar Value
 message = number 8 and one-of callGrammar paging and later release6 and later release7
+
+abbrev pub firstOctet : Value → ℕ
+firstOctet v = v .0
+
+abbrev pub callOrPaging : Value → CallValue ⊎ List ℕ
+callOrPaging v = v .1 .0
+
+abbrev pub release6Part : Value → Option Release6Value
+release6Part v = v .1 .1 .0
+
+abbrev pub release7Part : Value → Option Release7Value
+release7Part v = v .1 .1 .1
 
 unfoldable pub notification : Format Value
 notification = format message

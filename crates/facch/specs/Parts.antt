@@ -1,18 +1,10 @@
 -- How what was read of a part is told, with the place behind it. Assumes nothing.
-use mathlib.Core.Bool.{false}
 use mathlib.Core.Option.{Option}
-use Prim.Native.Nat.{ℕ}
 use Rattle.csn1.specs.Format.{Res, ok, bad, noRefusal}
-use Rattle.csn1.specs.Told.{isThere}
 use Rattle.facch.specs.Message.{Release6Value, Release7Value}
-use Rattle.facch.specs.Told.{cellCount, b22Count, noRelease6, release6Of, noRelease7, release7Of}
-use Rattle.facch.specs.declared.additions.CountAt.{CountAt}
+use Rattle.facch.specs.Told.{noRelease6, release6Of, noRelease7, release7Of}
 use Rattle.facch.specs.declared.additions.Release6At.{Release6At}
 use Rattle.facch.specs.declared.additions.Release7At.{Release7At}
-
-abbrev pub countAtOf : Res (Option (ℕ × ℕ)) → CountAt
-countAtOf (bad r) = record { refusal = r; there = false; cellcount = 0; b22 = false; at = 0 }
-countAtOf (ok v q) = record { refusal = noRefusal; there = isThere v; cellcount = cellCount v; b22 = b22Count v; at = q }
 
 abbrev pub release6AtOf : Res (Option Release6Value) → Release6At
 release6AtOf (bad r) = record { refusal = r; release = noRelease6; at = 0 }

@@ -8,7 +8,8 @@ use Rattle.csn1.specs.Format.{Res, ok, bad, noRefusal}
 use Rattle.csn1.specs.Told.{isThere, orZero, isOne}
 use Rattle.call.specs.Call.{CallValue, callOf, noCall}
 use Rattle.call.specs.declared.Call.{Call}
-use Rattle.facch.specs.Message.{Release6Value, Release7Value, Value, readOctets}
+use Rattle.facch.specs.Message.{cellGlobalCount, b22Count, Release6Value, countPart, vstkRand, Release7Value, uplinkAccess, emergencyInd, pagingCause}
+use Rattle.facch.specs.Message.{Value, callOrPaging, release6Part, release7Part, readOctets}
 use Rattle.facch.specs.declared.Release6.{Release6}
 use Rattle.facch.specs.declared.Release7.{Release7}
 use Rattle.facch.specs.declared.Notification.{Notification}
@@ -17,13 +18,13 @@ use Rattle.facch.specs.declared.Reading.{Reading}
 -- ## Release 6
 
 -- CELL_GLOBAL_COUNT and B22_COUNT, behind their one flag
-abbrev pub cellCount : Option (ℕ × ℕ) → ℕ
-cellCount none = 0
-cellCount (some c) = c .0
+abbrev pub cellCountIn : Option (ℕ × ℕ) → ℕ
+cellCountIn none = 0
+cellCountIn (some c) = cellGlobalCount c
 
-abbrev pub b22Count : Option (ℕ × ℕ) → Bool
-b22Count none = false
-b22Count (some c) = isOne (c .1)
+abbrev pub b22CountIn : Option (ℕ × ℕ) → Bool
+b22CountIn none = false
+b22CountIn (some c) = isOne (b22Count c)
 
 abbrev pub noRelease6 : Release6
 noRelease6 = record { there = false; counted = false; cellcount = 0; b22 = false; given = false; rand = 0 }
@@ -33,11 +34,11 @@ release6Of none = noRelease6
 release6Of (some v) =
     record {
       there = true;
-      counted = isThere (v .0);
-      cellcount = cellCount (v .0);
-      b22 = b22Count (v .0);
-      given = isThere (v .1);
-      rand = orZero (v .1);
+      counted = isThere (countPart v);
+      cellcount = cellCountIn (countPart v);
+      b22 = b22CountIn (countPart v);
+      given = isThere (vstkRand v);
+      rand = orZero (vstkRand v);
     }
 
 -- ## Release 7
@@ -48,7 +49,8 @@ noRelease7 = record { there = false; uplink = false; emergency = false; caused =
 -- the Paging Cause itself is thrown away
 abbrev pub release7Of : Option Release7Value → Release7
 release7Of none = noRelease7
-release7Of (some v) = record { there = true; uplink = isOne (v .0); emergency = isOne (v .1 .0); caused = isThere (v .1 .1) }
+release7Of (some v) =
+    record { there = true; uplink = isOne (uplinkAccess v); emergency = isOne (emergencyInd v); caused = isThere (pagingCause v) }
 
 -- ## The whole
 
@@ -58,7 +60,7 @@ notified (inl c) = callOf c
 notified (inr p) = noCall
 
 abbrev pub recordOf : Value → Notification
-recordOf v = record { call = notified (v .1 .0); release6 = release6Of (v .1 .1 .0); release7 = release7Of (v .1 .1 .1) }
+recordOf v = record { call = notified (callOrPaging v); release6 = release6Of (release6Part v); release7 = release7Of (release7Part v) }
 
 abbrev pub noRecord : Notification
 noRecord = record { call = noCall; release6 = noRelease6; release7 = noRelease7 }

@@ -12,8 +12,8 @@ use Prim.Native.Nat.{ℕ, zero, suc, _+_, _-_, _≤_, _<_}
 use lib.Dec.{leb}
 use lib.ListN.{length, getD, set, take, drop, replicate, length-set, length-drop}
 use lib.Seq.{drop-cons, length-take-le, take-set-lt, getD-take, set-append-left, take-append-seam}
-use Rattle.gcc.specs.Octet.{copied}
-use Rattle.gcc.specs.Cause.{closing, parse, led, single, meaningOf, places, said, form}
+use Rattle.gcc.specs.Inner.{copied, closing}
+use Rattle.gcc.specs.Cause.{parse, led, single, meaningOf, inPlaces, said, causeOctets}
 use Rattle.gcc.specs.declared.cause.Meaning.{Meaning}
 use Rattle.gcc.specs.declared.cause.Meaning.the-variants.{Unspecific}
 use Rattle.gcc.specs.declared.cause.Reading.{Reading}
@@ -38,7 +38,7 @@ unfolding closing
 closing-next s at left h l k = rw (left-cons s at left h l, lt-leb 128 (getD s at 0) (omega arith))
 
 -- where the octets close, found in the array that keeps them
-pub closing-kept : (s a : List ℕ) (r : ℕ) → a ≡ places s → r ≡ 0 + closing (take (length s) (drop 0 a)) → closing s ≡ r
+pub closing-kept : (s a : List ℕ) (r : ℕ) → a ≡ inPlaces s → r ≡ 0 + closing (take (length s) (drop 0 a)) → closing s ≡ r
 closing-kept s a r e q =
     let t : take (length s) a ≡ s = ap (take (length s)) e ∙ take-append-seam s (replicate (255 - length s) 0) in
     omega (arith, ap closing t)
@@ -103,11 +103,11 @@ drop-zeros (suc n) (suc m) = drop-zeros n m ∙ ap (λ k. replicate {A = ℕ} k 
     minus m n = omega arith
 
 -- what is copied into an array of zeros fills its first places
-pub copied-places : (s : List ℕ) → copied (replicate 255 0) 0 s ≡ places s
+pub copied-places : (s : List ℕ) → copied (replicate 255 0) 0 s ≡ inPlaces s
 unfolding copied
 copied-places s = ap (λ t. s ++ t) (drop-zeros (0 + length s) 255 ∙ rw zero-add)
 
-set-places : (l : List ℕ) (i v : ℕ) → i < length l → set (places l) i v ≡ places (set l i v)
+set-places : (l : List ℕ) (i v : ℕ) → i < length l → set (inPlaces l) i v ≡ inPlaces (set l i v)
 set-places l i v h = rw (set-append-left l (replicate (255 - length l) 0) i v h, length-set l i v)
 
 -- ## The meaning
@@ -129,18 +129,18 @@ meaning-last (o ∷ s) (suc e) v h =
 
 -- a cause that closes at e, as the reader keeps it
 pub tells : (s : List ℕ) (e v : ℕ) (a b : List ℕ) (m : Meaning) → e < length s
-    → a ≡ places (take (e + 1) s) → b ≡ places (take (length s - (e + 1)) (drop (e + 1) s)) → m ≡ single (e + 1) v
+    → a ≡ inPlaces (take (e + 1) s) → b ≡ inPlaces (take (length s - (e + 1)) (drop (e + 1) s)) → m ≡ single (e + 1) v
     → _≡_ {A = Reading} (record { refusal = 0; meaning = m; cause = record { count = e + 1; septets = set a e v; size = length s - (e + 1); diagnostics = b } })
     (said (set (take (e + 1) s) e v) (drop (e + 1) s))
 tells s e v a b m h p q r =
     let t : length (take (e + 1) s) ≡ e + 1 = length-take-le (e + 1) s (omega arith) in
-    let w : set a e v ≡ places (set (take (e + 1) s) e v) = ap (λ x. set x e v) p ∙ set-places (take (e + 1) s) e v (omega arith) in
-    let d : b ≡ places (drop (e + 1) s) = q ∙ ap places (rest-all (e + 1) (length s) s refl) in
+    let w : set a e v ≡ inPlaces (set (take (e + 1) s) e v) = ap (λ x. set x e v) p ∙ set-places (take (e + 1) s) e v (omega arith) in
+    let d : b ≡ inPlaces (drop (e + 1) s) = q ∙ ap inPlaces (rest-all (e + 1) (length s) s refl) in
     rw (w, d, r, meaning-last s e v h, length-set, t, length-drop)
 
 -- the octets of a cause are its parts, the last marked, and the diagnostics
-form-set : (k : ℕ) (l d : List ℕ) → length l ≡ suc k → form l d ≡ set l k (getD l k 0 + 128) ++ d
-unfolding form
+form-set : (k : ℕ) (l d : List ℕ) → length l ≡ suc k → causeOctets l d ≡ set l k (getD l k 0 + 128) ++ d
+unfolding causeOctets
 form-set k [] d e = absurd (omega arith)
 form-set zero (n ∷ []) d e = refl
 form-set zero (n ∷ m ∷ l) d e = absurd (omega arith)
@@ -149,7 +149,7 @@ form-set (suc k) (n ∷ m ∷ l) d e = ap (λ t. n ∷ t) (form-set k (m ∷ l) 
 
 -- as the writer puts them
 pub fills : (n : ℕ) (l d b p q : List ℕ) → 0 < n → n ≤ length l → length b ≡ n + length d
-    → p ≡ copied b 0 (take n (set l (n - 1) (getD l (n - 1) 0 + 128))) → q ≡ copied p n d → q ≡ form (take n l) d
+    → p ≡ copied b 0 (take n (set l (n - 1) (getD l (n - 1) 0 + 128))) → q ≡ copied p n d → q ≡ causeOctets (take n l) d
 fills zero l d b p q z h e x y = absurd (omega arith)
 fills (suc k) l d b p q z h e x y =
     let one : suc k - 1 ≡ k = omega arith in

@@ -10,33 +10,34 @@ use lib.ListN.{length, getD, set, take, drop, length-drop, length-append}
 use lib.Seq.{drop-cons, drop-length, take-all, take-length, take-at, paste, paste-suc}
 use lib.Dec.{leb}
 use Rattle.bits.specs.Field.{both}
-use Rattle.gcc.specs.Octet.{within, copied}
+use Rattle.gcc.specs.Octet.{allBetween}
+use Rattle.gcc.specs.Inner.{copied}
 use Rattle.bits.proofs.Answers.{both-true}
 
 -- an octet in the range leaves the question to the octets behind it
-pub within-next : (lo hi i : ℕ) (s : List ℕ) → i < length s → lo ≤ getD s i 0 → getD s i 0 ≤ hi → within lo hi (drop i s) ≡ within lo hi (drop (i + 1) s)
-unfolding within
+pub within-next : (lo hi i : ℕ) (s : List ℕ) → i < length s → lo ≤ getD s i 0 → getD s i 0 ≤ hi → allBetween lo hi (drop i s) ≡ allBetween lo hi (drop (i + 1) s)
+unfolding allBetween
 within-next lo hi i s h l u = rw (add-one, drop-cons s i 0, le-leb lo (getD s i 0) l, le-leb (getD s i 0) hi u)
 
 -- an octet outside the range answers it
-pub within-low : (lo hi i : ℕ) (s : List ℕ) → i < length s → getD s i 0 < lo → within lo hi (drop i s) ≡ false
-unfolding within
+pub within-low : (lo hi i : ℕ) (s : List ℕ) → i < length s → getD s i 0 < lo → allBetween lo hi (drop i s) ≡ false
+unfolding allBetween
 within-low lo hi i s h l = rw (drop-cons s i 0, lt-leb lo (getD s i 0) l)
 
-pub within-high : (lo hi i : ℕ) (s : List ℕ) → i < length s → lo ≤ getD s i 0 → hi < getD s i 0 → within lo hi (drop i s) ≡ false
-unfolding within
+pub within-high : (lo hi i : ℕ) (s : List ℕ) → i < length s → lo ≤ getD s i 0 → hi < getD s i 0 → allBetween lo hi (drop i s) ≡ false
+unfolding allBetween
 within-high lo hi i s h l u = rw (drop-cons s i 0, le-leb lo (getD s i 0) l, lt-leb (getD s i 0) hi u)
 
 -- each of those that are all in the range is
-pub within-each : (lo hi : ℕ) (s : List ℕ) → within lo hi s ≡ true → (i : ℕ) → i < length s → (lo ≤ getD s i 0) × (getD s i 0 ≤ hi)
-unfolding within
+pub within-each : (lo hi : ℕ) (s : List ℕ) → allBetween lo hi s ≡ true → (i : ℕ) → i < length s → (lo ≤ getD s i 0) × (getD s i 0 ≤ hi)
+unfolding allBetween
 within-each lo hi [] e i h = absurd (omega arith)
 within-each lo hi (x ∷ s) e zero h =
-    let b = both-true (both (leb lo x) (leb x hi)) (within lo hi s) e in
+    let b = both-true (both (leb lo x) (leb x hi)) (allBetween lo hi s) e in
     let d = both-true (leb lo x) (leb x hi) (b .0) in
     (leb-true lo x (d .0), leb-true x hi (d .1))
 within-each lo hi (x ∷ s) e (suc i) h =
-    within-each lo hi s (both-true (both (leb lo x) (leb x hi)) (within lo hi s) e .1) i (omega arith)
+    within-each lo hi s (both-true (both (leb lo x) (leb x hi)) (allBetween lo hi s) e .1) i (omega arith)
 
 -- nothing is left
 pub drop-all : (i : ℕ) (s : List ℕ) → i ≤ length s → length s ≤ i → drop i s ≡ []

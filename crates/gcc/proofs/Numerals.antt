@@ -10,7 +10,7 @@ use Prim.Native.Nat.{ℕ, zero, suc, _+_, _-_, _*_, _/_, _%_, _^_, _≤_, _<_, z
 use lib.ListN.{length, getD, set, drop}
 use lib.Seq.{drop-cons}
 use lib.Arith.{digits-lt, digits-mod, mod-mul}
-use Rattle.gcc.specs.Octet.{within}
+use Rattle.gcc.specs.Octet.{allBetween}
 use Rattle.gcc.specs.Numeral.{spell, worth, Spells}
 use Rattle.gcc.proofs.Lists.{drop-set-here, within-each}
 
@@ -76,8 +76,8 @@ unfolding spell
 length-spell b z zero n = refl
 length-spell b z (suc k) n = ap suc (length-spell b z k n)
 
-pub spell-within : (b z k n : ℕ) → 0 < b → within z (z + (b - 1)) (spell b z k n) ≡ true
-unfolding spell within
+pub spell-within : (b z k n : ℕ) → 0 < b → allBetween z (z + (b - 1)) (spell b z k n) ≡ true
+unfolding spell allBetween
 spell-within b z zero n h = refl
 spell-within b z (suc k) n h =
     let d : ℕ = n / b ^ k % b in
@@ -85,7 +85,7 @@ spell-within b z (suc k) n h =
     rw (le-leb z (z + d) (omega arith), le-leb (z + d) (z + (b - 1)) (omega arith)) (spell-within b z k n h)
 
 -- digits within the range are digits
-pub within-spells : (b z : ℕ) (l : List ℕ) → 0 < b → within z (z + (b - 1)) l ≡ true → Spells b z l
+pub within-spells : (b z : ℕ) (l : List ℕ) → 0 < b → allBetween z (z + (b - 1)) l ≡ true → Spells b z l
 within-spells b z l h w i k = let d = within-each z (z + (b - 1)) l w i k in (d .0, omega arith)
 
 -- ## Steps of the loops

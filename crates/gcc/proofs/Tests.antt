@@ -15,10 +15,6 @@ pub passed : {A : Type 0} (number : A → ℕ) (b : Bool) (x y : A) → 0 < numb
 passed number true x y h e = (refl, e)
 passed number false x y h e = absurd (omega arith)
 
-pub failed : {A : Type 0} (number : A → ℕ) (b : Bool) (x y : A) → 0 < number x → number (pick b x y) ≡ 0 → (b ≡ false) × (number y ≡ 0)
-failed number true x y h e = absurd (omega arith)
-failed number false x y h e = (refl, e)
-
 -- the test passes at each number below n
 abbrev pub every : (ℕ → Bool) → ℕ → Bool
 every f zero = true
@@ -39,6 +35,12 @@ pub agree-where : (t : ℕ → Bool) (f g : ℕ → ℕ) (n : ℕ) → every (λ
 agree-where t f g n e k h w =
     let b : pick (t k) (eqb (f k) (g k)) true ≡ true = below (λ k. pick (t k) (eqb (f k) (g k)) true) n e k h in
     eqb-true (f k) (g k) (rw w at b)
+
+-- one test passes where another does
+pub below-where : (t f : ℕ → Bool) (n : ℕ) → every (λ k. pick (t k) (f k) true) n ≡ true → (k : ℕ) → k < n → t k ≡ true → f k ≡ true
+below-where t f n e k h w =
+    let b : pick (t k) (f k) true ≡ true = below (λ k. pick (t k) (f k) true) n e k h in
+    rw w at b
 
 -- the same answer
 abbrev pub same : Bool → Bool → Bool

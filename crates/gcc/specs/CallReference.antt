@@ -1,12 +1,13 @@
 -- Call reference (44.068, 9.4.1), four octets. Assumes nothing.
+use mathlib.Core.Path.{_≡_}
 use mathlib.Core.List.{List, [], _∷_}
-use mathlib.Core.Bool.{Bool, not}
+use mathlib.Core.Bool.{not}
 use Prim.Native.Nat.{ℕ, _+_, _*_, _/_, _%_}
 use Prim.Native.String.{String}
 use lib.ListN.{length}
 use lib.Dec.{leb, eqb}
-use Rattle.bits.specs.Field.{pick}
-use Rattle.gcc.specs.Octet.{named}
+use Rattle.bits.specs.Field.{pick, firstDue}
+use Rattle.gcc.specs.Octet.{withNumber}
 use Rattle.gcc.specs.Numeral.{worth, spell}
 use Rattle.gcc.specs.declared.«call_reference».Priority.{Priority}
 use Rattle.gcc.specs.declared.«call_reference».Priority.the-variants.{Absent, Reserved, Level4, Level3, Level2, Level1, Level0, LevelB, LevelA}
@@ -32,18 +33,18 @@ abbrev pub priorities : List Priority
 priorities = Absent ∷ Level4 ∷ Level3 ∷ Level2 ∷ Level1 ∷ Level0 ∷ LevelB ∷ LevelA ∷ []
 
 unfoldable pub priorityOf : ℕ → Priority
-priorityOf n = named numberOf priorities Reserved n
+priorityOf n = withNumber numberOf priorities Reserved n
 
 -- the element's 32 bits with the spare ones zero
-unfoldable pub bare : ℕ → ℕ
-bare n = pick (eqb (n / 16 % 2) 0) (n / 16 * 16) (n / 2 * 2)
+unfoldable pub withoutSpare : ℕ → ℕ
+withoutSpare n = pick (eqb (n / 16 % 2) 0) (n / 16 * 16) (n / 2 * 2)
 
 abbrev pub refused : ℕ → Reading
 refused m = record { refusal = m; reference = 0; priority = Absent }
 
 -- what the element's 32 bits say; a reference above 99,999,999 is 4
 abbrev pub told : ℕ → Reading
-told n = pick (leb (n / 32) 99999999) (record { refusal = 0; reference = n / 32; priority = priorityOf (bare n % 32) }) (refused 4)
+told n = pick (leb (n / 32) 99999999) (record { refusal = 0; reference = n / 32; priority = priorityOf (withoutSpare n % 32) }) (refused 4)
 
 unfoldable pub readOf : List ℕ → Reading
 readOf s = pick (eqb (length s) 4) (told (worth 256 0 0 s)) (refused 13)
@@ -52,18 +53,21 @@ readOf s = pick (eqb (length s) 4) (told (worth 256 0 0 s)) (refused 13)
 -- buffer of other than four octets is 11
 unfoldable pub writeNumber : ℕ → Priority → ℕ → ℕ
 writeNumber reference p size =
-    pick (leb reference 134217727)
-    (pick (eqb (numberOf p) 0b1_000_0) 12 (pick (leb reference 99999999) (pick (eqb size 4) 0 11) 4))
-    12
+    firstDue
+    ((leb reference 134217727, 12)
+    ∷ (not (eqb (numberOf p) 0b1_000_0), 12)
+    ∷ (leb reference 99999999, 4)
+    ∷ (eqb size 4, 11)
+    ∷ [])
 
 -- what the buffer then holds
 unfoldable pub writeTo : ℕ → Priority → List ℕ → List ℕ
 writeTo reference p buf = pick (eqb (writeNumber reference p (length buf)) 0) (spell 256 0 4 (reference * 32 + numberOf p)) buf
 
--- the octets whose priority, if they have one, is not the reserved code
-abbrev pub assigned : List ℕ → Bool
-assigned s = not (eqb (bare (worth 256 0 0 s) % 32) 0b1_000_0)
+-- the octets' last five bits, the spare ones taken for zero, are not those of the reserved code
+abbrev pub Assigned : List ℕ → Type 0
+Assigned s = withoutSpare (worth 256 0 0 s) % 32 ≡ 0b1_000_0 → ⊥
 
 -- the octets with their spare bits zero
 abbrev pub spareZero : List ℕ → List ℕ
-spareZero s = spell 256 0 4 (bare (worth 256 0 0 s))
+spareZero s = spell 256 0 4 (withoutSpare (worth 256 0 0 s))

@@ -1,11 +1,10 @@
 -- Call state (44.068, 9.4.2), a half octet. Assumes nothing.
 use mathlib.Core.List.{List, [], _∷_}
-use mathlib.Core.Bool.{Bool}
 use Prim.Native.Nat.{ℕ}
 use Prim.Native.String.{String}
-use lib.Dec.{leb, ltb}
+use lib.Dec.{leb}
 use Rattle.bits.specs.Field.{pick}
-use Rattle.gcc.specs.Octet.{named}
+use Rattle.gcc.specs.Octet.{withNumber}
 use Rattle.gcc.specs.declared.«call_state».State.{State}
 use Rattle.gcc.specs.declared.«call_state».State.the-variants.{U0, U1, U2sl, U3, U4, U5, U0p, U2wr, U2r, U2ws, U2sr, U2nc, Reserved}
 use Rattle.gcc.specs.declared.«call_state».Reading.{Reading}
@@ -34,11 +33,7 @@ abbrev pub states : List State
 states = U0 ∷ U1 ∷ U2sl ∷ U3 ∷ U4 ∷ U5 ∷ U0p ∷ U2wr ∷ U2r ∷ U2ws ∷ U2sr ∷ U2nc ∷ []
 
 unfoldable pub stateOf : ℕ → State
-stateOf n = named numberOf states Reserved n
-
--- the codes that have a state
-abbrev pub assigned : ℕ → Bool
-assigned h = ltb h 12
+stateOf n = withNumber numberOf states Reserved n
 
 unfoldable pub readOf : ℕ → Reading
 readOf h = pick (leb h 15) (record { refusal = 0; state = stateOf h }) (record { refusal = 12; state = U0 })

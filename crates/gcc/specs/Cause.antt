@@ -2,12 +2,12 @@
 use mathlib.Core.List.{List, [], _∷_, _++_}
 use mathlib.Core.Bool.{Bool, true, false}
 use mathlib.Core.Option.{Option, none, some}
-use Prim.Native.Nat.{ℕ, suc, _+_, _-_}
+use Prim.Native.Nat.{ℕ, _+_, _-_}
 use Prim.Native.String.{String}
 use lib.ListN.{length, getD, take, drop, replicate}
 use lib.Dec.{leb, eqb}
-use Rattle.bits.specs.Field.{pick, both}
-use Rattle.gcc.specs.Octet.{within}
+use Rattle.bits.specs.Field.{pick, both, firstDue}
+use Rattle.gcc.specs.Octet.{allBetween}
 use Rattle.gcc.specs.declared.cause.Meaning.{Meaning}
 use Rattle.gcc.specs.declared.cause.Meaning.the-variants.{Nothing, Specific, Unspecific}
 use Rattle.gcc.specs.declared.cause.Cause.{Cause}
@@ -62,8 +62,8 @@ abbrev pub among : List Row → ℕ → Bool
 among [] n = false
 among (r ∷ l) n = pick (covers r n) true (among l n)
 
-unfoldable pub listed : ℕ → Bool
-listed n = among table n
+unfoldable pub isListed : ℕ → Bool
+isListed n = among table n
 
 -- the words of the row that covers n
 abbrev pub wordsAmong : List Row → ℕ → String
@@ -75,11 +75,11 @@ wordsOf Nothing = ""
 wordsOf (Specific n) = wordsAmong table n
 wordsOf Unspecific = "unspecific cause"
 
--- 1 and the number in the table for a specific cause; 0 and 0 for any other, and for a refused element
-abbrev pub numbersOf : Meaning → ℕ × ℕ
-numbersOf Nothing = (0, 0)
-numbersOf (Specific n) = (1, n)
-numbersOf Unspecific = (0, 0)
+-- the meaning as two numbers: 0 and 0 for nothing, 1 and the number in the table for a specific cause, 2 and 0 for an unspecific one
+abbrev pub meaningNumbers : Meaning → List ℕ
+meaningNumbers Nothing = 0 ∷ 0 ∷ []
+meaningNumbers (Specific n) = 1 ∷ n ∷ []
+meaningNumbers Unspecific = 2 ∷ 0 ∷ []
 
 -- ## Reading
 
@@ -93,25 +93,20 @@ unfoldable pub parse : List ℕ → Option (List ℕ × List ℕ)
 parse [] = none
 parse (o ∷ s) = pick (leb 128 o) (some ((o - 128) ∷ [], s)) (led o (parse s))
 
--- the place of the octet that closes a cause, or the length
-unfoldable pub closing : List ℕ → ℕ
-closing [] = 0
-closing (o ∷ s) = pick (leb 128 o) 0 (suc (closing s))
-
 -- what so many cause parts mean; n is the only one, where there is one
 abbrev pub single : ℕ → ℕ → Meaning
-single count n = pick (both (eqb count 1) (listed n)) (Specific n) Unspecific
+single count n = pick (both (eqb count 1) (isListed n)) (Specific n) Unspecific
 
 -- a single cause part that table 9.4 lists is that cause; any other, and more than one, are unspecific
 unfoldable pub meaningOf : List ℕ → Meaning
 meaningOf l = single (length l) (getD l 0 0)
 
 -- the places of an array of 255, filled from the first on
-abbrev pub places : List ℕ → List ℕ
-places l = l ++ replicate (255 - length l) 0
+abbrev pub inPlaces : List ℕ → List ℕ
+inPlaces l = l ++ replicate (255 - length l) 0
 
 abbrev pub causeOf : List ℕ → List ℕ → Cause
-causeOf l d = record { count = length l; septets = places l; size = length d; diagnostics = places d }
+causeOf l d = record { count = length l; septets = inPlaces l; size = length d; diagnostics = inPlaces d }
 
 abbrev pub refused : ℕ → Reading
 refused m = record { refusal = m; meaning = Nothing; cause = causeOf [] [] }
@@ -130,10 +125,10 @@ readOf s = pick (leb (length s) 255) (told (parse s)) (refused 13)
 -- ## Writing
 
 -- the cause parts and the diagnostics as octets
-unfoldable pub form : List ℕ → List ℕ → List ℕ
-form [] d = d
-form (n ∷ []) d = (n + 128) ∷ d
-form (n ∷ m ∷ l) d = n ∷ form (m ∷ l) d
+unfoldable pub causeOctets : List ℕ → List ℕ → List ℕ
+causeOctets [] d = d
+causeOctets (n ∷ []) d = (n + 128) ∷ d
+causeOctets (n ∷ m ∷ l) d = n ∷ causeOctets (m ∷ l) d
 
 abbrev pub partsOf : Cause → List ℕ
 partsOf c = take (c .count) (c .septets)
@@ -144,17 +139,19 @@ diagnosticsOf c = take (c .size) (c .diagnostics)
 -- each cause part has seven bits, and the other places are zero
 unfoldable pub right : Cause → Bool
 right c =
-    both (within 0 127 (partsOf c))
-    (both (within 0 0 (drop (c .count) (c .septets))) (within 0 0 (drop (c .size) (c .diagnostics))))
+    both (allBetween 0 127 (partsOf c))
+    (both (allBetween 0 0 (drop (c .count) (c .septets))) (allBetween 0 0 (drop (c .size) (c .diagnostics))))
 
 -- 0 where the cause is written: no cause part and more than 255 octets are 13, then a field out of its range is 12, then a buffer of another
 -- size is 11
 unfoldable pub writeNumber : Cause → ℕ → ℕ
 writeNumber c size =
-    pick (both (leb 1 (c .count)) (leb (c .count + c .size) 255))
-    (pick (right c) (pick (eqb size (c .count + c .size)) 0 11) 12)
-    13
+    firstDue
+    ((both (leb 1 (c .count)) (leb (c .count + c .size) 255), 13)
+    ∷ (right c, 12)
+    ∷ (eqb size (c .count + c .size), 11)
+    ∷ [])
 
 -- what the buffer then holds
 unfoldable pub writeTo : Cause → List ℕ → List ℕ
-writeTo c buf = pick (eqb (writeNumber c (length buf)) 0) (form (partsOf c) (diagnosticsOf c)) buf
+writeTo c buf = pick (eqb (writeNumber c (length buf)) 0) (causeOctets (partsOf c) (diagnosticsOf c)) buf

@@ -1,10 +1,10 @@
 -- Compressed otdi (44.068, 9.4.8), five octets. Assumes nothing.
-use mathlib.Core.List.{List}
+use mathlib.Core.List.{List, [], _∷_}
 use Prim.Native.Nat.{ℕ}
 use lib.ListN.{length, replicate}
 use lib.Dec.{leb, eqb}
-use Rattle.bits.specs.Field.{pick}
-use Rattle.gcc.specs.Octet.{within}
+use Rattle.bits.specs.Field.{pick, firstDue}
+use Rattle.gcc.specs.Octet.{allBetween}
 use Rattle.gcc.specs.Numeral.{worth, spell}
 use Rattle.gcc.specs.declared.digits.Reading.{Reading}
 
@@ -21,7 +21,7 @@ readOf s = pick (eqb (length s) 5) (told (worth 256 0 0 s)) (refused 13)
 
 -- 0 where the digits are written: other than twelve are 13, then one that is not 30 to 39 hex is 12, then a buffer of other than five octets is 11
 unfoldable pub writeNumber : List ℕ → ℕ → ℕ
-writeNumber ds size = pick (eqb (length ds) 12) (pick (within 48 57 ds) (pick (eqb size 5) 0 11) 12) 13
+writeNumber ds size = firstDue ((eqb (length ds) 12, 13) ∷ (allBetween 48 57 ds, 12) ∷ (eqb size 5, 11) ∷ [])
 
 -- what the buffer then holds
 unfoldable pub writeTo : List ℕ → List ℕ → List ℕ

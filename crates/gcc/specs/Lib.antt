@@ -11,3 +11,4 @@ pub mod Digits
 pub mod Talker
 pub mod Sms
 pub mod Promises
+pub mod Inner

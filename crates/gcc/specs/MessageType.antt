@@ -5,7 +5,7 @@ use Prim.Native.Nat.{ℕ, _+_, _*_, _/_, _%_}
 use Prim.Native.String.{String}
 use lib.Dec.{eqb}
 use Rattle.bits.specs.Field.{pick}
-use Rattle.gcc.specs.Octet.{bit, unit, named}
+use Rattle.gcc.specs.Octet.{isSet, unit, withNumber}
 use Rattle.gcc.specs.declared.«message_type».Kind.{Kind}
 use Rattle.gcc.specs.declared.«message_type».Kind.the-variants.{ImmediateSetup, Setup, Connect, Termination, TerminationRequest, TerminationReject, Status, GetStatus, SetParameter, ImmediateSetup2, Nothing}
 use Rattle.gcc.specs.declared.«message_type».Reading.{Reading}
@@ -44,7 +44,7 @@ kinds =
 
 -- the message with a number, or nothing
 unfoldable pub kindOf : ℕ → Kind
-kindOf n = named numberOf kinds Nothing n
+kindOf n = withNumber numberOf kinds Nothing n
 
 -- an unknown message is 12
 abbrev pub told : Bool → Kind → Reading
@@ -52,7 +52,7 @@ told s k = pick (eqb (numberOf k) 0) (record { refusal = 12; sequence = false; k
 
 -- bit 7 is the send sequence number, and the other bits say the message
 unfoldable pub readOf : ℕ → Reading
-readOf o = told (bit 7 o) (kindOf (o / 128 * 128 + o % 64))
+readOf o = told (isSet 7 o) (kindOf (o / 128 * 128 + o % 64))
 
 unfoldable pub writtenOf : Bool → Kind → Written
 writtenOf s k = pick (eqb (numberOf k) 0) (record { refusal = 12; octet = 0 }) (record { refusal = 0; octet = unit s * 64 + numberOf k })

@@ -3,7 +3,7 @@ use mathlib.Core.Bool.{false}
 use Prim.Native.Nat.{ℕ, _+_, _*_, _%_}
 use lib.Dec.{leb}
 use Rattle.bits.specs.Field.{pick}
-use Rattle.gcc.specs.Octet.{bit, unit}
+use Rattle.gcc.specs.Octet.{isSet, unit}
 use Rattle.gcc.specs.declared.sms.Indications.{Indications}
 use Rattle.gcc.specs.declared.sms.Reading.{Reading}
 
@@ -11,7 +11,7 @@ use Rattle.gcc.specs.declared.sms.Reading.{Reading}
 -- table 9.9, DC: SMS data confidentiality required; GP: SMS guaranteed privacy required
 unfoldable pub readOf : ℕ → Reading
 readOf h =
-    pick (leb h 15) (record { refusal = 0; indications = record { dc = bit 2 h; gp = bit 1 h } })
+    pick (leb h 15) (record { refusal = 0; indications = record { dc = isSet 2 h; gp = isSet 1 h } })
     (record { refusal = 12; indications = record { dc = false; gp = false } })
 
 unfoldable pub writtenOf : Indications → ℕ

@@ -3,14 +3,14 @@ use mathlib.Core.Bool.{false}
 use Prim.Native.Nat.{ℕ, _+_, _*_}
 use lib.Dec.{leb}
 use Rattle.bits.specs.Field.{pick}
-use Rattle.gcc.specs.Octet.{bit, unit}
+use Rattle.gcc.specs.Octet.{isSet, unit}
 use Rattle.gcc.specs.declared.«state_attributes».Attributes.{Attributes}
 use Rattle.gcc.specs.declared.«state_attributes».Reading.{Reading}
 
 -- <state attributes> ::= DA UA COMM OI
 -- table 9.7, DA: user connection in the downlink attached; UA: in the uplink attached; COMM: COMM = T; OI: the MS is the originator of the call
 abbrev pub attributesOf : ℕ → Attributes
-attributesOf h = record { da = bit 4 h; ua = bit 3 h; comm = bit 2 h; oi = bit 1 h }
+attributesOf h = record { da = isSet 4 h; ua = isSet 3 h; comm = isSet 2 h; oi = isSet 1 h }
 
 unfoldable pub readOf : ℕ → Reading
 readOf h =

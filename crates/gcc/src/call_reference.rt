@@ -1,7 +1,7 @@
 // Call reference (44.068, 9.4.1): four octets.
 ghost use mathlib.Core.Path.{_≡_};
 ghost use lib.ListN.{length};
-ghost use Rattle.gcc.specs.CallReference.{numberOf, priorityOf, bare, refused, readOf, writeNumber, writeTo};
+ghost use Rattle.gcc.specs.CallReference.{numberOf, priorityOf, withoutSpare, refused, readOf, writeNumber, writeTo};
 use crate::put;
 use crate::wide;
 use crate::worth_of;
@@ -61,7 +61,7 @@ pub fn priority_of(number: u8) -> Priority
 
 // The element's 32 bits with the spare ones zero: four where there is no priority, else one.
 fn without_spare(n: u64) -> u64
-    ensures { λ r. ⌜ r ≡ bare n ⌝ }
+    ensures { λ r. ⌜ r ≡ withoutSpare n ⌝ }
 {
     if n / 16 % 2 == 0 {
         return n / 16 * 16;

@@ -3,8 +3,9 @@ ghost use mathlib.Core.Path.{_≡_};
 ghost use mathlib.Core.Bool.{true};
 ghost use Prim.Native.Nat.{_+_, _-_, _≤_, _<_};
 ghost use lib.ListN.{length, getD, set, take, drop};
-ghost use Rattle.gcc.specs.Octet.{within};
-ghost use Rattle.gcc.specs.Cause.{listed, closing, single, places, said, refused, readOf, form, partsOf, diagnosticsOf, right, writeNumber, writeTo};
+ghost use Rattle.gcc.specs.Octet.{allBetween};
+ghost use Rattle.gcc.specs.Cause.{isListed, single, inPlaces, said, refused, readOf, causeOctets, partsOf, diagnosticsOf, right, writeNumber, writeTo};
+ghost use Rattle.gcc.specs.Inner.{closing};
 use crate::all_within;
 use crate::copy;
 
@@ -35,7 +36,7 @@ const LISTED: [u64; 2] = [0xffff_0047_41d3_0768, 0x0001_001f_8002_0000];
 // Whether table 9.4 lists a cause.
 fn is_listed(n: u8) -> bool
     requires { ⌜ n < 128 ⌝ }
-    ensures { λ r. ⌜ r ≡ listed n ⌝ }
+    ensures { λ r. ⌜ r ≡ isListed n ⌝ }
 {
     let word = LISTED[(n / 64) as usize];
     (word >> (n % 64)) % 2 == 1
@@ -74,7 +75,7 @@ fn meaning_of(count: usize, n: u8) -> Meaning
 // An array that keeps the octets, with zero in the other places.
 fn kept(octets: &[u8]) -> [u8; 255]
     requires { ⌜ length (now octets) ≤ 255 ⌝ }
-    ensures { λ r. ⌜ r ≡ places (now (octets .entry)) ⌝ }
+    ensures { λ r. ⌜ r ≡ inPlaces (now (octets .entry)) ⌝ }
 {
     let mut places = [0u8; 255];
     copy(octets, &mut places, 0);
@@ -153,8 +154,8 @@ fn is_right(cause: Cause) -> bool
 
 // Fills octets of the right number with septets and diagnostics.
 fn put_cause(cause: Cause, octets: &mut [u8])
-    requires { ⌜ (0 < cause .count) × ((length (now octets) ≡ cause .count + cause .size) × (within 0 127 (partsOf cause) ≡ true)) ⌝ }
-    ensures { λ _. ⌜ now (octets .exit) ≡ form (partsOf cause) (diagnosticsOf cause) ⌝ }
+    requires { ⌜ (0 < cause .count) × ((length (now octets) ≡ cause .count + cause .size) × (allBetween 0 127 (partsOf cause) ≡ true)) ⌝ }
+    ensures { λ _. ⌜ now (octets .exit) ≡ causeOctets (partsOf cause) (diagnosticsOf cause) ⌝ }
 {
     let count = cause.count as usize;
     let mut septets = cause.septets;

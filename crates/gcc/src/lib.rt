@@ -2,7 +2,8 @@
 ghost use mathlib.Core.Path.{_≡_};
 ghost use Prim.Native.Nat.{_+_, _≤_, _<_, _^_};
 ghost use lib.ListN.{length};
-ghost use Rattle.gcc.specs.Octet.{bit, unit, within, copied};
+ghost use Rattle.gcc.specs.Octet.{isSet, unit, allBetween};
+ghost use Rattle.gcc.specs.Inner.{copied};
 ghost use Rattle.gcc.specs.Numeral.{worth, spell, Spells};
 
 pub mod call_reference;
@@ -18,7 +19,7 @@ pub mod talker;
 // Whether bit n is set: bit 8 is the highest of an octet, bit 1 the lowest.
 fn is_set(octet: u8, n: u8) -> bool
     requires { ⌜ (0 < n) × (n ≤ 8) ⌝ }
-    ensures { λ r. ⌜ r ≡ bit n octet ⌝ }
+    ensures { λ r. ⌜ r ≡ isSet n octet ⌝ }
 {
     (octet >> (n - 1)) % 2 == 1
 }
@@ -66,7 +67,7 @@ fn put(octets: &mut [u8], n: u64)
 
 // Whether each octet is from lo to hi.
 fn all_within(s: &[u8], lo: u8, hi: u8) -> bool
-    ensures { λ r. ⌜ r ≡ within lo hi (now (s .entry)) ⌝ }
+    ensures { λ r. ⌜ r ≡ allBetween lo hi (now (s .entry)) ⌝ }
 {
     let mut i: usize = 0;
     while i < s.len() {

@@ -8,11 +8,11 @@ use lib.ListN.{length, getD, take, set}
 use lib.Seq.{sets}
 use borrow.Author.Tests.{eq-eqb, ne-eqb, not-true, not-false}
 use Rattle.csn1.specs.Told.{padded}
-use Rattle.gcc.specs.Cause.{writeNumber}
+use Rattle.gcc.specs.Cause.{meaningNumbers, writeNumber}
 use Rattle.gcc.specs.declared.cause.Meaning.{Meaning}
 use Rattle.gcc.specs.declared.cause.Meaning.the-variants.{Nothing, Specific, Unspecific}
 use Rattle.arrays.specs.Limits.{within}
-use Rattle.gcc_numbers.specs.ElementNumbers.{meaningNumbers, causeMost, causeFrom, wrongLength, causeCode}
+use Rattle.gcc_numbers.specs.ElementNumbers.{causeMost, causeFrom, wrongLength, causeCode}
 use Rattle.arrays.proofs.Running.{sets-append}
 use Rattle.gcc_numbers.proofs.Octets.{Most, most-of, widened}
 

@@ -1,4 +1,5 @@
 pub mod Refusals
 pub mod Octets
 pub mod CauseNumbers
-pub mod ElementPromises
+pub mod Zeros
+pub mod Backs

@@ -13,7 +13,7 @@ use Rattle.csn1.specs.Told.{padded}
 use Rattle.bits.proofs.Answers.{both-true}
 use Rattle.csn1.proofs.Lists.{padded-none}
 use Rattle.arrays.specs.Limits.{within, octet}
-use Rattle.gcc_numbers.specs.ElementNumbers.{AllOctets}
+use Rattle.gcc_numbers.specs.Inner.{AllOctets}
 use Rattle.arrays.proofs.Running.{sets-append}
 use Rattle.arrays.proofs.Filling.{sets-zeros}
 use Rattle.arrays.proofs.Within.{within-next, within-not, within-end}

@@ -30,5 +30,5 @@ module _ (n : ℕ) (most ns : List ℕ) where
   fits-own b h e t = rw (eq-eqb _ _ h, ← e, not-false b t)
 
 -- each number is at most the largest of its field
-pub each : (most ns : List ℕ) (b : Bool) → b ≡ within ns most → not b ≡ false → (k : ℕ) → k < length most → getD ns k 0 ≤ getD most k 0
-each most ns b e t k h = within-at ns most k (sym e ∙ not-false b t) h
+pub each-at-most : (most ns : List ℕ) (b : Bool) → b ≡ within ns most → not b ≡ false → (k : ℕ) → k < length most → getD ns k 0 ≤ getD most k 0
+each-at-most most ns b e t k h = within-at ns most k (sym e ∙ not-false b t) h

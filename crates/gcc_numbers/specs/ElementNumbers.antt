@@ -1,7 +1,7 @@
 -- The elements of 44.068 as arrays of numbers, in the order of include/asternhaken.h. Assumes nothing.
 use mathlib.Core.List.{List, [], _∷_, _++_}
 use mathlib.Core.Bool.{Bool, not}
-use Prim.Native.Nat.{ℕ, _+_, _*_, _/_, _%_, _≤_}
+use Prim.Native.Nat.{ℕ, _+_, _*_, _/_, _%_}
 use lib.ListN.{length, getD, take, drop, replicate}
 use lib.Dec.{leb, eqb}
 use Rattle.bits.specs.Field.{both, pick}
@@ -17,8 +17,6 @@ use Rattle.gcc.specs.declared.«call_reference».Priority.{Priority}
 use Rattle.gcc.specs.declared.«call_state».Reading.{Reading as StateRead}
 use Rattle.gcc.specs.declared.cause.Reading.{Reading as CauseRead}
 use Rattle.gcc.specs.declared.cause.Cause.{Cause}
-use Rattle.gcc.specs.declared.cause.Meaning.{Meaning}
-use Rattle.gcc.specs.declared.cause.Meaning.the-variants.{Nothing, Specific, Unspecific}
 use Rattle.gcc.specs.declared.originator.Reading.{Reading as OriginatorRead}
 use Rattle.gcc.specs.declared.«state_attributes».Reading.{Reading as AttributesRead}
 use Rattle.gcc.specs.declared.«state_attributes».Attributes.{Attributes}
@@ -37,10 +35,6 @@ codeFor n most ns own = pick (eqb (length ns) n) (pick (within ns most) own 12) 
 
 abbrev pub isFlag : List ℕ → ℕ → Bool
 isFlag ns k = eqb (getD ns k 0) 1
-
--- each number is an octet
-abbrev pub AllOctets : List ℕ → Type 0
-AllOctets ns = (k : ℕ) → getD ns k 0 ≤ octet
 
 -- ## Message type: send sequence number, message type
 
@@ -73,14 +67,9 @@ stateMost = 12 ∷ []
 
 -- ## Cause: how many septets, the septets, how many diagnostics, the diagnostics; when read also what it means
 
-abbrev pub meaningNumbers : Meaning → List ℕ
-meaningNumbers Nothing = 0 ∷ 0 ∷ []
-meaningNumbers (Specific n) = 1 ∷ n ∷ []
-meaningNumbers Unspecific = 2 ∷ 0 ∷ []
-
 abbrev pub causeNumbers : CauseRead → List ℕ
 causeNumbers r =
-    (r .cause .count ∷ r .cause .septets) ++ ((r .cause .size ∷ r .cause .diagnostics) ++ meaningNumbers (r .meaning))
+    (r .cause .count ∷ r .cause .septets) ++ ((r .cause .size ∷ r .cause .diagnostics) ++ cause.meaningNumbers (r .meaning))
 
 unfoldable pub causeMost : List ℕ
 causeMost = replicate 512 octet

@@ -1,2 +1,3 @@
 pub mod ElementNumbers
-pub mod ElementPromises
+pub mod Promises
+pub mod Inner

@@ -4,7 +4,7 @@ ghost use Prim.Native.Nat.{_+_, _≤_};
 ghost use lib.ListN.{length, replicate};
 ghost use lib.Seq.{sets};
 ghost use Rattle.arrays.specs.Limits.{within, octet};
-ghost use Rattle.gcc_numbers.specs.ElementNumbers.{AllOctets};
+ghost use Rattle.gcc_numbers.specs.Inner.{AllOctets};
 
 pub mod call_reference;
 pub mod call_state;

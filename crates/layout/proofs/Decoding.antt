@@ -19,19 +19,18 @@ use Rattle.receiver.specs.declared.Record.{Record}
 use Rattle.receiver.specs.declared.Slot.{Slot}
 use Rattle.receiver.specs.declared.Told.{Told}
 use Rattle.receiver.specs.Channels.{keyCount, places}
-use Rattle.receiver.specs.Model.{noRecord, emptySlot, remade}
-use Rattle.receiver.specs.Store.{withSlots}
+use Rattle.receiver.specs.Model.{noRecord, emptySlot, remade, withSlots}
 use Rattle.receiver.specs.Step.{mostEntries, noTold}
 use Rattle.receiver.proofs.Dropping.{by-test}
-use Rattle.layout.specs.Octets.{leAt, flagAt, octets, table}
-use Rattle.layout.specs.Layout.{tickFrom, timersFrom, cellFrom, keysFrom, kindsFrom, recordLength, answerFrom, toldLength, stateLength, recordAt, entryFlags, messageFlags, smallNumbers, wideOctets, recordOctets, kindPlace, sincePlace, recordPlace, slotNo, keyNo, cellAt, cellOctets, decodeOf, putSlot, toldPlace, carries, toldNo, lastOf, putNumber, putCarried, putTold, putHead}
+use Rattle.layout.specs.Octets.{leAt, flagAt, lowOctets, tabulate}
+use Rattle.layout.specs.Layout.{tickFrom, timersFrom, cellFrom, keysFrom, kindsFrom, recordSize, answerFrom, toldLength, stateLength, recordAt, entryFlags, messageFlags, smallNumbers, wideOctets, recordOctets, kindPlace, sincePlace, recordPlace, slotNo, keyNo, cellAt, cellOctets, decodeOf, putSlot, toldPlace, carries, toldNo, lastOf, putNumber, putCarried, putTold, putHead}
 use Rattle.layout.proofs.Numbers.{length-octets, le-ext, le-stored, le-alone, le-before, le-set, length-table, getD-table, table-ext, table-set}
 use Rattle.layout.proofs.Wide.{Wide, wide-none}
 
 -- ## A record
 
-length-record : (r : Record) → length (recordOctets r) ≡ recordLength
-unfolding recordOctets octets
+length-record : (r : Record) → length (recordOctets r) ≡ recordSize
+unfolding recordOctets lowOctets
 length-record r = refl
 
 flag-back : (b : Bool) → not (eqb (asBit b) 0) ≡ b
@@ -39,14 +38,14 @@ flag-back true = refl
 flag-back false = refl
 
 -- the same octets are the same record
-module _ (l l′ : List ℕ) (at : ℕ) (e : (j : ℕ) → at ≤ j → j < at + recordLength → getD l′ j 0 ≡ getD l j 0) where
-  octet-same : (n : ℕ) → n < recordLength → getD l′ (at + n) 0 ≡ getD l (at + n) 0
+module _ (l l′ : List ℕ) (at : ℕ) (e : (j : ℕ) → at ≤ j → j < at + recordSize → getD l′ j 0 ≡ getD l j 0) where
+  octet-same : (n : ℕ) → n < recordSize → getD l′ (at + n) 0 ≡ getD l (at + n) 0
   octet-same n h = e (at + n) (omega arith) (omega arith)
 
-  flag-same : (n : ℕ) → n < recordLength → flagAt l′ (at + n) ≡ flagAt l (at + n)
+  flag-same : (n : ℕ) → n < recordSize → flagAt l′ (at + n) ≡ flagAt l (at + n)
   flag-same n h = ap (λ (x : ℕ). not (eqb x 0)) (octet-same n h)
 
-  le-same : (w n : ℕ) → n + w ≤ recordLength → leAt w l′ (at + n) ≡ leAt w l (at + n)
+  le-same : (w n : ℕ) → n + w ≤ recordSize → leAt w l′ (at + n) ≡ leAt w l (at + n)
   le-same w n h = le-ext w l′ l (at + n) (at + n) (λ m x. e (at + n + m) (omega arith) (omega arith))
 
   reference-same : leAt 4 l′ at ≡ leAt 4 l at
@@ -98,23 +97,23 @@ module _ (l l′ : List ℕ) (at : ℕ) (e : (j : ℕ) → at ≤ j → j < at +
       }
 
 -- a number in a run of octets
-pub field : (vs l : List ℕ) (at w f : ℕ) (a b : List ℕ) (k n : ℕ) → vs ≡ a ++ octets w f ++ b → length a ≡ k → length b ≡ n → at + (k + w + n) ≤ length l
+pub field : (vs l : List ℕ) (at w f : ℕ) (a b : List ℕ) (k n : ℕ) → vs ≡ a ++ lowOctets w f ++ b → length a ≡ k → length b ≡ n → at + (k + w + n) ≤ length l
     → f < 256 ^ w → leAt w (stored l at vs) (at + k) ≡ f
 field vs l at w f a b k n e p q h lt = rw e (le-stored w f l a b at k p (omega arith) lt)
 
 -- a record that is written reads back
-module _ (l : List ℕ) (at : ℕ) (r : Record) (h : at + recordLength ≤ length l) where
-  octet-back : (n v : ℕ) → n < recordLength → getD (recordOctets r) n 0 ≡ v → getD (stored l at (recordOctets r)) (at + n) 0 ≡ v
+module _ (l : List ℕ) (at : ℕ) (r : Record) (h : at + recordSize ≤ length l) where
+  octet-back : (n v : ℕ) → n < recordSize → getD (recordOctets r) n 0 ≡ v → getD (stored l at (recordOctets r)) (at + n) 0 ≡ v
   octet-back n v lt e = stored-in l at (recordOctets r) n (rw (length-record r) h) (rw (length-record r) lt) ∙ e
 
-  bit-back : (n : ℕ) (b : Bool) → n < recordLength → getD (recordOctets r) n 0 ≡ asBit b → flagAt (stored l at (recordOctets r)) (at + n) ≡ b
+  bit-back : (n : ℕ) (b : Bool) → n < recordSize → getD (recordOctets r) n 0 ≡ asBit b → flagAt (stored l at (recordOctets r)) (at + n) ≡ b
   bit-back n b lt e = ap (λ (x : ℕ). not (eqb x 0)) (octet-back n (asBit b) lt e) ∙ flag-back b
 
   abbrev singles : List ℕ
   singles = entryFlags r ++ (messageFlags r ++ (smallNumbers r ++ replicate 6 0))
 
   -- a number behind k octets, with n behind it
-  wide-back : (w x k n : ℕ) (p q : List ℕ) → wideOctets r ≡ p ++ octets w x ++ q → length p ≡ k → length (q ++ singles) ≡ n → k + w + n ≡ recordLength
+  wide-back : (w x k n : ℕ) (p q : List ℕ) → wideOctets r ≡ p ++ lowOctets w x ++ q → length p ≡ k → length (q ++ singles) ≡ n → k + w + n ≡ recordSize
       → x < 256 ^ w → leAt w (stored l at (recordOctets r)) (at + k) ≡ x
   unfolding recordOctets
   wide-back w x k n p q e u v t lt =
@@ -123,27 +122,27 @@ module _ (l : List ℕ) (at : ℕ) (r : Record) (h : at + recordLength ≤ lengt
   reference-back : r .call .reference < 4294967296 → leAt 4 (stored l at (recordOctets r)) at ≡ r .call .reference
   reference-back lt =
       simp add-zero at (wide-back 4 (r .call .reference) 0 52 []
-      (octets 4 (r .call .description .channel) ++ (octets 8 (r .call .description .frequencies) ++ octets 8 (r .rand)))
+      (lowOctets 4 (r .call .description .channel) ++ (lowOctets 8 (r .call .description .frequencies) ++ lowOctets 8 (r .rand)))
       refl refl (simp (length-append, length-octets)) refl lt)
 
   channel-back : r .call .description .channel < 4294967296 → leAt 4 (stored l at (recordOctets r)) (at + 4) ≡ r .call .description .channel
   channel-back lt =
-      wide-back 4 (r .call .description .channel) 4 48 (octets 4 (r .call .reference)) (octets 8 (r .call .description .frequencies) ++ octets 8 (r .rand))
+      wide-back 4 (r .call .description .channel) 4 48 (lowOctets 4 (r .call .reference)) (lowOctets 8 (r .call .description .frequencies) ++ lowOctets 8 (r .rand))
       (simp append-assoc) (length-octets 4 _) (simp (length-append, length-octets)) refl lt
 
   frequencies-back : r .call .description .frequencies < 18446744073709551616
       → leAt 8 (stored l at (recordOctets r)) (at + 8) ≡ r .call .description .frequencies
   frequencies-back lt =
-      wide-back 8 (r .call .description .frequencies) 8 40 (octets 4 (r .call .reference) ++ octets 4 (r .call .description .channel)) (octets 8 (r .rand))
+      wide-back 8 (r .call .description .frequencies) 8 40 (lowOctets 4 (r .call .reference) ++ lowOctets 4 (r .call .description .channel)) (lowOctets 8 (r .rand))
       (simp append-assoc) (simp (length-append, length-octets)) (simp (length-append, length-octets)) refl lt
 
   rand-back : r .rand < 18446744073709551616 → leAt 8 (stored l at (recordOctets r)) (at + 16) ≡ r .rand
   rand-back lt =
-      wide-back 8 (r .rand) 16 32 (octets 4 (r .call .reference) ++ (octets 4 (r .call .description .channel) ++ octets 8 (r .call .description .frequencies))) []
+      wide-back 8 (r .rand) 16 32 (lowOctets 4 (r .call .reference) ++ (lowOctets 4 (r .call .description .channel) ++ lowOctets 8 (r .call .description .frequencies))) []
       (simp (append-assoc, append-nil)) (simp (length-append, length-octets)) refl refl lt
 
   record-back : Wide r → recordAt (stored l at (recordOctets r)) at ≡ r
-  unfolding recordAt recordOctets octets
+  unfolding recordAt recordOctets lowOctets
   record-back w = λ i.
       record {
         full = bit-back 24 (r .full) (lit< tt) refl i;
@@ -191,7 +190,7 @@ module _ (l : List ℕ) (at : ℕ) (r : Record) (h : at + recordLength ≤ lengt
 
 slot-same : (l l′ : List ℕ) (i : ℕ) → getD l′ (kindPlace i) 0 ≡ getD l (kindPlace i) 0
     → ((j : ℕ) → sincePlace i ≤ j → j < sincePlace i + 4 → getD l′ j 0 ≡ getD l j 0)
-    → ((j : ℕ) → recordPlace i ≤ j → j < recordPlace i + recordLength → getD l′ j 0 ≡ getD l j 0)
+    → ((j : ℕ) → recordPlace i ≤ j → j < recordPlace i + recordSize → getD l′ j 0 ≡ getD l j 0)
     → slotNo l′ i ≡ slotNo l i
 unfolding slotNo
 slot-same l l′ i k e f =
@@ -213,7 +212,7 @@ told-like l l′ j e =
     in
     simp (s, n, r)
 
-keys-same : (l l′ : List ℕ) → ((j : ℕ) → keysFrom ≤ j → j < kindsFrom → getD l′ j 0 ≡ getD l j 0) → table (keyNo l′) 0 keyCount ≡ table (keyNo l) 0 keyCount
+keys-same : (l l′ : List ℕ) → ((j : ℕ) → keysFrom ≤ j → j < kindsFrom → getD l′ j 0 ≡ getD l j 0) → tabulate (keyNo l′) 0 keyCount ≡ tabulate (keyNo l) 0 keyCount
 keys-same l l′ e =
     table-ext (keyNo l′) (keyNo l) 0 keyCount
     (λ i a b. le-ext 4 l′ l (keysFrom + 4 * i) (keysFrom + 4 * i) (λ m x. e (keysFrom + 4 * i + m) (omega arith) (omega arith)))
@@ -226,7 +225,7 @@ pub same-receiver : (a b : Receiver) → a .slots ≡ b .slots → a .keys ≡ b
 same-receiver a b p q r t u v = λ i. record { slots = p i; keys = q i; tick = r i; t3206 = t i; t3208 = u i; cell = v i }
 
 -- the same slots and keys, and the same octets before the keys
-like-receiver : (l l′ : List ℕ) (ss : List Slot) → table (slotNo l′) 0 places ≡ ss → ((j : ℕ) → j < kindsFrom → getD l′ j 0 ≡ getD l j 0)
+like-receiver : (l l′ : List ℕ) (ss : List Slot) → tabulate (slotNo l′) 0 places ≡ ss → ((j : ℕ) → j < kindsFrom → getD l′ j 0 ≡ getD l j 0)
     → decodeOf l′ ≡ withSlots (decodeOf l) ss
 unfolding decodeOf
 like-receiver l l′ ss p e =
@@ -237,7 +236,7 @@ like-receiver l l′ ss p e =
 -- all octets but those of place i
 Elsewhere : ℕ → List ℕ → List ℕ → Type 0
 Elsewhere i l l′ =
-    (j : ℕ) → (j ≡ kindPlace i → ⊥) → (sincePlace i ≤ j → sincePlace i + 4 ≤ j) → (recordPlace i ≤ j → recordPlace i + recordLength ≤ j) → getD l′ j 0 ≡ getD l j 0
+    (j : ℕ) → (j ≡ kindPlace i → ⊥) → (sincePlace i ≤ j → sincePlace i + 4 ≤ j) → (recordPlace i ≤ j → recordPlace i + recordSize ≤ j) → getD l′ j 0 ≡ getD l j 0
 
 -- another place
 slot-elsewhere : (l l′ : List ℕ) (i k : ℕ) → i < places → k < places → (k ≡ i → ⊥) → Elsewhere i l l′ → slotNo l′ k ≡ slotNo l k
@@ -258,7 +257,7 @@ decode-place l l′ i lt e =
     ∙ ap (λ (k : ℕ). set (decodeOf l .slots) i (slotNo l′ k)) (zero-add i))
     (λ j h. e j (λ q. omega arith) (λ q. omega arith) (λ q. omega arith))
 
-slots-same : (l l′ : List ℕ) → ((j : ℕ) → kindsFrom ≤ j → j < answerFrom → getD l′ j 0 ≡ getD l j 0) → table (slotNo l′) 0 places ≡ table (slotNo l) 0 places
+slots-same : (l l′ : List ℕ) → ((j : ℕ) → kindsFrom ≤ j → j < answerFrom → getD l′ j 0 ≡ getD l j 0) → tabulate (slotNo l′) 0 places ≡ tabulate (slotNo l) 0 places
 slots-same l l′ e =
     table-ext (slotNo l′) (slotNo l) 0 places
     (λ i a b. slot-same l l′ i (e (kindPlace i) (omega arith) (omega arith)) (λ j x y. e j (omega arith) (omega arith)) (λ j x y. e j (omega arith) (omega arith)))
@@ -310,8 +309,8 @@ keep-same l i h =
 pub length-put : (l : List ℕ) (i : ℕ) (s : Slot) → length (putSlot l i s) ≡ length l
 unfolding putSlot
 length-put l i s =
-    length-stored (stored (set l (kindPlace i) (s .half)) (sincePlace i) (octets 4 (s .since))) (recordPlace i) (recordOctets (s .«record»))
-    ∙ length-stored (set l (kindPlace i) (s .half)) (sincePlace i) (octets 4 (s .since))
+    length-stored (stored (set l (kindPlace i) (s .half)) (sincePlace i) (lowOctets 4 (s .since))) (recordPlace i) (recordOctets (s .«record»))
+    ∙ length-stored (set l (kindPlace i) (s .half)) (sincePlace i) (lowOctets 4 (s .since))
     ∙ length-set l (kindPlace i) (s .half)
 
 -- octets outside a run
@@ -320,12 +319,12 @@ stored-outside l at vs n j m q =
     by-test (ltb j at) (λ t. stored-before l at vs j (ltb-true _ _ t)) (λ t. stored-after l at vs j (rw m (q (ltb-false _ _ t))))
 
 pub put-elsewhere : (l : List ℕ) (i : ℕ) (s : Slot) (j : ℕ) → i < places → (j ≡ kindPlace i → ⊥) → (sincePlace i ≤ j → sincePlace i + 4 ≤ j)
-    → (recordPlace i ≤ j → recordPlace i + recordLength ≤ j) → getD (putSlot l i s) j 0 ≡ getD l j 0
+    → (recordPlace i ≤ j → recordPlace i + recordSize ≤ j) → getD (putSlot l i s) j 0 ≡ getD l j 0
 unfolding putSlot
 put-elsewhere l i s j h p q r =
-    stored-outside (stored (set l (kindPlace i) (s .half)) (sincePlace i) (octets 4 (s .since))) (recordPlace i) (recordOctets (s .«record»)) recordLength j
+    stored-outside (stored (set l (kindPlace i) (s .half)) (sincePlace i) (lowOctets 4 (s .since))) (recordPlace i) (recordOctets (s .«record»)) recordSize j
     (length-record (s .«record»)) (λ x. omega (arith, r x))
-    ∙ stored-outside (set l (kindPlace i) (s .half)) (sincePlace i) (octets 4 (s .since)) 4 j (length-octets 4 (s .since)) (λ x. omega (arith, q x))
+    ∙ stored-outside (set l (kindPlace i) (s .half)) (sincePlace i) (lowOctets 4 (s .since)) 4 j (length-octets 4 (s .since)) (λ x. omega (arith, q x))
     ∙ getD-set-other l (kindPlace i) j (s .half) 0 p
 
 put-else : (l : List ℕ) (i : ℕ) (s : Slot) → i < places → Elsewhere i l (putSlot l i s)
@@ -337,13 +336,13 @@ module _ (l : List ℕ) (i : ℕ) (s : Slot) (n : length l ≡ stateLength) (h :
   kinded = set l (kindPlace i) (s .half)
 
   abbrev dated : List ℕ
-  dated = stored kinded (sincePlace i) (octets 4 (s .since))
+  dated = stored kinded (sincePlace i) (lowOctets 4 (s .since))
 
   put-kind : getD (putSlot l i s) (kindPlace i) 0 ≡ s .half
   unfolding putSlot
   put-kind =
       stored-before dated (recordPlace i) (recordOctets (s .«record»)) (kindPlace i) (omega arith)
-      ∙ stored-before kinded (sincePlace i) (octets 4 (s .since)) (kindPlace i) (omega arith)
+      ∙ stored-before kinded (sincePlace i) (lowOctets 4 (s .since)) (kindPlace i) (omega arith)
       ∙ getD-set-same l (kindPlace i) (s .half) 0 (omega arith)
 
   put-since : s .since < 4294967296 → leAt 4 (putSlot l i s) (sincePlace i) ≡ s .since
@@ -355,7 +354,7 @@ module _ (l : List ℕ) (i : ℕ) (s : Slot) (n : length l ≡ stateLength) (h :
   put-record : Wide (s .«record») → recordAt (putSlot l i s) (recordPlace i) ≡ s .«record»
   unfolding putSlot
   put-record w =
-      let m : length dated ≡ stateLength = length-stored kinded (sincePlace i) (octets 4 (s .since)) ∙ length-set l (kindPlace i) (s .half) ∙ n in
+      let m : length dated ≡ stateLength = length-stored kinded (sincePlace i) (lowOctets 4 (s .since)) ∙ length-set l (kindPlace i) (s .half) ∙ n in
       record-back dated (recordPlace i) (s .«record») (omega arith) w
 
 slot-put : (l : List ℕ) (i : ℕ) (s : Slot) → length l ≡ stateLength → i < places → s .half < 256 → s .since < 4294967296 → Wide (s .«record»)
@@ -401,13 +400,13 @@ by-told P l j t a b = by-test (carries (t .number)) (λ p. rw (told-with l j t p
 module _ (l : List ℕ) (j key number : ℕ) where
   length-number : length (putNumber l j key number) ≡ length l
   unfolding putNumber
-  length-number = length-set (stored l (toldPlace j) (octets 8 key)) (toldPlace j + 8) number ∙ length-stored l (toldPlace j) (octets 8 key)
+  length-number = length-set (stored l (toldPlace j) (lowOctets 8 key)) (toldPlace j + 8) number ∙ length-stored l (toldPlace j) (lowOctets 8 key)
 
   number-elsewhere : (k : ℕ) → (toldPlace j ≤ k → toldPlace j + toldLength ≤ k) → getD (putNumber l j key number) k 0 ≡ getD l k 0
   unfolding putNumber
   number-elsewhere k q =
-      getD-set-other (stored l (toldPlace j) (octets 8 key)) (toldPlace j + 8) k number 0 (λ e. omega (arith, q (omega arith)))
-      ∙ stored-outside l (toldPlace j) (octets 8 key) 8 k (length-octets 8 key) (λ x. omega (arith, q x))
+      getD-set-other (stored l (toldPlace j) (lowOctets 8 key)) (toldPlace j + 8) k number 0 (λ e. omega (arith, q (omega arith)))
+      ∙ stored-outside l (toldPlace j) (lowOctets 8 key) 8 k (length-octets 8 key) (λ x. omega (arith, q x))
 
   module _ (e : Record) where
     length-carried : length (putCarried l j key number e) ≡ length l
@@ -417,20 +416,20 @@ module _ (l : List ℕ) (j key number : ℕ) where
     carried-elsewhere : (k : ℕ) → (toldPlace j ≤ k → toldPlace j + toldLength ≤ k) → getD (putCarried l j key number e) k 0 ≡ getD l k 0
     unfolding putCarried
     carried-elsewhere k q =
-        stored-outside (putNumber l j key number) (toldPlace j + 16) (recordOctets e) recordLength k (length-record e) (λ x. omega (arith, q (omega arith)))
+        stored-outside (putNumber l j key number) (toldPlace j + 16) (recordOctets e) recordSize k (length-record e) (λ x. omega (arith, q (omega arith)))
         ∙ number-elsewhere k q
 
   module _ (n : length l ≡ stateLength) (h : j < mostEntries) where
     number-key : key < 18446744073709551616 → leAt 8 (putNumber l j key number) (toldPlace j) ≡ key
     unfolding putNumber
     number-key lt =
-        le-set 8 (stored l (toldPlace j) (octets 8 key)) (toldPlace j + 8) number (toldPlace j) (λ x. omega arith)
+        le-set 8 (stored l (toldPlace j) (lowOctets 8 key)) (toldPlace j + 8) number (toldPlace j) (λ x. omega arith)
         ∙ le-alone 8 key l (toldPlace j) (omega arith) lt
 
     number-number : getD (putNumber l j key number) (toldPlace j + 8) 0 ≡ number
     unfolding putNumber
     number-number =
-        getD-set-same (stored l (toldPlace j) (octets 8 key)) (toldPlace j + 8) number 0 (rw (length-stored l (toldPlace j) (octets 8 key)) (omega arith))
+        getD-set-same (stored l (toldPlace j) (lowOctets 8 key)) (toldPlace j + 8) number 0 (rw (length-stored l (toldPlace j) (lowOctets 8 key)) (omega arith))
 
     told-bare : carries number ≡ false → key < 18446744073709551616
         → toldNo (putNumber l j key number) j ≡ record { key = key; number = number; «record» = noRecord }
@@ -484,19 +483,19 @@ cell-back l c h = λ i. record { nln = stored-in l cellFrom (cellOctets c) 0 (om
 
 module _ (l : List ℕ) (tick : ℕ) (cell : Cell) (x d n : ℕ) where
   abbrev ticked : List ℕ
-  ticked = stored l tickFrom (octets 4 tick)
+  ticked = stored l tickFrom (lowOctets 4 tick)
 
   abbrev celled : List ℕ
   celled = stored ticked cellFrom (cellOctets cell)
 
   abbrev counts : List ℕ
-  counts = octets 4 x ++ (octets 4 d ++ octets 4 n)
+  counts = lowOctets 4 x ++ (lowOctets 4 d ++ lowOctets 4 n)
 
   length-counts : length counts ≡ 12
   length-counts = simp (length-append, length-octets)
 
   length-celled : length celled ≡ length l
-  length-celled = length-stored ticked cellFrom (cellOctets cell) ∙ length-stored l tickFrom (octets 4 tick)
+  length-celled = length-stored ticked cellFrom (cellOctets cell) ∙ length-stored l tickFrom (lowOctets 4 tick)
 
   pub length-head : length (putHead l tick cell x d n) ≡ length l
   unfolding putHead
@@ -508,7 +507,7 @@ module _ (l : List ℕ) (tick : ℕ) (cell : Cell) (x d n : ℕ) where
   head-elsewhere j a p q =
       stored-outside celled answerFrom counts 12 j length-counts q
       ∙ stored-outside ticked cellFrom (cellOctets cell) (length (cellOctets cell)) j refl (λ y. omega (arith, p y, cell-fits cell))
-      ∙ stored-after l tickFrom (octets 4 tick) j (rw (length-octets 4 tick) a)
+      ∙ stored-after l tickFrom (lowOctets 4 tick) j (rw (length-octets 4 tick) a)
 
   told-head : (j : ℕ) → toldNo (putHead l tick cell x d n) j ≡ toldNo l j
   told-head j = told-like l (putHead l tick cell x d n) j (λ k a b. head-elsewhere k (omega arith) (λ q. omega arith) (λ q. omega arith))
@@ -524,7 +523,7 @@ module _ (l : List ℕ) (tick : ℕ) (cell : Cell) (x d n : ℕ) where
   unfolding putHead
   head-cell m =
       cell-same celled (stored celled answerFrom counts) (λ j a b. stored-before celled answerFrom counts j (omega arith))
-      ∙ cell-back ticked cell (rw (length-stored l tickFrom (octets 4 tick)) (omega arith))
+      ∙ cell-back ticked cell (rw (length-stored l tickFrom (lowOctets 4 tick)) (omega arith))
 
   pub decode-head : length l ≡ stateLength → tick < 4294967296 → decodeOf (putHead l tick cell x d n) ≡ remade (decodeOf l) (decodeOf l .slots) tick cell
   unfolding decodeOf
@@ -541,26 +540,26 @@ module _ (l : List ℕ) (tick : ℕ) (cell : Cell) (x d n : ℕ) where
   head-expired : length l ≡ stateLength → x < 4294967296 → leAt 4 (putHead l tick cell x d n) answerFrom ≡ x
   unfolding putHead
   head-expired m lt =
-      field counts celled answerFrom 4 x [] (octets 4 d ++ octets 4 n) 0 8 refl refl (simp (length-append, length-octets)) (omega (arith, length-celled)) lt
+      field counts celled answerFrom 4 x [] (lowOctets 4 d ++ lowOctets 4 n) 0 8 refl refl (simp (length-append, length-octets)) (omega (arith, length-celled)) lt
 
   head-dropped : length l ≡ stateLength → d < 4294967296 → leAt 4 (putHead l tick cell x d n) (answerFrom + 4) ≡ d
   unfolding putHead
   head-dropped m lt =
-      field counts celled answerFrom 4 d (octets 4 x) (octets 4 n) 4 4 (simp append-assoc) (length-octets 4 x) (length-octets 4 n)
+      field counts celled answerFrom 4 d (lowOctets 4 x) (lowOctets 4 n) 4 4 (simp append-assoc) (length-octets 4 x) (length-octets 4 n)
       (omega (arith, length-celled)) lt
 
   head-count : length l ≡ stateLength → n < 4294967296 → leAt 4 (putHead l tick cell x d n) (answerFrom + 8) ≡ n
   unfolding putHead
   head-count m lt =
-      field counts celled answerFrom 4 n (octets 4 x ++ octets 4 d) [] 8 0 (simp (append-assoc, append-nil)) (simp (length-append, length-octets)) refl
+      field counts celled answerFrom 4 n (lowOctets 4 x ++ lowOctets 4 d) [] 8 0 (simp (append-assoc, append-nil)) (simp (length-append, length-octets)) refl
       (omega (arith, length-celled)) lt
 
   pub last-head : length l ≡ stateLength → x < 4294967296 → d < 4294967296 → n < 4294967296
       → lastOf (putHead l tick cell x d n)
-      ≡ record { expired = x; dropped = d; count = n; entries = table (λ j. pick (ltb j n) (toldNo l j) noTold) 0 mostEntries }
+      ≡ record { expired = x; dropped = d; count = n; entries = tabulate (λ j. pick (ltb j n) (toldNo l j) noTold) 0 mostEntries }
   unfolding lastOf
   last-head m a b c =
-      let s : lastOf (putHead l tick cell x d n) .entries ≡ table (λ j. pick (ltb j n) (toldNo l j) noTold) 0 mostEntries =
+      let s : lastOf (putHead l tick cell x d n) .entries ≡ tabulate (λ j. pick (ltb j n) (toldNo l j) noTold) 0 mostEntries =
       table-ext (λ j. pick (ltb j (leAt 4 (putHead l tick cell x d n) (answerFrom + 8))) (toldNo (putHead l tick cell x d n) j) noTold)
       (λ j. pick (ltb j n) (toldNo l j) noTold) 0 mostEntries
       (λ j p q. ap₂ (λ (y : ℕ) (z : Told). pick (ltb j y) z noTold) (head-count m c) (told-head j))

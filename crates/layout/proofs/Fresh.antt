@@ -14,7 +14,7 @@ use Rattle.receiver.specs.declared.Setup.{Setup}
 use Rattle.receiver.specs.Channels.{keyCount, places}
 use Rattle.receiver.specs.Model.{emptySlot, noCell, newReceiver, keyPlaces}
 use Rattle.receiver.specs.Step.{mostEntries, noTold}
-use Rattle.layout.specs.Octets.{leAt, octets, table}
+use Rattle.layout.specs.Octets.{leAt, lowOctets, tabulate}
 use Rattle.layout.specs.Layout.{tickFrom, cellFrom, keysFrom, kindsFrom, answerFrom, stateLength, kindPlace, slotNo, keyNo, cellAt, cellOctets, decodeOf, toldNo, lastOf, keysOctets, freshOctets}
 use Rattle.layout.specs.Setup.{noAnswer}
 use Rattle.layout.proofs.Numbers.{length-octets, le-zero, le-alone, le-before, table-ext, table-same, table-list}
@@ -27,21 +27,21 @@ length-keys [] = refl
 length-keys (k ∷ ks) = simp (length-append, length-octets, length-keys ks) (omega arith)
 
 keys-then : (l : List ℕ) (at k : ℕ) (ks : List ℕ)
-    → stored l at (octets 4 k ++ keysOctets ks) ≡ stored (stored l at (octets 4 k)) (at + 4) (keysOctets ks)
+    → stored l at (lowOctets 4 k ++ keysOctets ks) ≡ stored (stored l at (lowOctets 4 k)) (at + 4) (keysOctets ks)
 keys-then l at k ks =
-    sym (stored-then l at (octets 4 k) (keysOctets ks))
-    ∙ ap (λ (n : ℕ). stored (stored l at (octets 4 k)) (at + n) (keysOctets ks)) (length-octets 4 k)
+    sym (stored-then l at (lowOctets 4 k) (keysOctets ks))
+    ∙ ap (λ (n : ℕ). stored (stored l at (lowOctets 4 k)) (at + n) (keysOctets ks)) (length-octets 4 k)
 
 key-back : (l : List ℕ) (at : ℕ) (ks : List ℕ) (i : ℕ) → at + 4 * length ks ≤ length l → ((j : ℕ) → getD ks j 0 < 4294967296) → i < length ks
     → leAt 4 (stored l at (keysOctets ks)) (at + 4 * i) ≡ getD ks i 0
 key-back l at [] i h b lt = absurd (omega arith)
 key-back l at (k ∷ ks) zero h b lt =
     rw (keys-then l at k ks, add-zero at)
-    (le-before 4 (stored l at (octets 4 k)) (at + 4) (keysOctets ks) at (omega arith) ∙ le-alone 4 k l at (omega arith) (b 0))
+    (le-before 4 (stored l at (lowOctets 4 k)) (at + 4) (keysOctets ks) at (omega arith) ∙ le-alone 4 k l at (omega arith) (b 0))
 key-back l at (k ∷ ks) (suc i) h b lt =
     let q : at + 4 * suc i ≡ at + 4 + 4 * i = omega arith in
     rw (keys-then l at k ks, q)
-    (key-back (stored l at (octets 4 k)) (at + 4) ks i (rw (length-stored l at (octets 4 k)) (omega arith)) (λ j. b (suc j)) (omega arith))
+    (key-back (stored l at (lowOctets 4 k)) (at + 4) ks i (rw (length-stored l at (lowOctets 4 k)) (omega arith)) (λ j. b (suc j)) (omega arith))
 
 pub length-places : (n : ℕ) (ks : List ℕ) → length (keyPlaces n ks) ≡ n
 length-places zero ks = refl
@@ -64,7 +64,7 @@ zeros (suc n) (suc j) = zeros n j
 
 module _ (z : List ℕ) (s : Setup) (keys : List ℕ) where
   abbrev times : List ℕ
-  times = octets 4 (s .tick) ++ (octets 4 (s .t3206) ++ octets 4 (s .t3208))
+  times = lowOctets 4 (s .tick) ++ (lowOctets 4 (s .t3206) ++ lowOctets 4 (s .t3208))
 
   abbrev timed : List ℕ
   timed = stored z tickFrom times
@@ -109,14 +109,14 @@ module _ (z : List ℕ) (s : Setup) (keys : List ℕ) where
         λ i. record { expired = n answerFrom (omega arith) i; dropped = n (answerFrom + 4) (omega arith) i; count = n (answerFrom + 8) (omega arith) i; entries = e i }
 
     module _ (m : length z ≡ stateLength) (b : (j : ℕ) → getD keys j 0 < 4294967296) where
-      time-on : (x : ℕ) (p q : List ℕ) (k n : ℕ) → times ≡ p ++ octets 4 x ++ q → length p ≡ k → length q ≡ n → k + 4 + n ≡ cellFrom → x < 4294967296
+      time-on : (x : ℕ) (p q : List ℕ) (k n : ℕ) → times ≡ p ++ lowOctets 4 x ++ q → length p ≡ k → length q ≡ n → k + 4 + n ≡ cellFrom → x < 4294967296
           → leAt 4 fresh (tickFrom + k) ≡ x
       time-on x p q k n e u v w lt =
           le-before 4 celled keysFrom written (tickFrom + k) (omega arith)
           ∙ le-before 4 timed cellFrom (cellOctets noCell) (tickFrom + k) (omega arith)
           ∙ field times z tickFrom 4 x p q k n e u v (omega arith) lt
 
-      keys-on : table (keyNo fresh) 0 keyCount ≡ keyPlaces keyCount keys
+      keys-on : tabulate (keyNo fresh) 0 keyCount ≡ keyPlaces keyCount keys
       keys-on =
           table-list (keyNo fresh) 0 0 keyCount (keyPlaces keyCount keys) (length-places keyCount keys)
           (λ i h.
@@ -135,9 +135,9 @@ module _ (z : List ℕ) (s : Setup) (keys : List ℕ) where
           same-receiver (decodeOf fresh) (newReceiver s (keyPlaces keyCount keys))
           (table-same (slotNo fresh) emptySlot 0 places (λ i x y. slot-empty fresh i (behind (kindPlace i) (omega arith))))
           keys-on
-          (time-on (s .tick) [] (octets 4 (s .t3206) ++ octets 4 (s .t3208)) 0 8 refl refl (simp (length-append, length-octets)) refl u)
-          (time-on (s .t3206) (octets 4 (s .tick)) (octets 4 (s .t3208)) 4 4 (simp append-assoc) (length-octets 4 _) (length-octets 4 _) refl v)
-          (time-on (s .t3208) (octets 4 (s .tick) ++ octets 4 (s .t3206)) [] 8 0 (simp (append-assoc, append-nil)) (simp (length-append, length-octets)) refl refl w)
+          (time-on (s .tick) [] (lowOctets 4 (s .t3206) ++ lowOctets 4 (s .t3208)) 0 8 refl refl (simp (length-append, length-octets)) refl u)
+          (time-on (s .t3206) (lowOctets 4 (s .tick)) (lowOctets 4 (s .t3208)) 4 4 (simp append-assoc) (length-octets 4 _) (length-octets 4 _) refl v)
+          (time-on (s .t3208) (lowOctets 4 (s .tick) ++ lowOctets 4 (s .t3206)) [] 8 0 (simp (append-assoc, append-nil)) (simp (length-append, length-octets)) refl refl w)
           cell-on
 
 -- ## A setup's octets

@@ -9,4 +9,5 @@ pub mod NoneOut
 pub mod Fresh
 pub mod Reading
 pub mod Setting
+pub mod AllParts
 pub mod Promises

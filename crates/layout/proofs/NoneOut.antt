@@ -17,7 +17,8 @@ use Rattle.receiver.specs.Model.{wrapSub, takes, spares, isHeld, ranOutOf, take
 use Rattle.receiver.proofs.Dropping.{by-test}
 use Rattle.layout.specs.Octets.{leAt}
 use Rattle.layout.specs.Layout.{kindsFrom, kindPlace, sincePlace, slotNo, decodeOf}
-use Rattle.layout.specs.Sweep.{timerNo, Running, sweptAt, sweptRun, takesNone}
+use Rattle.layout.specs.Sweep.{timerNo, sweptAt, sweptRun}
+use Rattle.layout.specs.Inner.{Running, takesNone}
 use Rattle.layout.proofs.Numbers.{zero-le}
 use Rattle.layout.proofs.Sweeps.{ran-empty, count-ext, count-dropped}
 use Rattle.layout.proofs.Runs.{ranAt, takenAt, age-said, ran-held, places-still, Swept, swept-said}

@@ -9,7 +9,7 @@ use lib.ListN.{length, getD, set, replicate, length-append}
 use lib.Seq.{getD-append-add, getD-set-other}
 use Rattle.arrays.specs.Runs.{stored}
 use Rattle.arrays.proofs.Running.{stored-before, stored-in, more}
-use Rattle.layout.specs.Octets.{leAt, octets, table}
+use Rattle.layout.specs.Octets.{leAt, lowOctets, tabulate}
 
 -- ## A number, octet by octet
 
@@ -27,14 +27,14 @@ list8 : {a b c d e f g h a′ b′ c′ d′ e′ f′ g′ h′ : ℕ}
     → _≡_ {A = List ℕ} (a ∷ b ∷ c ∷ d ∷ e ∷ f ∷ g ∷ h ∷ []) (a′ ∷ b′ ∷ c′ ∷ d′ ∷ e′ ∷ f′ ∷ g′ ∷ h′ ∷ [])
 list8 p q r s t u v w = cc
 
-pub octets8 : (x : ℕ) → octets 4 (x % 4294967296) ++ octets 4 (x / 4294967296) ≡ octets 8 x
-unfolding octets
+pub octets8 : (x : ℕ) → lowOctets 4 (x % 4294967296) ++ lowOctets 4 (x / 4294967296) ≡ lowOctets 8 x
+unfolding lowOctets
 octets8 x =
     simp div-div-eq-div-mul
     (list8 (omega arith) (omega arith) (omega arith) (omega arith) (omega arith) (omega arith) (omega arith) (omega arith))
 
-pub length-octets : (w x : ℕ) → length (octets w x) ≡ w
-unfolding octets
+pub length-octets : (w x : ℕ) → length (lowOctets w x) ≡ w
+unfolding lowOctets
 length-octets zero x = refl
 length-octets (suc w) x = ap suc (length-octets w (x / 256))
 
@@ -84,36 +84,36 @@ zero-le (suc w) l at e (suc n) h =
     rw q (zero-le w l (at + 1) z n (omega arith))
 
 -- what is written reads back
-back : (w x : ℕ) (b : List ℕ) → x < 256 ^ w → leAt w (octets w x ++ b) 0 ≡ x
-unfolding leAt octets
+back : (w x : ℕ) (b : List ℕ) → x < 256 ^ w → leAt w (lowOctets w x ++ b) 0 ≡ x
+unfolding leAt lowOctets
 back zero x b h = omega arith
 back (suc w) x b h =
     let lt : x / 256 < 256 ^ w = div-lt-iff-lt-mul (lit< tt) .1 (rw pow-suc at h) in
-    let e : leAt w (x % 256 ∷ (octets w (x / 256) ++ b)) (0 + 1) ≡ leAt w (octets w (x / 256) ++ b) 0 =
-    le-ext w (x % 256 ∷ (octets w (x / 256) ++ b)) (octets w (x / 256) ++ b) (0 + 1) 0
+    let e : leAt w (x % 256 ∷ (lowOctets w (x / 256) ++ b)) (0 + 1) ≡ leAt w (lowOctets w (x / 256) ++ b) 0 =
+    le-ext w (x % 256 ∷ (lowOctets w (x / 256) ++ b)) (lowOctets w (x / 256) ++ b) (0 + 1) 0
     (λ n h. let q : 0 + 1 + n ≡ suc n = omega arith in rw (q, zero-add n))
     in
     ap (λ (n : ℕ). x % 256 + n * 256) (e ∙ back w (x / 256) b lt) ∙ omega arith
 
 -- the number whose octets stand from place k of a run that was stored at place at
 pub le-stored : (w x : ℕ) (l a b : List ℕ) (at k : ℕ) → length a ≡ k → at + (k + w + length b) ≤ length l → x < 256 ^ w
-    → leAt w (stored l at (a ++ octets w x ++ b)) (at + k) ≡ x
+    → leAt w (stored l at (a ++ lowOctets w x ++ b)) (at + k) ≡ x
 le-stored w x l a b at k n fits lt =
-    let vs = a ++ octets w x ++ b in
+    let vs = a ++ lowOctets w x ++ b in
     let m : length vs ≡ k + w + length b = simp (length-append, length-octets, n) in
-    le-ext w (stored l at vs) (octets w x ++ b) (at + k) 0
+    le-ext w (stored l at vs) (lowOctets w x ++ b) (at + k) 0
     (λ i h.
     let p : getD (stored l at vs) (at + k + i) 0 ≡ getD vs (k + i) 0 = rw (add-assoc at k i) (stored-in l at vs (k + i) (omega arith) (omega arith)) in
-    let q : getD vs (k + i) 0 ≡ getD (octets w x ++ b) (0 + i) 0 = rw (append-assoc, ← n, zero-add) (getD-append-add a (octets w x ++ b) i 0) in
+    let q : getD vs (k + i) 0 ≡ getD (lowOctets w x ++ b) (0 + i) 0 = rw (append-assoc, ← n, zero-add) (getD-append-add a (lowOctets w x ++ b) i 0) in
     p ∙ q)
     ∙ back w x b lt
 
 -- a number stored alone
-pub le-alone : (w x : ℕ) (l : List ℕ) (at : ℕ) → at + w ≤ length l → x < 256 ^ w → leAt w (stored l at (octets w x)) at ≡ x
+pub le-alone : (w x : ℕ) (l : List ℕ) (at : ℕ) → at + w ≤ length l → x < 256 ^ w → leAt w (stored l at (lowOctets w x)) at ≡ x
 le-alone w x l at fits lt =
     let m = length-octets w x in
-    le-ext w (stored l at (octets w x)) (octets w x ++ []) at 0
-    (λ i h. stored-in l at (octets w x) i (omega arith) (omega arith) ∙ rw (append-nil (octets w x), zero-add i))
+    le-ext w (stored l at (lowOctets w x)) (lowOctets w x ++ []) at 0
+    (λ i h. stored-in l at (lowOctets w x) i (omega arith) (omega arith) ∙ rw (append-nil (lowOctets w x), zero-add i))
     ∙ back w x [] lt
 
 -- numbers that a run of stores lies behind
@@ -126,27 +126,27 @@ le-set w l at v j h = le-ext w (set l at v) l j j (λ n k. getD-set-other l at (
 -- ## Tables
 
 module _ {A : Type 0} where
-  pub length-table : (f : ℕ → A) (k n : ℕ) → length (table f k n) ≡ n
-  unfolding table
+  pub length-table : (f : ℕ → A) (k n : ℕ) → length (tabulate f k n) ≡ n
+  unfolding tabulate
   length-table f k zero = refl
   length-table f k (suc n) = ap suc (length-table f (suc k) n)
 
-  pub getD-table : (f : ℕ → A) (k n i : ℕ) (d : A) → i < n → getD (table f k n) i d ≡ f (k + i)
-  unfolding table
+  pub getD-table : (f : ℕ → A) (k n i : ℕ) (d : A) → i < n → getD (tabulate f k n) i d ≡ f (k + i)
+  unfolding tabulate
   getD-table f k zero i d h = absurd (omega arith)
   getD-table f k (suc n) zero d h = rw add-zero
   getD-table f k (suc n) (suc i) d h = rw (add-suc, ← suc-add) (getD-table f (suc k) n i d (omega arith))
 
-  pub table-ext : (f g : ℕ → A) (k n : ℕ) → ((i : ℕ) → k ≤ i → i < k + n → f i ≡ g i) → table f k n ≡ table g k n
-  unfolding table
+  pub table-ext : (f g : ℕ → A) (k n : ℕ) → ((i : ℕ) → k ≤ i → i < k + n → f i ≡ g i) → tabulate f k n ≡ tabulate g k n
+  unfolding tabulate
   table-ext f g k zero e = refl
   table-ext f g k (suc n) e =
       ap₂ (λ (x : A) (r : List A). x ∷ r) (e k (omega arith) (omega arith)) (table-ext f g (suc k) n (λ i a b. e i (omega arith) (omega arith)))
 
   -- another function at one place
   pub table-set : (f g : ℕ → A) (k n i : ℕ) → i < n → ((j : ℕ) → k ≤ j → j < k + n → (j ≡ k + i → ⊥) → f j ≡ g j)
-      → table f k n ≡ set (table g k n) i (f (k + i))
-  unfolding table
+      → tabulate f k n ≡ set (tabulate g k n) i (f (k + i))
+  unfolding tabulate
   table-set f g k zero i h e = absurd (omega arith)
   table-set f g k (suc n) zero h e =
       ap₂ (λ (x : A) (r : List A). x ∷ r) (rw add-zero) (table-ext f g (suc k) n (λ j a b. e j (omega arith) (omega arith) (λ q. omega arith)))
@@ -155,15 +155,15 @@ module _ {A : Type 0} where
       (table-set f g (suc k) n i (omega arith) (λ j a b c. e j (omega arith) (omega arith) (λ q. c (omega arith))) ∙ rw (suc-add, ← add-suc))
 
   -- one value at every place
-  pub table-same : (f : ℕ → A) (a : A) (k n : ℕ) → ((i : ℕ) → k ≤ i → i < k + n → f i ≡ a) → table f k n ≡ replicate n a
-  unfolding table
+  pub table-same : (f : ℕ → A) (a : A) (k n : ℕ) → ((i : ℕ) → k ≤ i → i < k + n → f i ≡ a) → tabulate f k n ≡ replicate n a
+  unfolding tabulate
   table-same f a k zero e = refl
   table-same f a k (suc n) e =
       ap₂ (λ (x : A) (r : List A). x ∷ r) (e k (omega arith) (omega arith)) (table-same f a (suc k) n (λ i x y. e i (omega arith) (omega arith)))
 
   -- a list is the table of its elements
-  pub table-list : (f : ℕ → A) (d : A) (k n : ℕ) (l : List A) → length l ≡ n → ((i : ℕ) → i < n → f (k + i) ≡ getD l i d) → table f k n ≡ l
-  unfolding table
+  pub table-list : (f : ℕ → A) (d : A) (k n : ℕ) (l : List A) → length l ≡ n → ((i : ℕ) → i < n → f (k + i) ≡ getD l i d) → tabulate f k n ≡ l
+  unfolding tabulate
   table-list f d k zero [] h e = refl
   table-list f d k zero (x ∷ l) h e = absurd (omega arith)
   table-list f d k (suc n) [] h e = absurd (omega arith)

@@ -14,15 +14,15 @@ use Rattle.receiver.specs.declared.Record.{Record}
 use Rattle.receiver.specs.declared.Told.{Told}
 use Rattle.receiver.specs.Model.{noRecord}
 use Rattle.receiver.specs.Step.{mostEntries, noTold}
-use Rattle.layout.specs.Octets.{leAt, octetAt, flagAt, table}
+use Rattle.layout.specs.Octets.{leAt, octetAt, flagAt, tabulate}
 use Rattle.layout.specs.Layout.{answerFrom, recordAt, toldPlace, carries, toldNo, lastOf}
 use Rattle.layout.specs.Parts.{recordNumbers, toldNumbers, partOf}
 use Rattle.layout.proofs.Numbers.{getD-table}
 
 -- ## A record
 
-table-beyond : {A : Type 0} (f : ℕ → A) (k n i : ℕ) (d : A) → n ≤ i → getD (table f k n) i d ≡ d
-unfolding table
+table-beyond : {A : Type 0} (f : ℕ → A) (k n i : ℕ) (d : A) → n ≤ i → getD (tabulate f k n) i d ≡ d
+unfolding tabulate
 table-beyond f k zero i d h = refl
 table-beyond f k (suc n) zero d h = absurd (omega (arith, h))
 table-beyond f k (suc n) (suc i) d h = table-beyond f (suc k) n i d (omega (arith, h))
@@ -47,15 +47,15 @@ module _ (l : List ℕ) (at : ℕ) where
   abbrev single : ℕ → ℕ
   single k = pick (ltb k 44) (asBit (flagAt l (at + k))) (octetAt l (at + k))
 
-  behind : (part : ℕ) → 4 ≤ part → getD (recordNumbers (recordAt l at)) part 0 ≡ getD (table single 24 26) (part - 4) 0
-  unfolding recordAt table
+  behind : (part : ℕ) → 4 ≤ part → getD (recordNumbers (recordAt l at)) part 0 ≡ getD (tabulate single 24 26) (part - 4) 0
+  unfolding recordAt tabulate
   behind zero g = absurd (omega (arith, g))
   behind (suc zero) g = absurd (omega (arith, g))
   behind (suc (suc zero)) g = absurd (omega (arith, g))
   behind (suc (suc (suc zero))) g = absurd (omega (arith, g))
   behind (suc (suc (suc (suc n)))) g =
       let e : n ≡ suc (suc (suc (suc n))) - 4 = omega arith in
-      ap (λ (m : ℕ). getD (table single 24 26) m 0) e
+      ap (λ (m : ℕ). getD (tabulate single 24 26) m 0) e
 
   part-single : (part : ℕ) → 4 ≤ part → part < 30 → getD (recordNumbers (recordAt l at)) part 0 ≡ single (20 + part)
   part-single part g h =
@@ -125,7 +125,7 @@ module _ (l : List ℕ) (entry : ℕ) where
 
 -- ## The answer
 
-table-get : {A : Type 0} (f : ℕ → A) (n i : ℕ) (d : A) → i < n → getD (table f 0 n) i d ≡ f i
+table-get : {A : Type 0} (f : ℕ → A) (n i : ℕ) (d : A) → i < n → getD (tabulate f 0 n) i d ≡ f i
 table-get f n i d h = let z : 0 + i ≡ i = omega arith in getD-table f 0 n i d h ∙ ap f z
 
 module _ (l : List ℕ) (entry : ℕ) where
@@ -158,6 +158,6 @@ module _ (l : List ℕ) (entry : ℕ) where
   last-told (suc (suc zero)) h b u = absurd (omega (arith, h))
   last-told (suc (suc (suc n))) h b u =
       let e : suc (suc (suc n)) - 3 ≡ n = omega arith in
-      let q : getD (table (λ j. pick (ltb j (leAt 4 l (answerFrom + 8))) (toldNo l j) noTold) 0 mostEntries) entry noTold ≡ toldNo l entry
+      let q : getD (tabulate (λ j. pick (ltb j (leAt 4 l (answerFrom + 8))) (toldNo l j) noTold) 0 mostEntries) entry noTold ≡ toldNo l entry
       = table-get _ mostEntries entry noTold b ∙ rw (lt-ltb entry (leAt 4 l (answerFrom + 8)) u) in
       ap (λ (m : ℕ). getD (toldNumbers (toldNo l entry)) m 0) e ∙ ap (λ (t : Told). getD (toldNumbers t) n 0) (sym q)

@@ -14,7 +14,7 @@ use Rattle.csn1.specs.Told.{asBit}
 use Rattle.receiver.specs.declared.Rule.{Rule}
 use Rattle.receiver.specs.Channels.{places}
 use Rattle.receiver.specs.Model.{emptySlot, wrapSub, spares, ranOutOf, takenOf, countAt, expiredOf, droppedOf}
-use Rattle.layout.specs.Octets.{leAt, table}
+use Rattle.layout.specs.Octets.{leAt, tabulate}
 use Rattle.layout.specs.Layout.{kindsFrom, stateLength, isState, kindPlace, sincePlace, slotNo, decodeOf, putSlot}
 use Rattle.layout.specs.Sweep.{timerNo, goes, sweptAt, sweptRun, sweptOctets}
 use Rattle.layout.proofs.Numbers.{zero-le}
@@ -153,13 +153,13 @@ module _ (now : ℕ) (rule : Rule) (from n : ℕ) (l : List ℕ) (x₀ d₀ : �
   -- what the code of a run says
   abbrev pub Counted : ℕ → ℕ → List ℕ → Type 0
   Counted x d k =
-      (x ≡ x₀ + countAt (λ i s. ranOutOf now (timerNo l i) s) from (table (slotNo l) from n))
-      × ((d ≡ d₀ + countAt (λ i s. takenOf now (timerNo l i) rule i s) from (table (slotNo l) from n)) × (k ≡ sweptRun now rule from n l))
+      (x ≡ x₀ + countAt (λ i s. ranOutOf now (timerNo l i) s) from (tabulate (slotNo l) from n))
+      × ((d ≡ d₀ + countAt (λ i s. takenOf now (timerNo l i) rule i s) from (tabulate (slotNo l) from n)) × (k ≡ sweptRun now rule from n l))
 
-  ran-counted : countAt (λ i s. ranOutOf now (timerNo l i) s) from (table (slotNo l) from n) ≡ countRun (ranAt now l) from n
+  ran-counted : countAt (λ i s. ranOutOf now (timerNo l i) s) from (tabulate (slotNo l) from n) ≡ countRun (ranAt now l) from n
   ran-counted = count-table (λ i s. ranOutOf now (timerNo l i) s) (slotNo l) from n
 
-  taken-counted : countAt (λ i s. takenOf now (timerNo l i) rule i s) from (table (slotNo l) from n) ≡ countRun (takenAt now rule l) from n
+  taken-counted : countAt (λ i s. takenOf now (timerNo l i) rule i s) from (tabulate (slotNo l) from n) ≡ countRun (takenAt now rule l) from n
   taken-counted = count-table (λ i s. takenOf now (timerNo l i) rule i s) (slotNo l) from n
 
   pub run-said : (b : List ℕ) (x d : ℕ) → Sweeping now rule from l x₀ d₀ n b x d → Counted x d b

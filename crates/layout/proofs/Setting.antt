@@ -15,7 +15,7 @@ use Rattle.receiver.specs.declared.Setup.{Setup}
 use Rattle.receiver.specs.Channels.{keyCount}
 use Rattle.receiver.specs.Model.{noCell, newReceiver, keyPlaces, setupRight, startedOf}
 use Rattle.receiver.proofs.Dropping.{by-test}
-use Rattle.layout.specs.Octets.{octets}
+use Rattle.layout.specs.Octets.{lowOctets}
 use Rattle.layout.specs.Layout.{tickFrom, timersFrom, cellFrom, keysFrom, stateLength, isState, cellOctets, decodeOf, keysOctets, freshOctets}
 use Rattle.layout.specs.Setup.{setupCode, setupOctets, SetUp}
 use Rattle.layout.proofs.States.{at-state, no-state}
@@ -37,9 +37,9 @@ zeroed b n q z =
 
 -- ## Keys
 
-keys-one : (a : List ℕ) (k : ℕ) → keysOctets (a ++ (k ∷ [])) ≡ keysOctets a ++ octets 4 k
-keys-one [] k = append-nil (octets 4 k)
-keys-one (x ∷ a) k = ap (λ (r : List ℕ). octets 4 x ++ r) (keys-one a k) ∙ sym (append-assoc (octets 4 x) (keysOctets a) (octets 4 k))
+keys-one : (a : List ℕ) (k : ℕ) → keysOctets (a ++ (k ∷ [])) ≡ keysOctets a ++ lowOctets 4 k
+keys-one [] k = append-nil (lowOctets 4 k)
+keys-one (x ∷ a) k = ap (λ (r : List ℕ). lowOctets 4 x ++ r) (keys-one a k) ∙ sym (append-assoc (lowOctets 4 x) (keysOctets a) (lowOctets 4 k))
 
 pub place-here : (n : ℕ) (l : List ℕ) (i : ℕ) → i < n → i < length l → getD (keyPlaces n l) i 0 ≡ getD l i 0
 place-here zero l i h k = absurd (omega (arith, h))
@@ -59,13 +59,13 @@ pub keys-next : (l b : List ℕ) (at : ℕ) (ks : List ℕ) (i k : ℕ)
     → i < length ks
     → k ≡ getD ks i 0
     → b ≡ stored l at (keysOctets (take i ks))
-    → stored b (at + 4 * i) (octets 4 k) ≡ stored l at (keysOctets (take (i + 1) ks))
+    → stored b (at + 4 * i) (lowOctets 4 k) ≡ stored l at (keysOctets (take (i + 1) ks))
 keys-next l b at ks i k h e p =
     let n : length (keysOctets (take i ks)) ≡ 4 * i = length-keys (take i ks) ∙ ap (λ (m : ℕ). 4 * m) (length-take-le i ks (omega (arith, h))) in
     let s : i + 1 ≡ suc i = omega arith in
-    let q : keysOctets (take (i + 1) ks) ≡ keysOctets (take i ks) ++ octets 4 k
-    = ap (λ (m : ℕ). keysOctets (take m ks)) s ∙ ap keysOctets (take-suc ks i 0 h) ∙ keys-one (take i ks) (getD ks i 0) ∙ ap (λ (m : ℕ). keysOctets (take i ks) ++ octets 4 m) (sym e) in
-    more (4 * i) l b _ at (keysOctets (take i ks)) (octets 4 k) p n refl ∙ ap (stored l at) (sym q)
+    let q : keysOctets (take (i + 1) ks) ≡ keysOctets (take i ks) ++ lowOctets 4 k
+    = ap (λ (m : ℕ). keysOctets (take m ks)) s ∙ ap keysOctets (take-suc ks i 0 h) ∙ keys-one (take i ks) (getD ks i 0) ∙ ap (λ (m : ℕ). keysOctets (take i ks) ++ lowOctets 4 m) (sym e) in
+    more (4 * i) l b _ at (keysOctets (take i ks)) (lowOctets 4 k) p n refl ∙ ap (stored l at) (sym q)
 
 pub keys-all : (ks : List ℕ) (i : ℕ) → length ks ≤ i → keysOctets (take i ks) ≡ keysOctets ks
 keys-all ks i h = ap keysOctets (take-all i ks h)
@@ -114,26 +114,34 @@ module _ (l : List ℕ) (s : Setup) (keys : List ℕ) where
   unfolding setupCode
   set-started q = by-test (isState l) (λ p. rw p at q) (λ p. let z : _≡_ {A = ℕ} 13 0 = rw p at q in absurd (omega arith))
 
-  pub set-length : (left : List ℕ) → SetUp l s keys left 0 → length left ≡ stateLength
+  pub set-left : (left : List ℕ) (code : ℕ) → SetUp l s keys left code → (code ≡ 0 → ⊥) → left ≡ l
   unfolding setupOctets
-  set-length left u =
-      let b : eqb (setupCode l s keys) 0 ≡ true = ap (λ n. eqb n 0) (sym (u .number)) in
-      let q : left ≡ freshOctets s keys = u .octets ∙ rw b in
-      ap length q ∙ length-fresh s keys
+  set-left left code u z =
+      let b : eqb (setupCode l s keys) 0 ≡ false = ne-eqb (setupCode l s keys) 0 (λ e. z (u .number ∙ e)) in
+      u .octets ∙ rw b
+
+  pub set-fresh : (left : List ℕ) (code : ℕ) → SetUp l s keys left code → code ≡ 0 → left ≡ freshOctets s keys
+  unfolding setupOctets
+  set-fresh left code u z =
+      let b : eqb (setupCode l s keys) 0 ≡ true = ap (λ n. eqb n 0) (sym (u .number) ∙ z) in
+      u .octets ∙ rw b
+
+  pub set-length : (left : List ℕ) → SetUp l s keys left 0 → length left ≡ stateLength
+  set-length left u = ap length (set-fresh left 0 u refl) ∙ length-fresh s keys
 
 -- the steps of filling, in their order
 pub filled : (s : Setup) (keys z a b c e : List ℕ)
     → z ≡ replicate stateLength 0
-    → a ≡ stored z tickFrom (octets 4 (s .tick))
-    → b ≡ stored a timersFrom (octets 4 (s .t3206))
-    → c ≡ stored b (timersFrom + 4) (octets 4 (s .t3208))
+    → a ≡ stored z tickFrom (lowOctets 4 (s .tick))
+    → b ≡ stored a timersFrom (lowOctets 4 (s .t3206))
+    → c ≡ stored b (timersFrom + 4) (lowOctets 4 (s .t3208))
     → e ≡ stored (set c cellFrom (noCell .nln)) keysFrom (keysOctets (keyPlaces keyCount keys))
     → e ≡ freshOctets s keys
 unfolding freshOctets
 filled s keys z a b c e pz pa pb pc pe =
-    let x = octets 4 (s .tick) in
-    let y = octets 4 (s .t3206) in
-    let w = octets 4 (s .t3208) in
+    let x = lowOctets 4 (s .tick) in
+    let y = lowOctets 4 (s .t3206) in
+    let w = lowOctets 4 (s .t3208) in
     let times : c ≡ stored (replicate stateLength 0) tickFrom (x ++ (y ++ w)) =
     three-runs z a b c tickFrom 4 4 x y w (length-octets 4 (s .tick)) (length-octets 4 (s .t3206)) pa pb pc ∙ ap (λ (l : List ℕ). stored l tickFrom (x ++ (y ++ w))) pz
     in

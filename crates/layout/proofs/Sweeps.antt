@@ -13,11 +13,10 @@ use Rattle.receiver.specs.declared.Receiver.{Receiver}
 use Rattle.receiver.specs.declared.Rule.{Rule}
 use Rattle.receiver.specs.declared.Slot.{Slot}
 use Rattle.receiver.specs.Channels.{places, sideOf, byNumber}
-use Rattle.receiver.specs.Model.{emptySlot, timerAt, ranOutOf, takenOf, keptOf, countAt, sweptSlots, expiredOf, droppedOf}
-use Rattle.receiver.specs.Store.{withSlots}
+use Rattle.receiver.specs.Model.{emptySlot, timerAt, ranOutOf, takenOf, keptOf, countAt, sweptSlots, expiredOf, droppedOf, withSlots}
 use Rattle.receiver.proofs.Dropping.{by-test}
 use Rattle.receiver.proofs.Loops.{partAt, part-set, part-keep, part-all}
-use Rattle.layout.specs.Octets.{leAt, table}
+use Rattle.layout.specs.Octets.{leAt, tabulate}
 use Rattle.layout.specs.Layout.{timersFrom, cellFrom, kindsFrom, sincesFrom, answerFrom, stateLength, kindPlace, slotNo, decodeOf, putSlot}
 use Rattle.layout.specs.Sweep.{timerNo, goes, sweptAt, sweptRun, sweptOctets}
 use Rattle.layout.proofs.Numbers.{le-ext}
@@ -225,8 +224,8 @@ count-ext t u from (suc n) e =
     ap₂ (λ (x : ℕ) (b : Bool). x + asBit b) (count-ext t u from n (λ k h. e k (omega arith))) (e n (omega arith))
 
 -- in a table
-pub count-table : {A : Type 0} (f : ℕ → A → Bool) (g : ℕ → A) (k n : ℕ) → countAt f k (table g k n) ≡ countRun (λ i. f i (g i)) k n
-unfolding table
+pub count-table : {A : Type 0} (f : ℕ → A → Bool) (g : ℕ → A) (k n : ℕ) → countAt f k (tabulate g k n) ≡ countRun (λ i. f i (g i)) k n
+unfolding tabulate
 count-table f g k zero = sym (count-zero (λ i. f i (g i)) k)
 count-table f g k (suc n) =
     ap (λ (x : ℕ). asBit (f k (g k)) + x) (count-table f g (suc k) n) ∙ sym (count-first (λ i. f i (g i)) k n)

@@ -16,7 +16,7 @@ use Rattle.receiver.specs.declared.Told.{Told}
 use Rattle.receiver.specs.Channels.{channels, keyCount, places}
 use Rattle.receiver.specs.Model.{noRecord, emptySlot, noCell, keyPlaces}
 use Rattle.receiver.specs.Step.{noTold, mostEntries}
-use Rattle.layout.specs.Octets.{leAt, octetAt, flagAt, octets, table}
+use Rattle.layout.specs.Octets.{leAt, octetAt, flagAt, lowOctets, tabulate}
 
 -- ## What stands where: the tick, the timers, what is known of the cell, the keys, three arrays over the places, the answer
 
@@ -43,19 +43,19 @@ sincesFrom = kindsFrom + (places + 7) / 8 * 8
 abbrev pub recordsFrom : ℕ
 recordsFrom = sincesFrom + 4 * places
 
-abbrev pub recordLength : ℕ
-recordLength = 56
+abbrev pub recordSize : ℕ
+recordSize = 56
 
 -- expiries, drops and the number of entries, four octets each, and four that are not used; then the entries
 abbrev pub answerFrom : ℕ
-answerFrom = recordsFrom + recordLength * places
+answerFrom = recordsFrom + recordSize * places
 
 abbrev pub toldsFrom : ℕ
 toldsFrom = answerFrom + 16
 
 -- a key of eight octets, the number told, seven that are not used, a record
 abbrev pub toldLength : ℕ
-toldLength = 16 + recordLength
+toldLength = 16 + recordSize
 
 abbrev pub stateLength : ℕ
 stateLength = toldsFrom + toldLength * mostEntries
@@ -127,7 +127,7 @@ smallNumbers r =
 
 abbrev pub wideOctets : Record → List ℕ
 wideOctets r =
-    octets 4 (r .call .reference) ++ (octets 4 (r .call .description .channel) ++ (octets 8 (r .call .description .frequencies) ++ octets 8 (r .rand)))
+    lowOctets 4 (r .call .reference) ++ (lowOctets 4 (r .call .description .channel) ++ (lowOctets 8 (r .call .description .frequencies) ++ lowOctets 8 (r .rand)))
 
 -- the last six octets are not used
 unfoldable pub recordOctets : Record → List ℕ
@@ -145,7 +145,7 @@ abbrev pub sincePlace : ℕ → ℕ
 sincePlace i = sincesFrom + 4 * i
 
 abbrev pub recordPlace : ℕ → ℕ
-recordPlace i = recordsFrom + recordLength * i
+recordPlace i = recordsFrom + recordSize * i
 
 -- a place whose kind is 0 is empty, whatever else stands there
 unfoldable pub slotNo : List ℕ → ℕ → Slot
@@ -167,8 +167,8 @@ cellOctets c = c .nln ∷ []
 unfoldable pub decodeOf : List ℕ → Receiver
 decodeOf l =
     record {
-      slots = table (slotNo l) 0 places;
-      keys = table (keyNo l) 0 keyCount;
+      slots = tabulate (slotNo l) 0 places;
+      keys = tabulate (keyNo l) 0 keyCount;
       tick = leAt 4 l tickFrom;
       t3206 = leAt 4 l timersFrom;
       t3208 = leAt 4 l (timersFrom + 4);
@@ -180,7 +180,7 @@ keysIn l = decodeOf l .keys
 
 unfoldable pub putSlot : List ℕ → ℕ → Slot → List ℕ
 putSlot l i s =
-    stored (stored (set l (kindPlace i) (s .half)) (sincePlace i) (octets 4 (s .since))) (recordPlace i) (recordOctets (s .«record»))
+    stored (stored (set l (kindPlace i) (s .half)) (sincePlace i) (lowOctets 4 (s .since))) (recordPlace i) (recordOctets (s .«record»))
 
 -- ## The answer
 
@@ -215,12 +215,12 @@ lastOf l =
       expired = leAt 4 l answerFrom;
       dropped = leAt 4 l (answerFrom + 4);
       count = leAt 4 l (answerFrom + 8);
-      entries = table (λ j. pick (ltb j (leAt 4 l (answerFrom + 8))) (toldNo l j) noTold) 0 mostEntries;
+      entries = tabulate (λ j. pick (ltb j (leAt 4 l (answerFrom + 8))) (toldNo l j) noTold) 0 mostEntries;
     }
 
 -- an entry that carries no record, and one that does
 unfoldable pub putNumber : List ℕ → ℕ → ℕ → ℕ → List ℕ
-putNumber l j key number = set (stored l (toldPlace j) (octets 8 key)) (toldPlace j + 8) number
+putNumber l j key number = set (stored l (toldPlace j) (lowOctets 8 key)) (toldPlace j + 8) number
 
 unfoldable pub putCarried : List ℕ → ℕ → ℕ → ℕ → Record → List ℕ
 putCarried l j key number e = stored (putNumber l j key number) (toldPlace j + 16) (recordOctets e)
@@ -232,15 +232,15 @@ putTold l j t =
 -- the tick, what is known of the cell, and the answer's three numbers
 unfoldable pub putHead : List ℕ → ℕ → Cell → ℕ → ℕ → ℕ → List ℕ
 putHead l tick cell expired dropped count =
-    stored (stored (stored l tickFrom (octets 4 tick)) cellFrom (cellOctets cell)) answerFrom (octets 4 expired ++ (octets 4 dropped ++ octets 4 count))
+    stored (stored (stored l tickFrom (lowOctets 4 tick)) cellFrom (cellOctets cell)) answerFrom (lowOctets 4 expired ++ (lowOctets 4 dropped ++ lowOctets 4 count))
 
 -- ## Setup: every octet is written
 
 abbrev pub keysOctets : List ℕ → List ℕ
 keysOctets [] = []
-keysOctets (k ∷ ks) = octets 4 k ++ keysOctets ks
+keysOctets (k ∷ ks) = lowOctets 4 k ++ keysOctets ks
 
 unfoldable pub freshOctets : Setup → List ℕ → List ℕ
 freshOctets s keys =
-    stored (stored (stored (replicate stateLength 0) tickFrom (octets 4 (s .tick) ++ (octets 4 (s .t3206) ++ octets 4 (s .t3208)))) cellFrom (cellOctets noCell))
+    stored (stored (stored (replicate stateLength 0) tickFrom (lowOctets 4 (s .tick) ++ (lowOctets 4 (s .t3206) ++ lowOctets 4 (s .t3208)))) cellFrom (cellOctets noCell))
     keysFrom (keysOctets (keyPlaces keyCount keys))

@@ -4,3 +4,4 @@ pub mod Sweep
 pub mod Setup
 pub mod Parts
 pub mod Promises
+pub mod Inner

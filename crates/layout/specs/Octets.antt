@@ -18,11 +18,11 @@ abbrev pub flagAt : List ℕ → ℕ → Bool
 flagAt l at = not (eqb (getD l at 0) 0)
 
 -- the w lowest octets of x
-unfoldable pub octets : ℕ → ℕ → List ℕ
-octets zero x = []
-octets (suc w) x = x % 256 ∷ octets w (x / 256)
+unfoldable pub lowOctets : ℕ → ℕ → List ℕ
+lowOctets zero x = []
+lowOctets (suc w) x = x % 256 ∷ lowOctets w (x / 256)
 
 -- f k, f (k + 1), .. of n places
-unfoldable pub table : {A : Type 0} → (ℕ → A) → ℕ → ℕ → List A
-table f k zero = []
-table f k (suc n) = f k ∷ table f (suc k) n
+unfoldable pub tabulate : {A : Type 0} → (ℕ → A) → ℕ → ℕ → List A
+tabulate f k zero = []
+tabulate f k (suc n) = f k ∷ tabulate f (suc k) n

@@ -16,5 +16,9 @@ recordNumbers r =
 abbrev pub toldNumbers : Told → List ℕ
 toldNumbers t = t .key ∷ t .number ∷ recordNumbers (t .«record»)
 
+-- three numbers of the answer, two of an entry, thirty of its record: parts of this number and above are 0
+abbrev pub partCount : ℕ
+partCount = 35
+
 unfoldable pub partOf : Last → ℕ → ℕ → ℕ
 partOf a entry part = getD (a .expired ∷ a .dropped ∷ a .count ∷ toldNumbers (getD (a .entries) entry noTold)) part 0

@@ -7,7 +7,7 @@ use Rattle.bits.specs.Field.{pick}
 use Rattle.receiver.specs.declared.Setup.{Setup}
 use Rattle.receiver.specs.Model.{startedOf}
 use Rattle.receiver.specs.Step.{noTold, mostEntries}
-use Rattle.layout.specs.Octets.{table}
+use Rattle.layout.specs.Octets.{tabulate}
 use Rattle.layout.specs.Layout.{isState, decodeOf, Last, lastOf, freshOctets}
 
 -- 13 goes before 10
@@ -18,7 +18,7 @@ unfoldable pub setupOctets : List ℕ → Setup → List ℕ → List ℕ
 setupOctets l s keys = pick (eqb (setupCode l s keys) 0) (freshOctets s keys) l
 
 abbrev pub noAnswer : Last
-noAnswer = record { expired = 0; dropped = 0; count = 0; entries = table (λ j. noTold) 0 mostEntries }
+noAnswer = record { expired = 0; dropped = 0; count = 0; entries = tabulate (λ j. noTold) 0 mostEntries }
 
 -- a setup's number and the octets at exit, and what they are read as where it was accepted
 pub record SetUp (l : List ℕ) (s : Setup) (keys left : List ℕ) (code : ℕ) : Type 0 where

@@ -1,9 +1,8 @@
 -- The sweep in place: the octets that it leaves, exactly. Assumes nothing.
-use mathlib.Core.Path.{_≡_}
 use mathlib.Core.List.{List}
-use mathlib.Core.Bool.{Bool, true, false, not}
-use Prim.Native.Nat.{ℕ, zero, suc, _+_, _<_}
-use Rattle.bits.specs.Field.{both, pick}
+use mathlib.Core.Bool.{Bool, true}
+use Prim.Native.Nat.{ℕ, zero, suc, _+_}
+use Rattle.bits.specs.Field.{pick}
 use Rattle.receiver.specs.declared.Rule.{Rule}
 use Rattle.receiver.specs.Channels.{places, sideOf, byNumber}
 use Rattle.receiver.specs.Model.{emptySlot, ranOutOf, takenOf}
@@ -13,10 +12,6 @@ use Rattle.layout.specs.Layout.{timersFrom, slotNo, putSlot}
 -- the timer that runs at a place
 abbrev pub timerNo : List ℕ → ℕ → ℕ
 timerNo l i = byNumber (sideOf i) (leAt 4 l timersFrom) (leAt 4 l (timersFrom + 4))
-
--- no half at n places from a place on has run out
-abbrev pub Running : ℕ → List ℕ → ℕ → ℕ → Type 0
-Running now l from n = (k : ℕ) → k < n → ranOutOf now (timerNo l (from + k)) (slotNo l (from + k)) ≡ false
 
 -- a half that ran out, or that the rule takes, leaves its place all zero
 abbrev pub goes : List ℕ → ℕ → Rule → ℕ → Bool
@@ -32,7 +27,3 @@ sweptRun now rule from (suc n) l = sweptAt now rule (sweptRun now rule from n l)
 
 abbrev pub sweptOctets : ℕ → Rule → List ℕ → List ℕ
 sweptOctets now rule l = sweptRun now rule 0 places l
-
--- a rule that takes halves of no channel
-abbrev pub takesNone : Rule → Bool
-takesNone rule = both (not (rule .nch)) (not (rule .facch))

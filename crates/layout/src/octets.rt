@@ -3,7 +3,7 @@ ghost use mathlib.Core.Path.{_≡_};
 ghost use Prim.Native.Nat.{_+_, _<_, _≤_};
 ghost use lib.ListN.{length};
 ghost use Rattle.arrays.specs.Runs.{stored};
-ghost use Rattle.layout.specs.Octets.{leAt, flagAt, octets};
+ghost use Rattle.layout.specs.Octets.{leAt, flagAt, lowOctets};
 
 fn wide(x: u8) -> u32
     ensures { λ r. ⌜ (r ≡ x) × (r < 256) ⌝ }
@@ -37,7 +37,7 @@ pub(crate) fn flag_at(b: &[u8], at: usize) -> bool
 
 pub(crate) fn put_u32(b: &mut [u8], at: usize, x: u32)
     requires { ⌜ at + 4 ≤ length (now b) ⌝ }
-    ensures { λ _. ⌜ now (b .exit) ≡ stored (now (b .entry)) at (octets 4 x) ⌝ }
+    ensures { λ _. ⌜ now (b .exit) ≡ stored (now (b .entry)) at (lowOctets 4 x) ⌝ }
 {
     b[at] = (x % 256) as u8;
     b[at + 1] = (x / 256 % 256) as u8;
@@ -47,7 +47,7 @@ pub(crate) fn put_u32(b: &mut [u8], at: usize, x: u32)
 
 pub(crate) fn put_u64(b: &mut [u8], at: usize, x: u64)
     requires { ⌜ at + 8 ≤ length (now b) ⌝ }
-    ensures { λ _. ⌜ now (b .exit) ≡ stored (now (b .entry)) at (octets 8 x) ⌝ }
+    ensures { λ _. ⌜ now (b .exit) ≡ stored (now (b .entry)) at (lowOctets 8 x) ⌝ }
 {
     put_u32(b, at, (x % 4294967296) as u32);
     put_u32(b, at + 4, (x / 4294967296) as u32);

@@ -5,7 +5,7 @@ ghost use lib.ListN.{length, getD};
 ghost use Rattle.bits.specs.Field.{pick};
 ghost use Rattle.csn1.specs.Told.{asBit};
 ghost use Rattle.receiver.specs.Step.{mostEntries};
-ghost use Rattle.layout.specs.Layout.{stateLength, recordLength, isState, recordAt, toldNo, lastOf};
+ghost use Rattle.layout.specs.Layout.{stateLength, recordSize, isState, recordAt, toldNo, lastOf};
 ghost use Rattle.layout.specs.Parts.{recordNumbers, toldNumbers, partOf};
 use crate::ANSWER;
 use crate::LENGTH;
@@ -36,7 +36,7 @@ fn wider(x: u32) -> u64
 
 // A number of the record at a place: four wide ones, twenty flags, six small ones.
 fn record_part(b: &[u8], at: usize, part: usize) -> u64
-    requires { ⌜ at + recordLength ≤ length (now b) ⌝ }
+    requires { ⌜ at + recordSize ≤ length (now b) ⌝ }
     ensures { λ r. ⌜ r ≡ getD (recordNumbers (recordAt (now (b .entry)) at)) part 0 ⌝ }
 {
     if part < 2 {

@@ -5,7 +5,7 @@ ghost use Prim.Native.Nat.{_+_, _≤_};
 ghost use lib.ListN.{length, replicate};
 ghost use Rattle.csn1.specs.Told.{asBit};
 ghost use Rattle.arrays.specs.Runs.{stored};
-ghost use Rattle.layout.specs.Layout.{recordLength, recordAt, entryFlags, messageFlags, smallNumbers, wideOctets, recordOctets};
+ghost use Rattle.layout.specs.Layout.{recordSize, recordAt, entryFlags, messageFlags, smallNumbers, wideOctets, recordOctets};
 use crate::octets::flag_at;
 use crate::octets::put_u32;
 use crate::octets::put_u64;
@@ -17,7 +17,7 @@ use receiver::Common;
 use receiver::Record;
 
 fn description_at(b: &[u8], at: usize) -> Description
-    requires { ⌜ at + recordLength ≤ length (now b) ⌝ }
+    requires { ⌜ at + recordSize ≤ length (now b) ⌝ }
     ensures { λ r. ⌜ r ≡ recordAt (now (b .entry)) at .call .description ⌝ }
 {
     Description {
@@ -30,7 +30,7 @@ fn description_at(b: &[u8], at: usize) -> Description
 }
 
 fn call_at(b: &[u8], at: usize) -> Call
-    requires { ⌜ at + recordLength ≤ length (now b) ⌝ }
+    requires { ⌜ at + recordSize ≤ length (now b) ⌝ }
     ensures { λ r. ⌜ r ≡ recordAt (now (b .entry)) at .call ⌝ }
 {
     Call {
@@ -45,7 +45,7 @@ fn call_at(b: &[u8], at: usize) -> Call
 }
 
 fn common_at(b: &[u8], at: usize) -> Common
-    requires { ⌜ at + recordLength ≤ length (now b) ⌝ }
+    requires { ⌜ at + recordSize ≤ length (now b) ⌝ }
     ensures { λ r. ⌜ r ≡ recordAt (now (b .entry)) at .common ⌝ }
 {
     Common {
@@ -66,7 +66,7 @@ fn common_at(b: &[u8], at: usize) -> Common
 }
 
 pub(crate) fn record_at(b: &[u8], at: usize) -> Record
-    requires { ⌜ at + recordLength ≤ length (now b) ⌝ }
+    requires { ⌜ at + recordSize ≤ length (now b) ⌝ }
     ensures { λ r. ⌜ r ≡ recordAt (now (b .entry)) at ⌝ }
 {
     Record {
@@ -165,7 +165,7 @@ fn put_message(b: &mut [u8], at: usize, r: Record)
 }
 
 pub(crate) fn put_record(b: &mut [u8], at: usize, r: Record)
-    requires { ⌜ at + recordLength ≤ length (now b) ⌝ }
+    requires { ⌜ at + recordSize ≤ length (now b) ⌝ }
     ensures { λ _. ⌜ now (b .exit) ≡ stored (now (b .entry)) at (recordOctets r) ⌝ }
 {
     put_wide(b, at, r);

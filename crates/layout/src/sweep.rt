@@ -6,9 +6,10 @@ ghost use Rattle.csn1.specs.Told.{asBit};
 ghost use Rattle.bits.specs.Field.{pick};
 ghost use Rattle.receiver.specs.Channels.{places};
 ghost use Rattle.receiver.specs.Model.{keep, ranOutOf, takenOf, countAt, expiredOf, droppedOf};
-ghost use Rattle.layout.specs.Octets.{table};
+ghost use Rattle.layout.specs.Octets.{tabulate};
 ghost use Rattle.layout.specs.Layout.{stateLength, isState, slotNo, decodeOf};
-ghost use Rattle.layout.specs.Sweep.{takesNone, timerNo, sweptAt, sweptRun, sweptOctets};
+ghost use Rattle.layout.specs.Sweep.{timerNo, sweptAt, sweptRun, sweptOctets};
+ghost use Rattle.layout.specs.Inner.{takesNone};
 use crate::KINDS;
 use crate::LENGTH;
 use crate::SINCES;
@@ -75,8 +76,8 @@ fn sweep_run(
     mut dropped: u32,
 ) -> Lost
     requires { ⌜ (length (now b) ≡ stateLength) × ((from + n ≤ places) × ((expired ≤ from) × (dropped ≤ from))) ⌝ }
-    ensures { λ r. ⌜ (r .expired ≡ expired + countAt (λ i s. ranOutOf tick (timerNo (now (b .entry)) i) s) from (table (slotNo (now (b .entry))) from n))
-        × ((r .dropped ≡ dropped + countAt (λ i s. takenOf tick (timerNo (now (b .entry)) i) rule i s) from (table (slotNo (now (b .entry))) from n))
+    ensures { λ r. ⌜ (r .expired ≡ expired + countAt (λ i s. ranOutOf tick (timerNo (now (b .entry)) i) s) from (tabulate (slotNo (now (b .entry))) from n))
+        × ((r .dropped ≡ dropped + countAt (λ i s. takenOf tick (timerNo (now (b .entry)) i) rule i s) from (tabulate (slotNo (now (b .entry))) from n))
         × (now (b .exit) ≡ sweptRun tick rule from n (now (b .entry)))) ⌝ }
 {
     let t3206 = u32_at(b, TIMERS);
@@ -111,8 +112,8 @@ fn sweep_group(
     dropped: u32,
 ) -> Lost
     requires { ⌜ (length (now b) ≡ stateLength) × ((from + n ≤ places) × ((n ≤ 8) × ((expired ≤ from) × (dropped ≤ from)))) ⌝ }
-    ensures { λ r. ⌜ (r .expired ≡ expired + countAt (λ i s. ranOutOf tick (timerNo (now (b .entry)) i) s) from (table (slotNo (now (b .entry))) from n))
-        × ((r .dropped ≡ dropped + countAt (λ i s. takenOf tick (timerNo (now (b .entry)) i) rule i s) from (table (slotNo (now (b .entry))) from n))
+    ensures { λ r. ⌜ (r .expired ≡ expired + countAt (λ i s. ranOutOf tick (timerNo (now (b .entry)) i) s) from (tabulate (slotNo (now (b .entry))) from n))
+        × ((r .dropped ≡ dropped + countAt (λ i s. takenOf tick (timerNo (now (b .entry)) i) rule i s) from (tabulate (slotNo (now (b .entry))) from n))
         × (now (b .exit) ≡ sweptRun tick rule from n (now (b .entry)))) ⌝ }
 {
     if u64_at(b, KINDS + from) == 0 {

@@ -17,15 +17,15 @@ use Rattle.receiver.specs.declared.Told.{Told}
 use Rattle.receiver.specs.declared.Receiver.{Receiver}
 use Rattle.receiver.specs.declared.Rule.{Rule}
 use Rattle.receiver.specs.Channels.{places, numberOf}
-use Rattle.receiver.specs.Model.{noCell, late, expiredOf, droppedOf, sweptSlots, remade}
-use Rattle.receiver.specs.Store.{withSlots}
+use Rattle.receiver.specs.Model.{noCell, late, expiredOf, droppedOf, sweptSlots, remade, withSlots}
 use Rattle.receiver.specs.Step.{noTold, mostEntries, allAfter, allTold, Event, joins, groundsOf, refusalOf, refusedWith, acceptedAs, stepOf}
 use Rattle.receiver.specs.Step.{Content, contentOf, cellAfter, ruleBy}
 use Rattle.receiver.proofs.Dropping.{by-test}
-use Rattle.layout.specs.Octets.{leAt, table}
+use Rattle.layout.specs.Octets.{leAt, tabulate}
 use Rattle.layout.specs.Layout.{stateLength, tickFrom, isState, cellAt, decodeOf, toldNo, putHead, keysIn}
 use Rattle.layout.specs.Sweep.{sweptOctets}
-use Rattle.lent.specs.Events.{AllTold, Accepted, codeOf, earlyCode, octetsAfter, Fed}
+use Rattle.lent.specs.Events.{codeOf, octetsAfter, Fed}
+use Rattle.lent.specs.Inner.{AllTold, Accepted, earlyCode}
 use Rattle.layout.proofs.States.{at-state}
 use Rattle.layout.proofs.Decoding.{length-head, decode-head, last-head}
 use Rattle.layout.proofs.Sweeps.{length-run, swept-decode}
@@ -33,16 +33,16 @@ use Rattle.lent.proofs.Tellings.{length-all, length-all-told, all-lengt
 
 -- ## The entries in use and the places behind them
 
-table-done : {A : Type 0} (f : ℕ → A) (d : A) (m k n : ℕ) → m ≤ k → table (λ j. pick (ltb j m) (f j) d) k n ≡ padded d n []
-unfolding table
+table-done : {A : Type 0} (f : ℕ → A) (d : A) (m k n : ℕ) → m ≤ k → tabulate (λ j. pick (ltb j m) (f j) d) k n ≡ padded d n []
+unfolding tabulate
 table-done f d m k zero h = refl
 table-done f d m k (suc n) h = rw (le-ltb k m h) (ap (λ l. d ∷ l) (table-done f d m (suc k) n (omega arith)))
 
 table-padded : {A : Type 0} (f : ℕ → A) (d : A) (m k n : ℕ) (l : List A)
     → m ≡ k + length l
     → ((j : ℕ) → j < length l → f (k + j) ≡ getD l j d)
-    → table (λ j. pick (ltb j m) (f j) d) k n ≡ padded d n l
-unfolding table
+    → tabulate (λ j. pick (ltb j m) (f j) d) k n ≡ padded d n l
+unfolding tabulate
 table-padded f d m k zero l q h = refl
 table-padded f d m k (suc n) [] q h = table-done f d m k (suc n) (omega arith)
 table-padded f d m k (suc n) (a ∷ l) q h =

@@ -17,16 +17,16 @@ use Rattle.nch.specs.Told.{noReduced, noRandom}
 use Rattle.nch.specs.Write.{callsOf}
 use Rattle.nch.specs.Owners.{nth, randomsOf, marksOf}
 use Rattle.nch.specs.Places.{callsAt, firstCall, callLength, mostCalls, reducedsAt, firstReduced, reducedLength, mostReduceds, randomsAt, firstRandom, randomLength, mostRandoms, marksAt, firstMark, mostMarks}
-use Rattle.nch.specs.CallNumbers.{callFrom, CallFits, callBy}
-use Rattle.nch.specs.NotificationNumbers.{reducedFrom, randomFrom, release6By, release7By, recordFrom, most, ReducedFits, Fits, recordBy, reducedBy}
+use Rattle.nch.specs.CallNumbers.{callFrom, callBy}
+use Rattle.nch.specs.Inner.{CallFits, reducedFrom, ReducedFits}
+use Rattle.nch.specs.NotificationNumbers.{randomFrom, release6By, release7By, recordFrom, most, Fits, recordBy, reducedBy}
 use Rattle.nch.proofs.NotificationFits.{fits-at, reduced-fits, call-fits}
 use Rattle.receiver.specs.Model.{keyOf}
 use Rattle.receiver.specs.Step.{mostEntries}
 use Rattle.receiver.specs.Entries.{callWith, reducedWith, nchEntries}
 use Rattle.receiver.proofs.MessageEntries.{nth-past, nth-there}
 use Rattle.layout.specs.Layout.{stateLength}
-use Rattle.lent.specs.Entry.{entryFrom, EntryFits}
-use Rattle.lent.specs.Events.{Telling}
+use Rattle.lent.specs.Inner.{Telling, entryFrom, EntryFits}
 use Rattle.lent.proofs.Tellings.{all-length}
 use Rattle.lent.proofs.Messages.{Told-to, entries-count, call-told, reduced-told, few-owned}
 

@@ -21,7 +21,7 @@ use Rattle.receiver.specs.Step.{mostEntries}
 use Rattle.receiver.specs.Entries.{callWith, reducedWith, callEntry, reducedEntry, nchEntries}
 use Rattle.receiver.proofs.Standing.{getD-mapAt, length-mapAt}
 use Rattle.receiver.proofs.MessageEntries.{call-entry-is, reduced-entry-is, calls-more, reducedsOf}
-use Rattle.lent.specs.Events.{Telling, AllTold}
+use Rattle.lent.specs.Inner.{Telling, AllTold}
 use Rattle.lent.proofs.Tellings.{all-none, all-next}
 
 -- ## The i-th entry

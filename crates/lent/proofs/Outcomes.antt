@@ -24,7 +24,8 @@ use Rattle.receiver.proofs.Classes.{meet-whole, meet-none, meet-first, meet-sec
 use Rattle.receiver.specs.Step.{mostEntries, slotsAfter, toldOf}
 use Rattle.layout.specs.Octets.{octetAt}
 use Rattle.layout.specs.Layout.{stateLength, isState, isPlace, isEntry, recordAt, kindPlace, recordPlace, slotNo, decodeOf, carries, putSlot, putNumber, putCarried, toldNo, putTold, keysIn}
-use Rattle.lent.specs.Events.{metHalf, metOctets, tellOctets, Telling}
+use Rattle.lent.specs.Events.{metOctets, tellOctets}
+use Rattle.lent.specs.Inner.{metHalf, Telling}
 use Rattle.layout.proofs.States.{at-state, at-place, at-entry}
 use Rattle.layout.proofs.Wide.{Octs, Wide, wide-none}
 use Rattle.layout.proofs.Decoding.{half-of, slot-held, length-put, told-with, told-without, decode-told, told-same}

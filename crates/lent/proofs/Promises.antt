@@ -11,17 +11,17 @@ use Rattle.csn1.specs.declared.Refusal.{Refusal}
 use Rattle.receiver.specs.declared.Receiver.{Receiver}
 use Rattle.receiver.specs.declared.Answer.{Answer}
 use Rattle.receiver.specs.Model.{startedOf}
-use Rattle.receiver.specs.Channels.{Channel, same}
-use Rattle.receiver.specs.Step.{Event, contentOf, refusalOf, refusedWith, stepOf}
-use Rattle.receiver.specs.One.{Said, fresh}
-use Rattle.receiver.specs.Calls.{timerOf, Reply, replyBy}
+use Rattle.receiver.specs.Channels.{Channel}
+use Rattle.receiver.specs.Step.{Event, refusalOf, refusedWith, stepOf}
+use Rattle.receiver.specs.One.{hears, Said, fresh}
+use Rattle.receiver.specs.Calls.{timerOf, channelIn, Reply, replyBy}
 use Rattle.receiver.specs.Promises.{under, answersOn, answersEach, after, replyOf}
 use Rattle.receiver.proofs.Dropping.{by-test}
 use Rattle.receiver.proofs.Grounds.{refused-as}
 use Rattle.receiver.proofs.Isolation.{says-flat}
 use Rattle.receiver.proofs.Promises.{no-call-disturbs-another-at-any-event, the-answer-is-the-calls}
 use Rattle.layout.specs.Layout.{stateLength, decodeOf, lastOf}
-use Rattle.lent.specs.Events.{Fed, Left, codeOf, answered}
+use Rattle.lent.specs.Events.{Fed, Returned, codeOf, answered}
 use Rattle.lent.specs.Promises.{Run, heard, readUnder, readEach, leftAfter, shown, No-call-disturbs-another-in-octets, No-call-disturbs-another-at-any-event-in-octets}
 use Rattle.lent.specs.Promises.{The-answer-is-the-calls-in-octets, A-refused-event-leaves-the-octets, The-length-stays, Fed-determines}
 use Rattle.layout.proofs.Setting.{set-started, set-length}
@@ -35,14 +35,14 @@ heard-is key c e a = refl
 -- a refused event is answered with nothing
 not-answered : (key : ℕ) (c : Channel) (r : Receiver) (w : Refusal) (e : Event) → answersOn key c e (refusedWith r w) ≡ []
 unfolding answersOn under
-not-answered key c r w e = either (same c (contentOf (e .happening) .channel))
+not-answered key c r w e = either (hears c (channelIn e))
   where
     either : (b : Bool) → _≡_ {A = List Said} (pick b [] []) []
     either true = refl
     either false = refl
 
 -- one event: what is heard, and the receiver that is read afterwards
-module _ (l : List ℕ) (whole : length l ≡ stateLength) (e : Event) (a : Left) (f : Fed l e (a .octets) (a .code)) where
+module _ (l : List ℕ) (whole : length l ≡ stateLength) (e : Event) (a : Returned) (f : Fed l e (a .octets) (a .code)) where
   step-heard : (key : ℕ) (c : Channel) → pick (eqb (a .code) 0) (heard key c e (lastOf (a .octets))) [] ≡ answersOn key c e (stepOf (decodeOf l) e)
   step-heard key c =
       by-test (eqb (codeOf l e) 0)
@@ -61,7 +61,7 @@ module _ (l : List ℕ) (whole : length l ≡ stateLength) (e : Event) (a : Left
   step-length : length (a .octets) ≡ stateLength
   step-length = ap length (f .octets) ∙ length-after l e ∙ whole
 
-run-heard : (key : ℕ) (c : Channel) (l : List ℕ) → length l ≡ stateLength → (es : List Event) (run : List Left) → Run l es run → readEach key c es run ≡ answersEach key c (decodeOf l) es
+run-heard : (key : ℕ) (c : Channel) (l : List ℕ) → length l ≡ stateLength → (es : List Event) (run : List Returned) → Run l es run → readEach key c es run ≡ answersEach key c (decodeOf l) es
 unfolding readEach answersEach stepOf
 run-heard key c l whole [] [] u = refl
 run-heard key c l whole [] (a ∷ rest) u = absurd u
@@ -71,14 +71,14 @@ run-heard key c l whole (e ∷ es) (a ∷ rest) u =
     (ap (λ (r : List (List Said)). answersOn key c e (stepOf (decodeOf l) e) ∷ r) (run-heard key c (a .octets) (step-length l whole e a (u .0)) es rest (u .1)))
 
 -- all in one list
-read-flat : (key : ℕ) (c : Channel) (es : List Event) (run : List Left) → flatten (readEach key c es run) ≡ readUnder key c es run
+read-flat : (key : ℕ) (c : Channel) (es : List Event) (run : List Returned) → flatten (readEach key c es run) ≡ readUnder key c es run
 unfolding readEach readUnder flatten
 read-flat key c [] rest = refl
 read-flat key c (e ∷ es) [] = refl
 read-flat key c (e ∷ es) (a ∷ rest) = ap (λ (l : List Said). pick (eqb (a .code) 0) (heard key c e (lastOf (a .octets))) [] ++ l) (read-flat key c es rest)
 
 -- a run leaves a state, of the receiver after its events
-run-after : (l : List ℕ) → length l ≡ stateLength → (es : List Event) (run : List Left) → Run l es run
+run-after : (l : List ℕ) → length l ≡ stateLength → (es : List Event) (run : List Returned) → Run l es run
     → (length (leftAfter l run) ≡ stateLength) × (decodeOf (leftAfter l run) ≡ after (decodeOf l) es)
 unfolding after
 run-after l whole [] [] u = (whole, refl)

@@ -17,12 +17,12 @@ use Rattle.receiver.specs.declared.Receiver.{Receiver}
 use Rattle.receiver.specs.declared.Told.{Told}
 use Rattle.receiver.specs.declared.Met.{Met}
 use Rattle.receiver.specs.Channels.{channels, keyCount, places, placeOn, leads}
-use Rattle.receiver.specs.Model.{noRecord, emptySlot, keyOf, indexOf, isClear, isWhole, isFirst, isSecond, isBare, classOf, agree, joinedOf, only, complete, storing, meetHalf, meetOf}
-use Rattle.receiver.specs.Store.{withSlots}
+use Rattle.receiver.specs.Model.{noRecord, emptySlot, keyOf, indexOf, isClear, isWhole, isFirst, isSecond, isBare, classOf, agree, joinedOf, only, complete, storing, meetHalf, meetOf, withSlots}
 use Rattle.receiver.specs.Step.{noTold, mostEntries, slotsAfter, toldOf, allAfter, allTold}
 use Rattle.receiver.proofs.Dropping.{by-test}
 use Rattle.layout.specs.Layout.{stateLength, kindPlace, sincePlace, recordPlace, slotNo, decodeOf, putSlot, carries, toldNo, putTold, keysIn}
-use Rattle.lent.specs.Events.{afterMeet, tellOctets, Telling, allOctets, AllTold}
+use Rattle.lent.specs.Events.{afterMeet, tellOctets, allOctets}
+use Rattle.lent.specs.Inner.{Telling, AllTold}
 use Rattle.layout.proofs.Numbers.{le-below}
 use Rattle.layout.proofs.Wide.{Octs, Wide, wide-none, wide-at, wide-join}
 use Rattle.layout.proofs.Decoding.{slot-of, slot-empty, slot-held, keep-same, length-put, decode-put, told-put, length-told, decode-told, told-same, told-other}

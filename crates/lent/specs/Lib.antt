@@ -1,3 +1,3 @@
-pub mod Entry
 pub mod Events
 pub mod Promises
+pub mod Inner

@@ -7,19 +7,19 @@ use lib.Dec.{eqb}
 use Rattle.bits.specs.Field.{pick}
 use Rattle.receiver.specs.declared.Setup.{Setup}
 use Rattle.receiver.specs.Model.{indexOf}
-use Rattle.receiver.specs.Channels.{Channel, same}
-use Rattle.receiver.specs.Step.{Event, contentOf}
-use Rattle.receiver.specs.One.{Said, runOne, runEach, seen, fresh}
-use Rattle.receiver.specs.Calls.{timerOf, Reply, replyBy}
+use Rattle.receiver.specs.Channels.{Channel}
+use Rattle.receiver.specs.Step.{Event}
+use Rattle.receiver.specs.One.{hears, Said, runOne, runEach, seen, fresh}
+use Rattle.receiver.specs.Calls.{timerOf, channelIn, Reply, replyBy}
 use Rattle.receiver.specs.Promises.{under, Ticks}
 use Rattle.layout.specs.Layout.{Last, lastOf}
 use Rattle.layout.specs.Setup.{SetUp}
-use Rattle.lent.specs.Events.{Fed, Left, octetsAfter, codeOf}
+use Rattle.lent.specs.Events.{Fed, Returned, octetsAfter, codeOf}
 
 -- ## Events in a row
 
 -- each call was made on the octets that the one before it left, and met its statement
-abbrev pub Run : List ℕ → List Event → List Left → Type 0
+abbrev pub Run : List ℕ → List Event → List Returned → Type 0
 Run l [] [] = Unit {0}
 Run l [] (a ∷ rest) = ⊥
 Run l (e ∷ es) [] = ⊥
@@ -29,16 +29,16 @@ Run l (e ∷ es) (a ∷ rest) = Fed l e (a .octets) (a .code) × Run (a .octets)
 
 -- the answers under a key that stand in the octets of an accepted event, on the channel of its message
 unfoldable pub heard : ℕ → Channel → Event → Last → List Said
-heard key c e a = pick (same c (contentOf (e .happening) .channel)) (under key (take (a .count) (a .entries))) []
+heard key c e a = pick (hears c (channelIn e)) (under key (take (a .count) (a .entries))) []
 
 -- what a host reads under a key after each call: nothing where the event was refused
-unfoldable pub readUnder : ℕ → Channel → List Event → List Left → List Said
+unfoldable pub readUnder : ℕ → Channel → List Event → List Returned → List Said
 readUnder key c [] rest = []
 readUnder key c (e ∷ es) [] = []
 readUnder key c (e ∷ es) (a ∷ rest) = pick (eqb (a .code) 0) (heard key c e (lastOf (a .octets))) [] ++ readUnder key c es rest
 
 -- the same with what is read after each call in a list of its own
-unfoldable pub readEach : ℕ → Channel → List Event → List Left → List (List Said)
+unfoldable pub readEach : ℕ → Channel → List Event → List Returned → List (List Said)
 readEach key c [] rest = []
 readEach key c (e ∷ es) [] = []
 readEach key c (e ∷ es) (a ∷ rest) = pick (eqb (a .code) 0) (heard key c e (lastOf (a .octets))) [] ∷ readEach key c es rest
@@ -52,7 +52,7 @@ No-call-disturbs-another-in-octets =
     → s .tick < 4294967296
     → (key : ℕ)
     → indexOf keys key < length keys
-    → (c : Channel) (es : List Event) (run : List Left)
+    → (c : Channel) (es : List Event) (run : List Returned)
     → Ticks es
     → Run left es run
     → readUnder key c es run ≡ runOne key c (timerOf c s) fresh (seen key c (s .tick) es)
@@ -65,7 +65,7 @@ No-call-disturbs-another-at-any-event-in-octets =
     → s .tick < 4294967296
     → (key : ℕ)
     → indexOf keys key < length keys
-    → (c : Channel) (es : List Event) (run : List Left)
+    → (c : Channel) (es : List Event) (run : List Returned)
     → Ticks es
     → Run left es run
     → readEach key c es run ≡ runEach key c (timerOf c s) fresh (s .tick) es
@@ -73,7 +73,7 @@ No-call-disturbs-another-at-any-event-in-octets =
 -- ## 2. The whole answer over octets
 
 -- the octets that a run leaves
-abbrev pub leftAfter : List ℕ → List Left → List ℕ
+abbrev pub leftAfter : List ℕ → List Returned → List ℕ
 leftAfter l [] = l
 leftAfter l (a ∷ rest) = leftAfter (a .octets) rest
 
@@ -88,12 +88,12 @@ The-answer-is-the-calls-in-octets =
     (l : List ℕ) (s : Setup) (keys left : List ℕ)
     → SetUp l s keys left 0
     → s .tick < 4294967296
-    → (es : List Event) (run : List Left)
+    → (es : List Event) (run : List Returned)
     → Ticks es
     → Run left es run
     → (e : Event)
     → e .tick < 4294967296
-    → (a : Left)
+    → (a : Returned)
     → Fed (leftAfter left run) e (a .octets) (a .code)
     → (a .code ≡ replyBy s es e keys .refusal .number) × (a .code ≡ 0 → lastOf (a .octets) ≡ shown (replyBy s es e keys))
 

@@ -1,2 +1,4 @@
+pub mod Fields
+pub mod Test
 pub mod Whole
 pub mod Promises

@@ -2,6 +2,7 @@
 use mathlib.Core.Path.{_≡_, refl, sym, ap, _∙_}
 use mathlib.Core.List.{List, [], _∷_, map}
 use mathlib.Core.Bool.{Bool, true, false}
+use mathlib.Core.Logic.{inl as number, inr as flag}
 use Prim.Native.Nat.{ℕ}
 use lib.ListN.{getD, drop}
 use borrow.Author.Tests.{eqb-true}
@@ -22,7 +23,7 @@ use Rattle.gcc.specs.declared.cause.Meaning.{Meaning}
 use Rattle.gcc.specs.declared.cause.Meaning.the-variants.{Nothing, Specific, Unspecific}
 use Rattle.gcc.specs.declared.cause.Reading.{Reading as CauseReading}
 use Rattle.gcc.specs.declared.digits.Reading.{Reading as DigitsReading}
-use Rattle.listed.specs.Fields.{Field, number, flag, Struct, Whole, sameFlag, sameField, each, same, ofCall, ofReduced, ofRandom, ofReading, ofTold, ofSlot, ofAnswer, ofMeaning, ofCause, ofDigits}
+use Rattle.listed.proofs.Fields.{Nested, sameFlag, sameField, pairwise, same, ofCall, ofReduced, ofRandom, ofReading, ofTold, ofSlot, ofAnswer, ofMeaning, ofCause, ofDigits}
 
 -- ## The test
 
@@ -41,40 +42,40 @@ field-sound (flag a) (flag b) e = ap flag (flag-sound a b e)
 field-sound (number m) (flag b) e = cc
 field-sound (flag a) (number n) e = cc
 
-pub each-sound : {A : Type 0} (t : A → A → Bool) → Sound t → Sound (each t)
-each-sound t h [] [] e = refl
-each-sound t h [] (b ∷ m) e = cc
-each-sound t h (a ∷ l) [] e = cc
-each-sound t h (a ∷ l) (b ∷ m) e =
-    let p = both-true (t a b) (each t l m) e in
+pub pairwise-sound : {A : Type 0} (t : A → A → Bool) → Sound t → Sound (pairwise t)
+pairwise-sound t h [] [] e = refl
+pairwise-sound t h [] (b ∷ m) e = cc
+pairwise-sound t h (a ∷ l) [] e = cc
+pairwise-sound t h (a ∷ l) (b ∷ m) e =
+    let p = both-true (t a b) (pairwise t l m) e in
     let q : a ≡ b = h a b (p .0) in
-    let r : l ≡ m = each-sound t h l m (p .1) in
+    let r : l ≡ m = pairwise-sound t h l m (p .1) in
     cc
 
 pub same-sound : Sound same
-same-sound = each-sound _ (each-sound _ (each-sound _ field-sound))
+same-sound = pairwise-sound _ (pairwise-sound _ (pairwise-sound _ field-sound))
 
 -- ## Fields say the struct: it is made from them again
 
-abbrev numberAt : ℕ → Struct → ℕ
+abbrev numberAt : ℕ → Nested 1 → ℕ
 numberAt i s = numberIn (getD s i (number 0))
   where
-    numberIn : Field → ℕ
+    numberIn : Nested 0 → ℕ
     numberIn (number n) = n
     numberIn (flag b) = 0
 
-abbrev flagAt : ℕ → Struct → Bool
+abbrev flagAt : ℕ → Nested 1 → Bool
 flagAt i s = flagIn (getD s i (flag false))
   where
-    flagIn : Field → Bool
+    flagIn : Nested 0 → Bool
     flagIn (number n) = false
     flagIn (flag b) = b
 
 -- the struct that stands alone at a place, and the array there
-abbrev arrayAt : ℕ → Whole → List Struct
+abbrev arrayAt : ℕ → Nested 3 → Nested 2
 arrayAt i w = getD w i []
 
-abbrev aloneAt : ℕ → Whole → Struct
+abbrev aloneAt : ℕ → Nested 3 → Nested 1
 aloneAt i w = getD (arrayAt i w) 0 []
 
 -- an array is made again where each of its structs is
@@ -82,24 +83,24 @@ map-back : {A B : Type 0} (f : A → B) (g : B → A) → ((a : A) → g (f a) �
 map-back f g h [] = refl
 map-back f g h (a ∷ l) = let p : g (f a) ≡ a = h a in let q : map g (map f l) ≡ l = map-back f g h l in cc
 
-abbrev numbersFrom : Struct → List ℕ
-numbersFrom s = map (λ (f : Field). numberAt 0 (f ∷ [])) s
+abbrev numbersFrom : Nested 1 → List ℕ
+numbersFrom s = map (λ (f : Nested 0). numberAt 0 (f ∷ [])) s
 
 numbers-back : (l : List ℕ) → numbersFrom (map number l) ≡ l
 numbers-back = map-back _ _ λ n. refl
 
-abbrev flagsFrom : Struct → List Bool
-flagsFrom s = map (λ (f : Field). flagAt 0 (f ∷ [])) s
+abbrev flagsFrom : Nested 1 → List Bool
+flagsFrom s = map (λ (f : Nested 0). flagAt 0 (f ∷ [])) s
 
 flags-back : (l : List Bool) → flagsFrom (map flag l) ≡ l
 flags-back = map-back _ _ λ b. refl
 
 -- ## What `nch::read` answers
 
-abbrev descriptionFrom : Struct → Description
+abbrev descriptionFrom : Nested 1 → Description
 descriptionFrom s = record { channel = numberAt 0 s; hopping = flagAt 1 s; shortlist = flagAt 2 s; length = numberAt 3 s; frequencies = numberAt 4 s }
 
-abbrev callFrom : Struct → Call
+abbrev callFrom : Nested 1 → Call
 callFrom s =
     record {
       reference = numberAt 0 s;
@@ -114,19 +115,19 @@ callFrom s =
 calls-back : (l : List Call) → map callFrom (map ofCall l) ≡ l
 calls-back = map-back _ _ λ c. refl
 
-abbrev reducedFrom : Struct → Reduced
+abbrev reducedFrom : Nested 1 → Reduced
 reducedFrom s = record { reference = numberAt 0 s; vgcs = flagAt 1 s }
 
 reduced-back : (l : List Reduced) → map reducedFrom (map ofReduced l) ≡ l
 reduced-back = map-back _ _ λ r. refl
 
-abbrev randomFrom : Struct → Random
+abbrev randomFrom : Nested 1 → Random
 randomFrom s = record { segment = flagAt 0 s; given = flagAt 1 s; rand = numberAt 2 s }
 
 randoms-back : (l : List Random) → map randomFrom (map ofRandom l) ≡ l
 randoms-back = map-back _ _ λ r. refl
 
-abbrev release6From : Struct → List Struct → List Struct → Release6
+abbrev release6From : Nested 1 → Nested 2 → Nested 2 → Release6
 release6From s reduced randoms =
     record {
       there = flagAt 0 s;
@@ -138,7 +139,7 @@ release6From s reduced randoms =
       randoms = map randomFrom randoms;
     }
 
-abbrev release7From : Struct → Release7
+abbrev release7From : Nested 1 → Release7
 release7From s =
     record {
       there = flagAt 0 s;
@@ -156,7 +157,7 @@ release7From s =
       private = flagAt 11 s;
     }
 
-abbrev readingFrom : Whole → Reading
+abbrev readingFrom : Nested 3 → Reading
 readingFrom w =
     record {
       refusal = record { number = numberAt 0 (aloneAt 0 w) };
@@ -177,7 +178,7 @@ reading-back r = simp (calls-back, reduced-back, randoms-back, flags-back)
 
 -- ## What an event is answered
 
-abbrev commonFrom : Struct → Common
+abbrev commonFrom : Nested 1 → Common
 commonFrom s =
     record {
       counted = flagAt 0 s;
@@ -195,7 +196,7 @@ commonFrom s =
       private = flagAt 12 s;
     }
 
-abbrev recordFrom : Struct → Record
+abbrev recordFrom : Nested 1 → Record
 recordFrom s =
     record {
       full = flagAt 0 s;
@@ -208,19 +209,19 @@ recordFrom s =
       common = commonFrom (drop 17 s);
     }
 
-abbrev toldFrom : Struct → Told
+abbrev toldFrom : Nested 1 → Told
 toldFrom s = record { key = numberAt 0 s; number = numberAt 1 s; «record» = recordFrom (drop 2 s) }
 
 tolds-back : (l : List Told) → map toldFrom (map ofTold l) ≡ l
 tolds-back = map-back _ _ λ t. refl
 
-abbrev slotFrom : Struct → Slot
+abbrev slotFrom : Nested 1 → Slot
 slotFrom s = record { half = numberAt 0 s; since = numberAt 1 s; «record» = recordFrom (drop 2 s) }
 
 slots-back : (l : List Slot) → map slotFrom (map ofSlot l) ≡ l
 slots-back = map-back _ _ λ s. refl
 
-abbrev answerFrom : Whole → Answer
+abbrev answerFrom : Nested 3 → Answer
 answerFrom w =
     record {
       refusal = record { number = numberAt 0 (aloneAt 0 w) };
@@ -244,7 +245,7 @@ answer-back a = simp (tolds-back, slots-back, numbers-back)
 
 -- ## What `gcc::cause::read` and `gcc::digits::read` answer
 
-abbrev meaningFrom : Struct → Meaning
+abbrev meaningFrom : Nested 1 → Meaning
 meaningFrom [] = Nothing
 meaningFrom (number n ∷ s) = Specific n
 meaningFrom (flag b ∷ s) = Unspecific
@@ -254,7 +255,7 @@ meaning-back Nothing = refl
 meaning-back (Specific n) = refl
 meaning-back Unspecific = refl
 
-abbrev causeFrom : Whole → CauseReading
+abbrev causeFrom : Nested 3 → CauseReading
 causeFrom w =
     record {
       refusal = numberAt 0 (aloneAt 0 w);
@@ -271,7 +272,7 @@ causeFrom w =
 cause-back : (r : CauseReading) → causeFrom (ofCause r) ≡ r
 cause-back r = simp (meaning-back, numbers-back)
 
-abbrev digitsFrom : Whole → DigitsReading
+abbrev digitsFrom : Nested 3 → DigitsReading
 digitsFrom w = record { refusal = numberAt 0 (aloneAt 0 w); digits = numbersFrom (aloneAt 1 w) }
 
 digits-back : (r : DigitsReading) → digitsFrom (ofDigits r) ≡ r
@@ -279,7 +280,7 @@ digits-back r = simp numbers-back
 
 -- ## Answers that pass the test are equal
 
-equal : {A : Type 0} (f : A → Whole) (g : Whole → A) → ((a : A) → g (f a) ≡ a) → (a b : A) → same (f a) (f b) ≡ true → a ≡ b
+equal : {A : Type 0} (f : A → Nested 3) (g : Nested 3 → A) → ((a : A) → g (f a) ≡ a) → (a b : A) → same (f a) (f b) ≡ true → a ≡ b
 equal f g h a b e = sym (h a) ∙ ap g (same-sound (f a) (f b) e) ∙ h b
 
 pub reading-equal : (a b : Reading) → same (ofReading a) (ofReading b) ≡ true → a ≡ b

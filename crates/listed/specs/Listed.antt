@@ -1,47 +1,46 @@
--- The listed inputs of document 01, those marked *, as one table: each row an input and its outcome, and one test of a row. Assumes nothing.
+-- The listed inputs of document 01, those marked *, as one table: each row an input and its whole outcome. Assumes nothing.
 use mathlib.Core.Path.{_≡_}
-use mathlib.Core.List.{List, [], _∷_, _++_, map}
-use mathlib.Core.Bool.{Bool, true, false}
+use mathlib.Core.List.{List, [], _∷_, map}
+use mathlib.Core.Bool.{true, false}
 use Prim.Native.Nat.{ℕ, _+_}
 use Prim.Native.String.{String}
-use lib.ListN.{take, replicate}
-use lib.Dec.{eqb}
-use lib.Text.{eqt}
-use Rattle.bits.specs.Field.{both}
+use lib.ListN.{length, replicate}
 use Rattle.csn1.specs.declared.Refusal.{Refusal}
 use Rattle.csn1.specs.Format.{noRefusal, ground}
-use Rattle.call.specs.Call.{noCall}
+use Rattle.call.specs.Call.{noDescription, noCall}
 use Rattle.nch.specs.declared.Notification.{Notification}
 use Rattle.nch.specs.declared.Reading.{Reading}
 use Rattle.nch.specs.Told.{noReduced, noRandom, noRelease6, noRelease7, noRecord, readOf}
-use Rattle.receiver.specs.declared.Told.{Told}
+use Rattle.receiver.specs.declared.Record.{Record}
+use Rattle.receiver.specs.declared.Slot.{Slot}
 use Rattle.receiver.specs.declared.Answer.{Answer}
 use Rattle.receiver.specs.declared.Started.{Started}
-use Rattle.receiver.specs.Model.{wrapSub, startedOf}
-use Rattle.receiver.specs.Step.{nch, tick, refusedWith, stepOf}
+use Rattle.receiver.specs.Model.{noCommon, noRecord as noTelling, emptySlot, noCell, noKey, wrapSub, startedOf}
+use Rattle.receiver.specs.Step.{noTold, nch, tick, refusedWith, stepOf}
 use Rattle.gcc.specs.declared.cause.Meaning.{Meaning}
 use Rattle.gcc.specs.declared.cause.Meaning.the-variants.{Specific, Unspecific}
 use Rattle.gcc.specs.declared.cause.Reading.{Reading as CauseReading}
 use Rattle.gcc.specs.declared.digits.Reading.{Reading as DigitsReading}
 use Rattle.gcc.specs.Cause as cause
 use Rattle.gcc.specs.Digits as digits
-use Rattle.listed.specs.Fields.{each, same, ofReading, ofAnswer, ofCause, ofDigits}
 
 -- ## A row
 
-pub data Row : Type 0 where
+pub data Listed-row : Type 0 where
   -- NT/N Rest Octets, and what is read
-  nch-octets : List ℕ → Reading → Row
+  nch-octets : List ℕ → Reading → Listed-row
+  -- NT/N Rest Octets of any content in so many octets, and the refusal
+  nch-length : ℕ → ℕ → Listed-row
   -- last tick, new tick, and the step between them
-  ticks : ℕ → ℕ → ℕ → Row
+  ticks : ℕ → ℕ → ℕ → Listed-row
   -- a step, and the refusal
-  step : ℕ → ℕ → Row
-  -- T3206, when the first half comes and when the second, how many halves then run out, and what the second is told
-  halves : ℕ → ℕ → ℕ → ℕ → ℕ → Row
+  step : ℕ → ℕ → Listed-row
+  -- T3206, when the first half comes and what is answered, when the second and what is answered
+  halves : ℕ → ℕ → Answer → ℕ → Answer → Listed-row
   -- the octets of a cause, what is read, and the words of its meaning in 44.068
-  cause-octets : List ℕ → CauseReading → String → Row
+  cause-octets : List ℕ → CauseReading → String → Listed-row
   -- the five octets of twelve digits, and what is read
-  digit-octets : List ℕ → DigitsReading → Row
+  digit-octets : List ℕ → DigitsReading → Listed-row
 
 -- ## Outcomes
 
@@ -105,9 +104,93 @@ means m l = record { refusal = 0; meaning = m; cause = cause.causeOf l [] }
 abbrev pub spells : List ℕ → DigitsReading
 spells l = record { refusal = 0; digits = map (0x30 +_) l }
 
+-- ## Outcomes of halves, of a call of reference 1,234,567, VGCS
+
+abbrev pub key : ℕ
+key = 2469135
+
+-- with priority 3, cipher key number 5 and channel 120345, and a random entry of Segment Id 0 without VSTK_RAND
+abbrev pub firstRecord : Record
+firstRecord =
+    record {
+      full = true;
+      call =
+          record {
+            reference = 1234567;
+            vgcs = true;
+            acknowledged = false;
+            priority = 3;
+            cipher = 5;
+            described = true;
+            description = record { channel = 0x120345; hopping = false; shortlist = false; length = 0; frequencies = 0 };
+          };
+      segmented = true;
+      segment = false;
+      given = false;
+      rand = 0;
+      emergency = false;
+      common = noCommon;
+    }
+
+-- its reduced reference, with a random entry of Segment Id 1 with VSTK_RAND ABCDEF012
+abbrev pub secondRecord : Record
+secondRecord =
+    record {
+      full = false;
+      call = record { reference = 1234567; vgcs = true; acknowledged = false; priority = 0; cipher = 0; described = false; description = noDescription };
+      segmented = true;
+      segment = true;
+      given = true;
+      rand = 0xabcdef012;
+      emergency = false;
+      common = noCommon;
+    }
+
+-- all of the first half, and VSTK_RAND of the second
+abbrev pub bothRecord : Record
+bothRecord =
+    record {
+      full = true;
+      call = firstRecord .call;
+      segmented = true;
+      segment = false;
+      given = true;
+      rand = 0xabcdef012;
+      emergency = false;
+      common = noCommon;
+    }
+
+-- a half that came at a tick, 1 the first and 2 the second
+abbrev pub came : ℕ → ℕ → Record → Slot
+came half now m = record { half = half; since = now; «record» = m }
+
+-- the answer at a tick: x halves ran out, the call's one entry is told n with a record, and its place holds then what is said; all else is as it was set up
+abbrev pub answerAt : ℕ → ℕ → ℕ → Record → Slot → Answer
+answerAt now x n m held =
+    record {
+      refusal = noRefusal;
+      expired = x;
+      dropped = 0;
+      count = 1;
+      entries = record { key = key; number = n; «record» = m } ∷ replicate 8 noTold;
+      receiver =
+          record {
+            slots = held ∷ replicate 99 emptySlot;
+            keys = key ∷ replicate 49 noKey;
+            tick = now;
+            t3206 = 5000;
+            t3208 = 5000;
+            cell = noCell;
+          };
+    }
+
+-- the first half is told 4, without a record, and held
+abbrev pub firstAnswer : ℕ → Answer
+firstAnswer now = answerAt now 0 4 noTelling (came 1 now firstRecord)
+
 -- ## The rows, in the document's order
 
-abbrev pub rows : List Row
+abbrev pub rows : List Listed-row
 rows =
     -- twenty 2B: no parts, 4 bits used
     nch-octets (replicate 20 0x2b) (reads noParts 4)
@@ -117,16 +200,16 @@ rows =
     ∷ nch-octets (0xcb ∷ replicate 19 0x2b) (reads (onlyNln 2) 6)
     -- twenty FF: refusal 4
     ∷ nch-octets (replicate 20 0xff) (refusal 4)
-    -- 19 octets, here 2B: refusal 1
-    ∷ nch-octets (replicate 19 0x2b) (refusal 1)
+    -- 19 octets: refusal 1
+    ∷ nch-length 19 1
     -- last tick 4,294,967,290, new 10: step 16
     ∷ ticks 4294967290 10 16
     -- step 2,147,483,648: refusal 9
     ∷ step 2147483648 9
     -- T3206 5,000, first half at 1,000, second at 5,999: 3
-    ∷ halves 5000 1000 5999 0 3
+    ∷ halves 5000 1000 (firstAnswer 1000) 5999 (answerAt 5999 0 3 bothRecord emptySlot)
     -- the same at 6,000: one expiry, then 4
-    ∷ halves 5000 1000 6000 1 4
+    ∷ halves 5000 1000 (firstAnswer 1000) 6000 (answerAt 6000 1 4 noTelling (came 2 6000 secondRecord))
     -- cause 90: 16, normal clearing
     ∷ cause-octets (0x90 ∷ []) (means (Specific 16) (16 ∷ [])) "Normal call clearing"
     -- cause 10 91: unspecific
@@ -141,18 +224,14 @@ rows =
 
 -- ## Runs of the receiver
 
--- set up at a tick with T3206 for one call: reference 1,234,567, VGCS
+-- set up at a tick with T3206 for one call
 abbrev pub setUp : ℕ → ℕ → Started
-setUp now t3206 = startedOf (record { tick = now; t3206 = t3206; t3208 = 5000 }) (2469135 ∷ [])
+setUp now t3206 = startedOf (record { tick = now; t3206 = t3206; t3208 = 5000 }) (key ∷ [])
 
-abbrev pub isUp : Started → Bool
-isUp s = eqb (s .refusal .number) 0
-
--- that call with priority 3, cipher key number 5 and channel 120345, then a random entry of Segment Id 0 without VSTK_RAND
+-- the octets of `firstRecord`, and of `secondRecord`
 abbrev pub firstHalf : List ℕ
 firstHalf = 0x40 ∷ 0x96 ∷ 0xb4 ∷ 0x3c ∷ 0xd6 ∷ 0x24 ∷ 0x06 ∷ 0x8a ∷ 0x48 ∷ replicate 11 0x2b
 
--- its reduced reference, then a random entry of Segment Id 1 with VSTK_RAND ABCDEF012
 abbrev pub secondHalf : List ℕ
 secondHalf = 0x08 ∷ 0x12 ∷ 0xd6 ∷ 0x87 ∷ 0xbd ∷ 0x5e ∷ 0x6f ∷ 0x78 ∷ 0x09 ∷ replicate 11 0x2b
 
@@ -171,37 +250,17 @@ ticked last now = stepOf (setUp last 5000 .receiver) (tick now)
 abbrev pub silent : Refusal → ℕ → Answer
 silent w now = refusedWith (setUp now 5000 .receiver) w
 
--- refusal, expiries, drops, and what each entry is told
-abbrev pub outline : Answer → List ℕ
-outline a = a .refusal .number ∷ a .expired ∷ a .dropped ∷ map (λ (t : Told). t .number) (take (a .count) (a .entries))
+-- ## What a row says: the setup was accepted, and the whole answer is the outcome
 
--- ## The test of a row
+abbrev pub Row-holds : Listed-row → Type 0
+Row-holds (nch-octets s r) = readOf s ≡ r
+Row-holds (nch-length n m) = (s : List ℕ) → length s ≡ n → readOf s ≡ refusal m
+Row-holds (ticks last now d) = (setUp last 5000 .refusal .number ≡ 0) × (wrapSub now last ≡ d) × (ticked last now ≡ silent noRefusal now)
+Row-holds (step d n) = (setUp 0 5000 .refusal .number ≡ 0) × (ticked 0 d ≡ silent (ground n) 0)
+Row-holds (halves t3206 a x b y) = (setUp 0 t3206 .refusal .number ≡ 0) × (firstAt t3206 a ≡ x) × (secondAt t3206 a b ≡ y)
+Row-holds (cause-octets s r w) = (cause.readOf s ≡ r) × (cause.wordsOf (cause.readOf s .meaning) ≡ w)
+Row-holds (digit-octets s r) = digits.readOf s ≡ r
 
--- the outlines of two answers: the first half is told 4, then x halves run out and the second is told n
-abbrev pub bothTold : ℕ → ℕ → List ℕ
-bothTold x n = 0 ∷ 0 ∷ 0 ∷ 4 ∷ 0 ∷ x ∷ 0 ∷ n ∷ []
-
-abbrev pub test : Row → Bool
-test (nch-octets s r) = same (ofReading (readOf s)) (ofReading r)
-test (ticks last now d) =
-    both (isUp (setUp last 5000)) (both (eqb (wrapSub now last) d) (same (ofAnswer (ticked last now)) (ofAnswer (silent noRefusal now))))
-test (step d n) = both (isUp (setUp 0 5000)) (same (ofAnswer (ticked 0 d)) (ofAnswer (silent (ground n) 0)))
-test (halves t3206 a b x n) =
-    both (isUp (setUp 0 t3206)) (each eqb (outline (firstAt t3206 a) ++ outline (secondAt t3206 a b)) (bothTold x n))
-test (cause-octets s r w) = both (same (ofCause (cause.readOf s)) (ofCause r)) (eqt (cause.wordsOf (cause.readOf s .meaning)) w)
-test (digit-octets s r) = same (ofDigits (digits.readOf s)) (ofDigits r)
-
-abbrev pub all : List Row → Bool
-all [] = true
-all (r ∷ l) = both (test r) (all l)
-
--- ## What a passed test says: the setup was accepted, and the whole answer is the outcome
-
-abbrev pub Holds : Row → Type 0
-Holds (nch-octets s r) = readOf s ≡ r
-Holds (ticks last now d) = (setUp last 5000 .refusal .number ≡ 0) × (wrapSub now last ≡ d) × (ticked last now ≡ silent noRefusal now)
-Holds (step d n) = (setUp 0 5000 .refusal .number ≡ 0) × (ticked 0 d ≡ silent (ground n) 0)
-Holds (halves t3206 a b x n) =
-    (setUp 0 t3206 .refusal .number ≡ 0) × (outline (firstAt t3206 a) ++ outline (secondAt t3206 a b) ≡ bothTold x n)
-Holds (cause-octets s r w) = (cause.readOf s ≡ r) × (cause.wordsOf (cause.readOf s .meaning) ≡ w)
-Holds (digit-octets s r) = digits.readOf s ≡ r
+abbrev pub All-hold : List Listed-row → Type 0
+All-hold [] = Unit {0}
+All-hold (r ∷ l) = Row-holds r × All-hold l

@@ -19,7 +19,7 @@ use Rattle.csn1.proofs.Writing.{flag-byte}
 use Rattle.csn1.proofs.Lists.{entries-end}
 use Rattle.csn1.proofs.Answers.{Telling, Answer, answered, unanswered}
 use Rattle.arrays.specs.Runs.{stored}
-use Rattle.arrays.specs.Filled.{Zeros, Left}
+use Rattle.arrays.specs.Inner.{Zeros, Left}
 use Rattle.arrays.proofs.Zeroed.{zeros-later, left-bad, left-ok, Kept, kept-begin, begin-acc, kept-one, one-acc, kept-more, more-acc, kept-filled}
 use Rattle.call.specs.declared.CallAt.{CallAt}
 use Rattle.call.specs.declared.Call.{Call}
@@ -29,7 +29,7 @@ use Rattle.nch.specs.declared.lists.CallsPassed.{CallsPassed}
 use Rattle.nch.specs.Octets.{count, cipheredValue, describedValue}
 use Rattle.nch.specs.Places.{callsAt, firstCall, callLength, mostCalls}
 use Rattle.nch.specs.CallNumbers.{callNumbers}
-use Rattle.nch.specs.Passing.{callsRun, callsPassed}
+use Rattle.nch.specs.Inner.{callsRun, callsPassed}
 use Rattle.nch.proofs.InPlaces.{count-le}
 use Rattle.nch.proofs.Lengths.{length-call}
 

@@ -16,16 +16,17 @@ use Rattle.csn1.proofs.Writing.{flag-byte}
 use Rattle.csn1.proofs.Callees.{Flag, flagged-read, flagged-refused}
 use Rattle.csn1.proofs.Answers.{Answer, answered, unanswered, first-bad, then-bad, then-ok}
 use Rattle.arrays.specs.Runs.{stored, each}
-use Rattle.arrays.specs.Filled.{Zeros, Left}
+use Rattle.arrays.specs.Inner.{Zeros, Left}
 use Rattle.arrays.proofs.Running.{length-run}
 use Rattle.arrays.proofs.Zeroed.{zeros-later, zeros-set, zeros-behind, left-bad, left-ok, left-stored}
 use Rattle.nch.specs.declared.lists.ListPassed.{ListPassed}
 use Rattle.nch.specs.declared.additions.Release6Passed.{Release6Passed}
 use Rattle.nch.specs.Octets.{reduced, random, release6, Release6Value}
 use Rattle.nch.specs.Told.{reducedOf, noReduced, release6Of}
-use Rattle.nch.specs.Places.{release6At, countedAt, cellcountAt, reducedsAt, reducedLength, mostReduceds, randomsAt, release6Length}
+use Rattle.nch.specs.Places.{release6At, countedAt, cellcountAt, reducedsAt, reducedLength, mostReduceds, randomsAt}
+use Rattle.nch.specs.Inner.{listPassed, release6Passed, reducedsRun, randomsRun, release6Run}
+use Rattle.nch.proofs.Ends.{release6Length}
 use Rattle.nch.specs.NotificationNumbers.{reducedNumbers, randomNumbers, release6Numbers}
-use Rattle.nch.specs.Passing.{listPassed, release6Passed, reducedsRun, randomsRun, release6Run}
 use Rattle.nch.proofs.Passed.{lists}
 use Rattle.nch.proofs.Reading6.{reduceds-ground, randoms-ground}
 use Rattle.nch.proofs.Lengths.{length-reduced}

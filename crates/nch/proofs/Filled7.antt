@@ -18,16 +18,17 @@ use Rattle.csn1.proofs.Writing.{bit-back, flag-byte}
 use Rattle.csn1.proofs.Callees.{flagged-refused, flagged-reached}
 use Rattle.csn1.proofs.Answers.{Answer, answered, unanswered, flags, flag-answered, first-bad, then-bad, then-ok}
 use Rattle.arrays.specs.Runs.{stored, each}
-use Rattle.arrays.specs.Filled.{Zeros, Left}
+use Rattle.arrays.specs.Inner.{Zeros, Left}
 use Rattle.arrays.proofs.Running.{length-run, stored-one}
 use Rattle.arrays.proofs.Zeroed.{zeros-later, zeros-set, zeros-behind, left-bad, left-ok, left-stored}
 use Rattle.nch.specs.declared.lists.ListPassed.{ListPassed}
 use Rattle.nch.specs.declared.additions.PartPassed.{PartPassed}
 use Rattle.nch.specs.Octets.{AmrValue, Release7Value, amr, release7}
 use Rattle.nch.specs.Told.{orFalse, release7Of}
-use Rattle.nch.specs.Places.{release7At, marksAt, mostMarks, uplinkedAt, uplinkAt, amrAt, fullratedAt, fullrateAt, halfratedAt, halfrateAt, smsAt, confidentialAt, privateAt, release7Length}
+use Rattle.nch.specs.Places.{release7At, marksAt, mostMarks, uplinkedAt, uplinkAt, amrAt, fullratedAt, fullrateAt, halfratedAt, halfrateAt, smsAt, confidentialAt, privateAt}
+use Rattle.nch.specs.Inner.{listPassed, partPassed, release7Passed, marksRun, amrRun, smsRun, release7Run}
+use Rattle.nch.proofs.Ends.{release7Length, uplinkRun}
 use Rattle.nch.specs.NotificationNumbers.{markNumbers, partsNumbers, release7Numbers}
-use Rattle.nch.specs.Passing.{listPassed, partPassed, release7Passed, marksRun, uplinkRun, amrRun, smsRun, release7Run}
 use Rattle.nch.proofs.Passed.{lists, parts}
 use Rattle.nch.proofs.Lengths.{length-mark}
 use Rattle.nch.proofs.NotificationRuns.{release7-runs}

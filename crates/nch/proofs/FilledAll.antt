@@ -17,7 +17,7 @@ use Rattle.csn1.specs.Promises.{Grounded}
 use Rattle.csn1.specs.Told.{asBit, isThere, orZero, padded, flaggedAt, flaggedOf}
 use Rattle.csn1.proofs.Writing.{flag-byte}
 use Rattle.arrays.specs.Runs.{stored}
-use Rattle.arrays.specs.Filled.{Zeros, Filled, Left}
+use Rattle.arrays.specs.Inner.{Zeros, Filled, Left}
 use Rattle.arrays.proofs.Running.{more, stored-one, length-run}
 use Rattle.arrays.proofs.Filling.{padded-whole}
 use Rattle.arrays.proofs.Zeroed.{zeros-later, zeros-set, zeros-behind, zeros-run, zeros-cleared, over-zeros, left-bad, left-ok, left-stored}
@@ -28,10 +28,11 @@ use Rattle.nch.specs.declared.additions.Release6Passed.{Release6Passed}
 use Rattle.nch.specs.declared.additions.PartPassed.{PartPassed}
 use Rattle.nch.specs.Octets.{Value, notification, release6, release7, readOctets}
 use Rattle.nch.specs.Told.{recordOf, readingOf, readOf}
-use Rattle.nch.specs.Places.{numberedAt, nlnAt, callsAt, callLength, mostCalls, release6At, release7At, recordLength, usedAt, allLength, release6Length}
+use Rattle.nch.specs.Places.{numberedAt, nlnAt, callsAt, callLength, mostCalls, release6At, release7At, recordLength}
+use Rattle.nch.specs.Inner.{allLength, callsPassed, partPassed, release6Passed, release7Passed, callsRun, release6Run, release7Run, allRun}
+use Rattle.nch.proofs.Ends.{usedAt, release6Length}
 use Rattle.nch.specs.CallNumbers.{callNumbers}
 use Rattle.nch.specs.NotificationNumbers.{numbersOf, readNumbers}
-use Rattle.nch.specs.Passing.{callsPassed, partPassed, release6Passed, release7Passed, callsRun, release6Run, release7Run, allRun}
 use Rattle.nch.proofs.Round.{notification-lawful}
 use Rattle.nch.proofs.Whole as whole
 use Rattle.nch.proofs.Lengths.{length-call}

@@ -27,7 +27,9 @@ use Rattle.nch.specs.declared.Release7.{Release7}
 use Rattle.nch.specs.Octets.{Release6Value, Release7Value, Value, reduced, random, release6, release7, readOctets}
 use Rattle.nch.specs.Told.{reducedOf, noReduced, randomOf, noRandom, release6Of, release7Of, recordOf, readOf}
 use Rattle.nch.specs.Write.{flaggedRight}
-use Rattle.nch.specs.Places.{mostCalls, mostReduceds, mostRandoms, mostMarks, usedAt, allLength}
+use Rattle.nch.specs.Places.{mostCalls, mostReduceds, mostRandoms, mostMarks}
+use Rattle.nch.specs.Inner.{allLength}
+use Rattle.nch.proofs.Ends.{usedAt}
 use Rattle.nch.specs.CallNumbers.{callNumbers, callMost}
 use Rattle.nch.specs.NotificationNumbers.{reducedNumbers, randomNumbers, markNumbers, release6Numbers, partsNumbers, release7Numbers, numbersOf, readNumbers, recordFrom, headMost, reducedMost, randomMost, release6Most, partsMost, release7Most, most, Fits}
 use Rattle.nch.proofs.Releases.{Right6, Right7, reduced-range}

@@ -1,3 +1,4 @@
+pub mod Ends
 pub mod Reading6
 pub mod InPlaces
 pub mod Releases

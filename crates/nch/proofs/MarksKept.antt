@@ -12,12 +12,12 @@ use Rattle.csn1.specs.Format.{ok, bad, noRefusal, num, list}
 use Rattle.csn1.specs.Told.{isOne}
 use Rattle.csn1.proofs.Writing.{bit-back}
 use Rattle.arrays.specs.Runs.{stored}
-use Rattle.arrays.specs.Filled.{Zeros, Left}
+use Rattle.arrays.specs.Inner.{Zeros, Left}
 use Rattle.arrays.proofs.Zeroed.{zeros-later, left-bad, Kept, kept-begin, kept-one, kept-left}
 use Rattle.nch.specs.declared.lists.ListPassed.{ListPassed}
 use Rattle.nch.specs.Places.{marksAt, firstMark, mostMarks}
 use Rattle.nch.specs.NotificationNumbers.{markNumbers}
-use Rattle.nch.specs.Passing.{listPassed, marksRun}
+use Rattle.nch.specs.Inner.{listPassed, marksRun}
 use Rattle.nch.proofs.Lengths.{length-mark}
 
 -- at the head of the loop over it: the first of the marks that were read stand in their places

@@ -23,7 +23,9 @@ use Rattle.nch.specs.declared.Notification.{Notification}
 use Rattle.csn1.specs.Format.{Res, ok, bad}
 use Rattle.nch.specs.Octets.{Value, readOctets}
 use Rattle.nch.specs.Told.{Shaped, noReduced, noRandom, readingOf, readOf}
-use Rattle.nch.specs.Places.{mostCalls, mostReduceds, mostRandoms, mostMarks, recordLength, usedAt, allLength}
+use Rattle.nch.specs.Places.{mostCalls, mostReduceds, mostRandoms, mostMarks, recordLength}
+use Rattle.nch.specs.Inner.{allLength}
+use Rattle.nch.proofs.Ends.{usedAt}
 use Rattle.nch.specs.CallNumbers.{callNumbers, descriptionBy, callBy}
 use Rattle.nch.specs.NotificationNumbers.{reducedNumbers, randomNumbers, markNumbers, release6Numbers, partsNumbers, release7Numbers, numbersOf, reducedBy, randomFrom, release6By, release7By, recordBy, recordFrom, readNumbers, most, Fits}
 

@@ -12,8 +12,9 @@ use Rattle.arrays.proofs.Within.{within-at}
 use Rattle.nch.specs.declared.Notification.{Notification}
 use Rattle.nch.specs.Write as records
 use Rattle.nch.specs.Places.{nlnAt, firstCall, callLength, mostCalls, cellcountAt, firstReduced, reducedLength, mostReduceds, fullrateAt, halfrateAt, recordLength}
-use Rattle.nch.specs.CallNumbers.{whole, cut, descriptionBy, callBy, callFrom, DescriptionFits, CallFits}
-use Rattle.nch.specs.NotificationNumbers.{reducedBy, reducedFrom, release6By, release7By, recordBy, recordFrom, ReducedFits, Fits, most, writeCode, afterWrite}
+use Rattle.nch.specs.CallNumbers.{whole, cut, descriptionBy, callBy, callFrom}
+use Rattle.nch.specs.Inner.{DescriptionFits, CallFits, reducedFrom, ReducedFits}
+use Rattle.nch.specs.NotificationNumbers.{reducedBy, release6By, release7By, recordBy, recordFrom, Fits, most, writeCode, afterWrite}
 
 length-most : length most ≡ recordLength
 unfolding most
@@ -116,6 +117,6 @@ module _ (ns b : List ℕ) where
         → r ≡ records.writeNumber m (length b)
         → b′ ≡ records.afterWrite m b
         → (r ≡ writeCode ns (length b)) × (b′ ≡ afterWrite ns b)
-    unfolding writeCode afterWrite
+    unfolding records.writeNumber writeCode afterWrite
     write-held m r b′ e p f g =
         (f ∙ rw (p, eq-eqb (length ns) recordLength n, e), g ∙ rw (p, eq-eqb (length ns) recordLength n, e))

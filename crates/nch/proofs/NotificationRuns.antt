@@ -17,7 +17,9 @@ use Rattle.nch.specs.declared.Release7.{Release7}
 use Rattle.nch.specs.declared.Notification.{Notification}
 use Rattle.nch.specs.Octets.{Release6Value, Release7Value, Value, readOctets}
 use Rattle.nch.specs.Told.{readOf, readingOf, release6Of, release7Of, reducedOf, randomOf, noReduced, noRandom, recordOf, Shaped}
-use Rattle.nch.specs.Places.{numberedAt, callsAt, callLength, mostCalls, release6At, reducedsAt, reducedLength, mostReduceds, randomsAt, randomLength, mostRandoms, release7At, marksAt, mostMarks, uplinkedAt, amrAt, smsAt, release6Length, release7Length, recordLength, allLength}
+use Rattle.nch.specs.Places.{numberedAt, callsAt, callLength, mostCalls, release6At, reducedsAt, reducedLength, mostReduceds, randomsAt, randomLength, mostRandoms, release7At, marksAt, mostMarks, uplinkedAt, amrAt, smsAt, recordLength}
+use Rattle.nch.specs.Inner.{allLength}
+use Rattle.nch.proofs.Ends.{release6Length, release7Length}
 use Rattle.nch.specs.CallNumbers.{callNumbers}
 use Rattle.nch.specs.NotificationNumbers.{reducedNumbers, randomNumbers, markNumbers, release6Numbers, partsNumbers, release7Numbers, numbersOf, readNumbers}
 use Rattle.nch.proofs.Lengths.{length-call, length-reduced, length-random, length-mark, length-parts}

@@ -9,7 +9,7 @@ use Rattle.nch.specs.declared.lists.ListPassed.{ListPassed}
 use Rattle.nch.specs.declared.additions.Release6Passed.{Release6Passed}
 use Rattle.nch.specs.declared.additions.PartPassed.{PartPassed}
 use Rattle.nch.specs.Octets.{Release6Value, Release7Value}
-use Rattle.nch.specs.Passing.{callsPassed, listPassed, partPassed, release6Passed, release7Passed}
+use Rattle.nch.specs.Inner.{callsPassed, listPassed, partPassed, release6Passed, release7Passed}
 
 abbrev pub calls : Telling (List CallValue) CallsPassed
 calls = record { of = callsPassed; refusal = λ r. r .refusal; at = λ r. r .at; fine = λ l q. refl; place = λ l q. refl; why = λ r. refl }

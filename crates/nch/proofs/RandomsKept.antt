@@ -17,14 +17,14 @@ use Rattle.csn1.specs.Grammar.{format}
 use Rattle.csn1.specs.Told.{isThere, orZero, isOne}
 use Rattle.csn1.proofs.Writing.{bit-back, flag-byte}
 use Rattle.arrays.specs.Runs.{stored}
-use Rattle.arrays.specs.Filled.{Zeros, Left}
+use Rattle.arrays.specs.Inner.{Zeros, Left}
 use Rattle.arrays.proofs.Zeroed.{zeros-later, left-bad, Kept, kept-begin, kept-one, kept-left}
 use Rattle.nch.specs.declared.lists.ListPassed.{ListPassed}
 use Rattle.nch.specs.Octets.{random}
 use Rattle.nch.specs.Told.{randomOf, noRandom}
 use Rattle.nch.specs.Places.{randomsAt, firstRandom, randomLength, mostRandoms}
 use Rattle.nch.specs.NotificationNumbers.{randomNumbers}
-use Rattle.nch.specs.Passing.{listPassed, randomsRun}
+use Rattle.nch.specs.Inner.{listPassed, randomsRun}
 use Rattle.nch.proofs.Lengths.{length-random}
 
 -- ## An entry's three numbers

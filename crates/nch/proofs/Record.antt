@@ -1,26 +1,28 @@
 -- A notification as record and as value: each says the other, and what the writer asks of the record is what the grammar asks of the value. Assumes nothing.
 use mathlib.Core.Path.{_≡_, refl, ap, _∙_}
-use mathlib.Core.List.{map}
+use mathlib.Core.List.{[], _∷_, map}
 use mathlib.Core.Bool.{Bool, true, false}
-use Prim.Native.Nat.{_+_, _≤_}
+use Prim.Native.Nat.{ℕ, _+_, _≤_}
 use native.Mathlib.Omega.{arith}
 use lib.ListN.{length, take}
-use lib.Dec.{leb}
+use lib.Dec.{leb, eqb}
 use borrow.Author.Tests.{leb-true, le-leb}
+use Rattle.bits.specs.Field.{pick}
 use Rattle.csn1.specs.Format.{num, optFits, itemsFit}
 use Rattle.csn1.specs.Grammar.{format}
 use Rattle.csn1.specs.Told.{there, asBit}
 use Rattle.bits.proofs.Answers.{both-true}
 use Rattle.csn1.proofs.Writing.{there-back}
-use Rattle.csn1.proofs.Telling.{true-both, picked, number-back}
+use Rattle.csn1.proofs.Telling.{true-both, picked, due-last, number-back}
 use Rattle.call.specs.declared.Call.{Call}
 use Rattle.call.specs.Call.{CallValue, groupCall, callOf, callValue, descriptionValue, noCall, ciphered}
 use Rattle.call.specs.Write.{callInRange, callIsZero, callIsLow, callLengthRight, callHopsRight}
 use Rattle.call.proofs.Record.{call-fits, call-back, value-back, value-in-range, value-low, value-length, value-hops, zero-is, no-call-zero}
 use Rattle.nch.specs.declared.Notification.{Notification}
-use Rattle.nch.specs.Octets.{Value, release6, release7, notification, count, cipheredValue, describedValue, reducedsOf, randomsOf, marksOf}
+use Rattle.nch.specs.Octets.{Value, release6, release7, notification, count, cipheredValue, describedValue, reducedsIn, randomsIn, marksIn}
 use Rattle.nch.specs.Told.{recordOf, reducedValue, randomValue, release6Value, release7Value, valueOf, Shaped}
-use Rattle.nch.specs.Write.{placesRight, all, flaggedRight, release6InRange, inRange, callsOf, reducedIsLow, referencesLow, lengthsRight, hopsRight, randomsOwned, isDescribed, marksOwned, callRight, recordRefusal}
+use Rattle.nch.specs.Write.{placesRight, all, flaggedRight, release6InRange, inRange, callsOf, reducedIsLow, referencesLow, lengthsRight, hopsRight, randomsOwned, isDescribed, marksOwned, recordTests, recordRefusal, formFits, writeNumber}
+use Rattle.nch.specs.Inner.{callRight}
 use Rattle.nch.proofs.InPlaces.{places-back, places-good, all-both, items-fit, told-all, told-places, told-back, take-told, count-map, count-le}
 use Rattle.nch.proofs.Releases.{flag-fits, fits-flag, flag-zero, in-use, Right6, right6, range6, fits6, back6, value6, told6, low6, count6, Right7, right7, range7, fits7, back7, value7, told7, count7}
 
@@ -39,6 +41,12 @@ pub record Right (m : Notification) : Type 0 where
   hops : all callHopsRight (callsOf m) ≡ true
   pub randoms : m .release6 .randomcount ≤ count ciphered (callsOf m) + m .release6 .reducedcount
   pub marks : m .release7 .markcount ≤ count isDescribed (callsOf m)
+
+-- the writer makes one test more
+pub one-more : (m : Notification) (n : ℕ) → writeNumber m n ≡ pick (eqb (recordRefusal m) 0) (pick (formFits m n) 0 11) (recordRefusal m)
+unfolding recordRefusal writeNumber
+one-more m n =
+    due-last (recordTests m) ((formFits m n, 11) ∷ []) ((omega arith, (omega arith, (omega arith, (omega arith, (omega arith, (omega arith, tt)))))))
 
 pub right : (m : Notification) → recordRefusal m ≡ 0 → Right m
 unfolding recordRefusal inRange referencesLow lengthsRight hopsRight randomsOwned marksOwned
@@ -121,7 +129,7 @@ module _ (m : Notification) (t : Right m) where
   calls-fit = items-fit groupCall callValue callRight one-call (callsOf m) calls-right
 
   module _ (s : Shaped m) where
-    randoms-fit : (h : Bool) → leb (length (randomsOf (there h (release6Value (m .release6))))) (count cipheredValue (map callValue (callsOf m)) + length (reducedsOf (there h (release6Value (m .release6))))) ≡ true
+    randoms-fit : (h : Bool) → leb (length (randomsIn (there h (release6Value (m .release6))))) (count cipheredValue (map callValue (callsOf m)) + length (reducedsIn (there h (release6Value (m .release6))))) ≡ true
     randoms-fit false = le-leb 0 (count cipheredValue (map callValue (callsOf m)) + 0) (omega arith)
     randoms-fit true =
         rw (
@@ -131,7 +139,7 @@ module _ (m : Notification) (t : Right m) where
         )
         (le-leb (m .release6 .randomcount) (count ciphered (callsOf m) + m .release6 .reducedcount) (t .randoms))
 
-    marks-fit : (h : Bool) → leb (length (marksOf (there h (release7Value (m .release7))))) (count describedValue (map callValue (callsOf m))) ≡ true
+    marks-fit : (h : Bool) → leb (length (marksIn (there h (release7Value (m .release7))))) (count describedValue (map callValue (callsOf m))) ≡ true
     marks-fit false = le-leb 0 (count describedValue (map callValue (callsOf m))) (omega arith)
     marks-fit true =
         rw (
@@ -170,8 +178,8 @@ pub record Fits (v : Value) : Type 0 where
   pub calls : itemsFit groupCall (v .1 .0)
   pub six : optFits (format release6) (v .1 .1 .0)
   pub seven : optFits (format release7) (v .1 .1 .1)
-  randoms : length (randomsOf (v .1 .1 .0)) ≤ count cipheredValue (v .1 .0) + length (reducedsOf (v .1 .1 .0))
-  marks : length (marksOf (v .1 .1 .1)) ≤ count describedValue (v .1 .0)
+  randoms : length (randomsIn (v .1 .1 .0)) ≤ count cipheredValue (v .1 .0) + length (reducedsIn (v .1 .1 .0))
+  marks : length (marksIn (v .1 .1 .1)) ≤ count describedValue (v .1 .0)
 
 pub fits : (v : Value) → notification .fits v → Fits v
 unfolding notification groupCall
@@ -181,16 +189,16 @@ fits v f =
       calls = f .0 .0 .1 .0;
       six = f .0 .0 .1 .1 .0;
       seven = f .0 .0 .1 .1 .1;
-      randoms = leb-true (length (randomsOf (v .1 .1 .0))) (count cipheredValue (v .1 .0) + length (reducedsOf (v .1 .1 .0))) (f .0 .1);
-      marks = leb-true (length (marksOf (v .1 .1 .1))) (count describedValue (v .1 .0)) (f .1);
+      randoms = leb-true (length (randomsIn (v .1 .1 .0))) (count cipheredValue (v .1 .0) + length (reducedsIn (v .1 .1 .0))) (f .0 .1);
+      marks = leb-true (length (marksIn (v .1 .1 .1))) (count describedValue (v .1 .0)) (f .1);
     }
 
-module _ (v : Value) (f : Fits v) (four : length (v .1 .0) ≤ 4) (five : length (reducedsOf (v .1 .1 .0)) ≤ 5) where
+module _ (v : Value) (f : Fits v) (four : length (v .1 .0) ≤ 4) (five : length (reducedsIn (v .1 .1 .0)) ≤ 5) where
   -- then there are places for the rest of it
-  nine : length (randomsOf (v .1 .1 .0)) ≤ 9
+  nine : length (randomsIn (v .1 .1 .0)) ≤ 9
   nine = omega (arith, f .randoms, count-le cipheredValue (v .1 .0))
 
-  marks-four : length (marksOf (v .1 .1 .1)) ≤ 4
+  marks-four : length (marksIn (v .1 .1 .1)) ≤ 4
   marks-four = omega (arith, f .marks, count-le describedValue (v .1 .0))
 
   pub value-said : valueOf (recordOf v) ≡ v

@@ -13,14 +13,14 @@ use Rattle.csn1.specs.Format.{ok, bad, noRefusal, row, list}
 use Rattle.csn1.specs.Grammar.{format}
 use Rattle.csn1.proofs.Writing.{bit-back}
 use Rattle.arrays.specs.Runs.{stored}
-use Rattle.arrays.specs.Filled.{Zeros, Left}
+use Rattle.arrays.specs.Inner.{Zeros, Left}
 use Rattle.arrays.proofs.Zeroed.{zeros-later, left-bad, Kept, kept-begin, kept-one, kept-more, kept-left}
 use Rattle.nch.specs.declared.lists.ListPassed.{ListPassed}
 use Rattle.nch.specs.Octets.{reduced}
 use Rattle.nch.specs.Told.{reducedOf, noReduced}
 use Rattle.nch.specs.Places.{reducedsAt, firstReduced, reducedLength, mostReduceds}
 use Rattle.nch.specs.NotificationNumbers.{reducedNumbers}
-use Rattle.nch.specs.Passing.{listPassed, reducedsRun}
+use Rattle.nch.specs.Inner.{listPassed, reducedsRun}
 use Rattle.nch.proofs.Reading6.{widths, reduced-low, row-reached, row-fields}
 use Rattle.nch.proofs.Lengths.{length-reduced}
 

@@ -20,9 +20,9 @@ use Rattle.nch.specs.declared.Reduced.{Reduced}
 use Rattle.nch.specs.declared.Random.{Random}
 use Rattle.nch.specs.declared.Release6.{Release6}
 use Rattle.nch.specs.declared.Release7.{Release7}
-use Rattle.nch.specs.Octets.{Release6Value, Release7Value, AmrValue, reduced, random, amr, release6, release7, reducedsOf, randomsOf, marksOf}
+use Rattle.nch.specs.Octets.{Release6Value, Release7Value, AmrValue, reduced, random, amr, release6, release7, reducedsIn, randomsIn, marksIn}
 use Rattle.nch.specs.Told.{reducedOf, noReduced, randomOf, noRandom, release6Of, release7Of, orFalse, fullRate, halfRate, confidentiality, privacy, reducedValue, randomValue, release6Value, release7Value, amrValue}
-use Rattle.nch.specs.Write.{placesRight, all, flaggedRight, behind, reducedInRange, reducedIsZero, randomInRange, randomIsZero, yes, release6InRange, release7InRange, reducedIsLow}
+use Rattle.nch.specs.Write.{placesRight, all, flaggedRight, behind, reducedInRange, reducedIsZero, randomInRange, randomIsZero, anyMark, release6InRange, release7InRange, reducedIsLow}
 use Rattle.nch.proofs.InPlaces.{places-back, places-empty, places-good, all-both, items-fit, told-all, told-places, told-back}
 
 -- ## Flags, and what stands behind them
@@ -196,7 +196,7 @@ back6 r t five nine = go (r .there) refl (t .absent)
           randoms = places-empty noRandom randomInRange randomIsZero random-zero 9 (r .randomcount) (r .randoms) nine y (t .randoms) i;
         }
 
-pub value6 : (o : Option Release6Value) → optFits (format release6) o → length (reducedsOf o) ≤ 5 → length (randomsOf o) ≤ 9
+pub value6 : (o : Option Release6Value) → optFits (format release6) o → length (reducedsIn o) ≤ 5 → length (randomsIn o) ≤ 9
     → there (release6Of o .there) (release6Value (release6Of o)) ≡ o
 value6 none f h k = refl
 value6 (some v) f h k =
@@ -209,7 +209,7 @@ value6 (some v) f h k =
       ),
     )
 
-pub told6 : (o : Option Release6Value) → optFits (format release6) o → length (reducedsOf o) ≤ 5 → length (randomsOf o) ≤ 9 → Right6 (release6Of o)
+pub told6 : (o : Option Release6Value) → optFits (format release6) o → length (reducedsIn o) ≤ 5 → length (randomsIn o) ≤ 9 → Right6 (release6Of o)
 unfolding placesRight
 told6 none f h k = record { few = omega arith; fewRandoms = omega arith; absent = refl; counted = refl; places = refl; randoms = refl }
 told6 (some v) f h k =
@@ -228,7 +228,7 @@ low6 none f = refl
 low6 (some v) f = told-all (format reduced) reducedOf noReduced reducedIsLow (λ a g. g .1) 5 (v .1 .0) (f .1 .0)
 
 -- its numbers are as many as were told
-pub count6 : (o : Option Release6Value) → (release6Of o .reducedcount ≡ length (reducedsOf o)) × (release6Of o .randomcount ≡ length (randomsOf o))
+pub count6 : (o : Option Release6Value) → (release6Of o .reducedcount ≡ length (reducedsIn o)) × (release6Of o .randomcount ≡ length (randomsIn o))
 count6 none = (refl, refl)
 count6 (some v) = (refl, refl)
 
@@ -238,7 +238,7 @@ count6 (some v) = (refl, refl)
 pub record Right7 (r : Release7) : Type 0 where
   pub few : r .markcount ≤ 4
   absent : pick (r .there) true (both (eqb (r .markcount) 0) (both (not (r .uplinked)) (both (not (r .amr)) (not (r .sms))))) ≡ true
-  pub marks : placesRight yes not (r .markcount) (r .marks) ≡ true
+  pub marks : placesRight anyMark not (r .markcount) (r .marks) ≡ true
   uplink : behind (r .uplinked) (r .uplink) ≡ true
   fullrated : behind (r .amr) (r .fullrated) ≡ true
   halfrated : behind (r .amr) (r .halfrated) ≡ true
@@ -252,7 +252,7 @@ unfolding release7InRange
 right7 r e =
     let a = both-true (leb (r .markcount) 4) _ e in
     let b = both-true (pick (r .there) true (both (eqb (r .markcount) 0) (both (not (r .uplinked)) (both (not (r .amr)) (not (r .sms)))))) _ (a .1) in
-    let c = both-true (placesRight yes not (r .markcount) (r .marks)) _ (b .1) in
+    let c = both-true (placesRight anyMark not (r .markcount) (r .marks)) _ (b .1) in
     let d = both-true (behind (r .uplinked) (r .uplink)) _ (c .1) in
     let g = both-true (both (behind (r .amr) (r .fullrated)) (both (behind (r .amr) (r .halfrated)) (both (flaggedRight (r .fullrated) (r .fullrate) 16) (flaggedRight (r .halfrated) (r .halfrate) 16)))) _ (d .1) in
     let h = both-true (behind (r .amr) (r .fullrated)) _ (g .0) in
@@ -295,29 +295,29 @@ fits7 r t = go (r .there)
     go : (h : Bool) → optFits (format release7) (there h (release7Value r))
     go false = tt
     go true = (
-      items-fit (num 1) asBit yes (λ b e. flag-lt b) (take (r .markcount) (r .marks)) (places-good yes not (r .markcount) (r .marks) (t .marks)),
+      items-fit (num 1) asBit anyMark (λ b e. flag-lt b) (take (r .markcount) (r .marks)) (places-good anyMark not (r .markcount) (r .marks) (t .marks)),
       (bit-fits (r .uplinked) (r .uplink), (rates (r .amr), bits (r .sms))),
     )
 
 -- a flagged number behind another flag
-abbrev within : Bool → Option ℕ → Option ℕ
-within h o = pick h o none
+abbrev behindFlag : Bool → Option ℕ → Option ℕ
+behindFlag h o = pick h o none
 
-full-within : (h : Bool) (a : AmrValue) → fullRate (there h a) ≡ within h (a .0)
-full-within true a = refl
-full-within false a = refl
+full-led : (h : Bool) (a : AmrValue) → fullRate (there h a) ≡ behindFlag h (a .0)
+full-led true a = refl
+full-led false a = refl
 
-half-within : (h : Bool) (a : AmrValue) → halfRate (there h a) ≡ within h (a .1)
-half-within true a = refl
-half-within false a = refl
+half-led : (h : Bool) (a : AmrValue) → halfRate (there h a) ≡ behindFlag h (a .1)
+half-led true a = refl
+half-led false a = refl
 
-within-there : (h f : Bool) (v : ℕ) → behind h f ≡ true → isThere (within h (there f v)) ≡ f
-within-there true f v e = there-back f v
-within-there false f v e = sym (not-true f e)
+led-there : (h f : Bool) (v : ℕ) → behind h f ≡ true → isThere (behindFlag h (there f v)) ≡ f
+led-there true f v e = there-back f v
+led-there false f v e = sym (not-true f e)
 
-within-zero : (h f : Bool) (v n : ℕ) → behind h f ≡ true → flaggedRight f v n ≡ true → orZero (within h (there f v)) ≡ v
-within-zero true f v n e g = flag-zero f v n g
-within-zero false f v n e g = flag-none f v n (not-true f e) g
+led-zero : (h f : Bool) (v n : ℕ) → behind h f ≡ true → flaggedRight f v n ≡ true → orZero (behindFlag h (there f v)) ≡ v
+led-zero true f v n e g = flag-zero f v n g
+led-zero false f v n e g = flag-none f v n (not-true f e) g
 
 first-bit : (h a : Bool) (y : ℕ) → behind h a ≡ true → confidentiality (there h (asBit a, y)) ≡ a
 first-bit true a y e = flag-back a
@@ -337,14 +337,14 @@ back7 r t four = go (r .there) refl (t .absent)
         record {
           there = sym o i;
           markcount = in-use asBit (r .markcount) 4 (r .marks) (t .few) four i;
-          marks = places-back false yes not not-true isOne asBit (λ b g. flag-back b) 4 (r .markcount) (r .marks) four (t .marks) i;
+          marks = places-back false anyMark not not-true isOne asBit (λ b g. flag-back b) 4 (r .markcount) (r .marks) four (t .marks) i;
           uplinked = there-back (r .uplinked) (asBit (r .uplink)) i;
           uplink = behind-bit (r .uplinked) (r .uplink) (t .uplink) i;
           amr = there-back (r .amr) (amrValue r) i;
-          fullrated = (ap isThere (full-within (r .amr) (amrValue r)) ∙ within-there (r .amr) (r .fullrated) (r .fullrate) (t .fullrated)) i;
-          fullrate = (ap orZero (full-within (r .amr) (amrValue r)) ∙ within-zero (r .amr) (r .fullrated) (r .fullrate) 16 (t .fullrated) (t .fullrate)) i;
-          halfrated = (ap isThere (half-within (r .amr) (amrValue r)) ∙ within-there (r .amr) (r .halfrated) (r .halfrate) (t .halfrated)) i;
-          halfrate = (ap orZero (half-within (r .amr) (amrValue r)) ∙ within-zero (r .amr) (r .halfrated) (r .halfrate) 16 (t .halfrated) (t .halfrate)) i;
+          fullrated = (ap isThere (full-led (r .amr) (amrValue r)) ∙ led-there (r .amr) (r .fullrated) (r .fullrate) (t .fullrated)) i;
+          fullrate = (ap orZero (full-led (r .amr) (amrValue r)) ∙ led-zero (r .amr) (r .fullrated) (r .fullrate) 16 (t .fullrated) (t .fullrate)) i;
+          halfrated = (ap isThere (half-led (r .amr) (amrValue r)) ∙ led-there (r .amr) (r .halfrated) (r .halfrate) (t .halfrated)) i;
+          halfrate = (ap orZero (half-led (r .amr) (amrValue r)) ∙ led-zero (r .amr) (r .halfrated) (r .halfrate) 16 (t .halfrated) (t .halfrate)) i;
           sms = there-back {A = ℕ × ℕ} (r .sms) (asBit (r .confidential), asBit (r .private)) i;
           confidential = first-bit (r .sms) (r .confidential) (asBit (r .private)) (t .confidential) i;
           private = second-bit (r .sms) (r .private) (asBit (r .confidential)) (t .private) i;
@@ -363,7 +363,7 @@ back7 r t four = go (r .there) refl (t .absent)
         record {
           there = sym o i;
           markcount = sym n i;
-          marks = places-empty false yes not not-true 4 (r .markcount) (r .marks) four n (t .marks) i;
+          marks = places-empty false anyMark not not-true 4 (r .markcount) (r .marks) four n (t .marks) i;
           uplinked = sym u i;
           uplink = sym (behind-none (r .uplinked) (r .uplink) u (t .uplink)) i;
           amr = sym v i;
@@ -384,7 +384,7 @@ bits-value : (o : Option (ℕ × ℕ)) → optFits (format (number 1 and number 
 bits-value none f = refl
 bits-value (some a) f = λ i. some (bit-back (a .0) (f .0) i, bit-back (a .1) (f .1) i)
 
-pub value7 : (o : Option Release7Value) → optFits (format release7) o → length (marksOf o) ≤ 4 → there (release7Of o .there) (release7Value (release7Of o)) ≡ o
+pub value7 : (o : Option Release7Value) → optFits (format release7) o → length (marksIn o) ≤ 4 → there (release7Of o .there) (release7Value (release7Of o)) ≡ o
 value7 none f h = refl
 value7 (some v) f h =
     λ i.
@@ -406,7 +406,7 @@ bits-behind : (o : Option (ℕ × ℕ)) → (behind (isThere o) (confidentiality
 bits-behind none = (refl, refl)
 bits-behind (some a) = (refl, refl)
 
-pub told7 : (o : Option Release7Value) → optFits (format release7) o → length (marksOf o) ≤ 4 → Right7 (release7Of o)
+pub told7 : (o : Option Release7Value) → optFits (format release7) o → length (marksIn o) ≤ 4 → Right7 (release7Of o)
 unfolding placesRight
 told7 none f h =
     record {
@@ -428,7 +428,7 @@ told7 (some v) f h =
     record {
       few = h;
       absent = refl;
-      marks = told-places (num 1) isOne false yes not refl (λ b g. refl) 4 (v .0) (f .0);
+      marks = told-places (num 1) isOne false anyMark not refl (λ b g. refl) 4 (v .0) (f .0);
       uplink = bit-behind (v .1 .0);
       fullrated = a .0;
       halfrated = b .0;
@@ -438,6 +438,6 @@ told7 (some v) f h =
       private = c .1;
     }
 
-pub count7 : (o : Option Release7Value) → release7Of o .markcount ≡ length (marksOf o)
+pub count7 : (o : Option Release7Value) → release7Of o .markcount ≡ length (marksIn o)
 count7 none = refl
 count7 (some v) = refl

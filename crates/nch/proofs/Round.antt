@@ -8,7 +8,7 @@ use native.Mathlib.Omega.{arith}
 use lib.ListN.{length, replicate, length-append, getD-replicate}
 use lib.Dec.{leb, eqb}
 use borrow.Author.Tests.{leb-true, le-leb, eqb-true, eq-eqb}
-use Rattle.bits.specs.Field.{both, pick, bit}
+use Rattle.bits.specs.Field.{pick, bit}
 use Rattle.csn1.specs.Format.{Res, ok, bad, ground, noRefusal, num, opt, optFits, list, _⨟_, release, padBit, Holds, Binary, itemsFit}
 use Rattle.csn1.specs.Grammar.{format, Numbered}
 use Rattle.csn1.specs.Promises.{Lawful, Grounded}
@@ -22,14 +22,14 @@ use Rattle.call.specs.Call.{callGrammar, groupCall}
 use Rattle.call.proofs.Record.{call-long}
 use Rattle.nch.specs.declared.Notification.{Notification}
 use Rattle.nch.specs.declared.Reading.{Reading}
-use Rattle.nch.specs.Octets.{Value, Release6Value, octets, notification, reduced, random, release6, release7, reducedsOf}
+use Rattle.nch.specs.Octets.{Value, Release6Value, restOctets, notification, reduced, random, release6, release7, reducedsIn}
 use Rattle.nch.specs.Told.{recordOf, valueOf, readingOf, readOf, Shaped}
-use Rattle.nch.specs.Write.{form, recordRefusal, writeNumber, written}
-use Rattle.nch.proofs.Record.{Right, right, right-all, record-fits, record-back, Fits, fits, value-said, value-right}
+use Rattle.nch.specs.Write.{recordRefusal, form, formFits, writeNumber, written}
+use Rattle.nch.proofs.Record.{Right, one-more, right, right-all, record-fits, record-back, Fits, fits, value-said, value-right}
 
 -- ## The grammar keeps the laws
 
-numbered : Numbered octets
+numbered : Numbered restOctets
 numbered = (omega arith, (omega arith, (tt, (call, ((tt, ((omega arith, tt), (tt, tt))), (tt, (tt, ((tt, tt), (tt, tt)))))))))
   where
     call : Numbered callGrammar
@@ -37,7 +37,7 @@ numbered = (omega arith, (omega arith, (tt, (call, ((tt, ((omega arith, tt), (tt
 
 pub notification-lawful : Lawful notification
 unfolding notification
-notification-lawful = lawful octets numbered
+notification-lawful = lawful restOctets numbered
 
 -- ## What was written
 
@@ -65,15 +65,13 @@ written-padding m k h l = bit-put-above (replicate 20 43) 0 (form m) k (form-bin
 
 -- the writer accepts what is right, where its form is not too long, and nothing else
 pub accepted : (m : Notification) → writeNumber m 20 ≡ 0 → Right m × (length (form m) ≤ 160)
-unfolding writeNumber
 accepted m e =
-    let a = handed-on (recordRefusal m) (pick (both (leb (length (form m)) 160) (eqb 20 20)) 0 11) e in
-    let b = picked (both (leb (length (form m)) 160) (eqb 20 20)) 0 11 (omega arith) (a .1) in
+    let a = handed-on (recordRefusal m) (pick (formFits m 20) 0 11) (sym (one-more m 20) ∙ e) in
+    let b = picked (formFits m 20) 0 11 (omega arith) (a .1) in
     (right m (a .0), leb-true (length (form m)) 160 (both-true (leb (length (form m)) 160) (eqb 20 20) (b .0) .0))
 
 pub accepting : (m : Notification) → Right m → length (form m) ≤ 160 → writeNumber m 20 ≡ 0
-unfolding writeNumber
-accepting m t h = rw (right-all m t, le-leb (length (form m)) 160 h)
+accepting m t h = one-more m 20 ∙ rw (right-all m t, le-leb (length (form m)) 160 h)
 
 module _ (m : Notification) (s : Shaped m) (t : Right m) (h : length (form m) ≤ 160) where
   form-read : notification .read (written m) 0 ≡ ok (valueOf m) (length (form m))
@@ -107,7 +105,7 @@ four-calls v f h =
     let z : List ℕ = (release (format release6) ⨟ release (format release7)) .bits 160 (0 + length x + length y) (v .1 .1) in
     omega (arith, length-right x (y ++ z), length-left y z, items-many groupCall 37 (λ n p a g. call-long a g n p) 160 (0 + length x) (v .1 .0) f)
 
-few-reduced : (p : ℕ) (o : Option Release6Value) → optFits (format release6) o → length (release (format release6) .bits 160 p o) ≤ 160 → length (reducedsOf o) ≤ 5
+few-reduced : (p : ℕ) (o : Option Release6Value) → optFits (format release6) o → length (release (format release6) .bits 160 p o) ≤ 160 → length (reducedsIn o) ≤ 5
 few-reduced p none f h = omega arith
 few-reduced p (some v) f h =
     let x : List ℕ = opt (num 2) .bits 160 (p + 1) (v .0) in
@@ -116,7 +114,7 @@ few-reduced p (some v) f h =
     omega (arith, length-right x (y ++ z), length-left y z, items-many (format reduced) 28 reduced-long 160 (p + 1 + length x) (v .1 .0) (f .1 .0))
 
 -- at most 5 reduced references
-pub five-reduced : (v : Value) → optFits (format release6) (v .1 .1 .0) → length (notification .bits 160 0 v) ≤ 160 → length (reducedsOf (v .1 .1 .0)) ≤ 5
+pub five-reduced : (v : Value) → optFits (format release6) (v .1 .1 .0) → length (notification .bits 160 0 v) ≤ 160 → length (reducedsIn (v .1 .1 .0)) ≤ 5
 unfolding notification
 five-reduced v f h =
     let x : List ℕ = opt (num 2) .bits 160 0 (v .0) in
@@ -161,7 +159,7 @@ module _ (s : List ℕ) (r : Reading) (a : Accepted s r) where
   four : length (a .value .1 .0) ≤ 4
   four = four-calls (a .value) (a .fitting .calls) (a .within)
 
-  five : length (reducedsOf (a .value .1 .1 .0)) ≤ 5
+  five : length (reducedsIn (a .value .1 .1 .0)) ≤ 5
   five = five-reduced (a .value) (a .fitting .six) (a .within)
 
   -- the record is right, and its written form is the bits that stand there

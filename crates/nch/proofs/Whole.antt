@@ -23,8 +23,8 @@ use Rattle.call.specs.Call.{groupCall}
 use Rattle.nch.specs.declared.lists.CallsPassed.{CallsPassed}
 use Rattle.nch.specs.declared.lists.ListPassed.{ListPassed}
 use Rattle.nch.specs.declared.additions.Release6Passed.{Release6Passed}
-use Rattle.nch.specs.Octets.{Value, Release6Value, Release7Value, parts, notification, release6, release7, count, cipheredValue, describedValue, reducedsOf, randomsOf, marksOf, randomsFit, marksFit, readOctets}
-use Rattle.nch.specs.Passing.{callsPassed, release6Passed, release7Passed}
+use Rattle.nch.specs.Octets.{Value, Release6Value, Release7Value, restParts, notification, release6, release7, count, cipheredValue, describedValue, reducedsIn, randomsIn, marksIn, randomsFit, marksFit, readOctets}
+use Rattle.nch.specs.Inner.{callsPassed, release6Passed, release7Passed}
 use Rattle.nch.proofs.Passed.{calls, six, seven}
 use Rattle.nch.proofs.InPlaces.{count-le}
 use Rattle.nch.proofs.Round.{four-calls, five-reduced}
@@ -39,7 +39,7 @@ not-twenty s n = rw (ne-eqb (length s) 20 n)
 abbrev tests : Res Value → Res Value
 tests x = (x then λ v q. pick (randomsFit v) (ok v q) (bad (ground 6))) then λ v q. pick (marksFit v) (ok v q) (bad (ground 7))
 
-twenty : (s : List ℕ) → length s ≡ 20 → readOctets s ≡ tests (format parts .read s 0)
+twenty : (s : List ℕ) → length s ≡ 20 → readOctets s ≡ tests (format restParts .read s 0)
 unfolding notification
 twenty s l = rw (eq-eqb (length s) 20 l)
 
@@ -54,7 +54,7 @@ F4 = release (format release7)
 abbrev row : Format Value
 row = opt (num 2) ⨟ list groupCall ⨟ F3 ⨟ F4
 
-row-is : (s : List ℕ) → format parts .read s 0 ≡ row .read s 0
+row-is : (s : List ℕ) → format restParts .read s 0 ≡ row .read s 0
 unfolding groupCall
 row-is s = refl
 
@@ -64,8 +64,8 @@ numbered6 = (tt, ((omega arith, tt), (tt, tt)))
 numbered7 : Numbered (later release7)
 numbered7 = (tt, (tt, ((tt, tt), (tt, tt))))
 
-parts-lawful : Lawful (format parts)
-parts-lawful = lawful parts (tt, (((omega arith, tt), ((omega arith, (tt, tt)), λ v. (((omega arith, tt), λ n. tt), tt))), (numbered6, numbered7)))
+parts-lawful : Lawful (format restParts)
+parts-lawful = lawful restParts (tt, (((omega arith, tt), ((omega arith, (tt, tt)), λ v. (((omega arith, tt), λ n. tt), tt))), (numbered6, numbered7)))
 
 module _ (s : List ℕ) (t : length s ≡ 20) (n : Flagged) (en : n ≡ flaggedOf (flaggedAt s 0 2)) where
   bad-told : (r : Refusal) → row .read s 0 ≡ bad r → readOctets s ≡ bad r
@@ -118,19 +118,19 @@ module _ (s : List ℕ) (t : length s ≡ 20) (n : Flagged) (en : n ≡ flaggedO
               abbrev pub said : Value
               said = (led .value, (called .value, (sixth .value, seventh .value)))
 
-              read-all : format parts .read s 0 ≡ ok said (b .at)
+              read-all : format restParts .read s 0 ≡ ok said (b .at)
               read-all =
                   row-is s
                   ∙ then-ok (opt (num 2)) (list groupCall ⨟ F3 ⨟ F4) s 0 _ _ _ _ (led .is)
                   (then-ok (list groupCall) (F3 ⨟ F4) s (n .at) _ _ _ _ (called .is) (then-ok F3 F4 s (c .at) _ _ _ _ (sixth .is) (seventh .is)))
 
               -- in 160 bits there are places for all calls and reduced references
-              places : (length (called .value) ≤ 4) × (length (reducedsOf (sixth .value)) ≤ 5)
+              places : (length (called .value) ≤ 4) × (length (reducedsIn (sixth .value)) ≤ 5)
               unfolding notification groupCall
               places =
                   let m : length s * 8 ≡ 160 = omega arith in
                   let u = parts-lawful .stands s 0 said (b .at) (omega arith) read-all in
-                  let next : b .at ≡ 0 + length (format parts .bits 160 0 said) = rw m at (u .next) in
+                  let next : b .at ≡ 0 + length (format restParts .bits 160 0 said) = rw m at (u .next) in
                   (four-calls said (u .fitting .1 .0) (omega (arith, u .within)), five-reduced said (u .fitting .1 .1 .0) (omega (arith, u .within)))
 
               ciphered-count : c .ciphered ≡ count cipheredValue (called .value)
@@ -139,13 +139,13 @@ module _ (s : List ℕ) (t : length s ≡ 20) (n : Flagged) (en : n ≡ flaggedO
               described-count : c .described ≡ count describedValue (called .value)
               described-count = ap (λ (x : CallsPassed). x .described) (called .told)
 
-              reduced-count : a .reduced ≡ length (reducedsOf (sixth .value))
+              reduced-count : a .reduced ≡ length (reducedsIn (sixth .value))
               reduced-count = ap (λ (x : Release6Passed). x .reduced) (sixth .told)
 
-              random-count : a .randoms ≡ length (randomsOf (sixth .value))
+              random-count : a .randoms ≡ length (randomsIn (sixth .value))
               random-count = ap (λ (x : Release6Passed). x .randoms) (sixth .told)
 
-              mark-count : b .count ≡ length (marksOf (seventh .value))
+              mark-count : b .count ≡ length (marksIn (seventh .value))
               mark-count = ap (λ (x : ListPassed). x .count) (seventh .told)
 
               -- what refusal 6 adds up is small
@@ -167,15 +167,15 @@ module _ (s : List ℕ) (t : length s ≡ 20) (n : Flagged) (en : n ≡ flaggedO
               pub six-due : c .ciphered + a .reduced < a .randoms → readOctets s ≡ bad (ground 6)
               six-due h =
                   tested false (marksFit said)
-                  (lt-leb (length (randomsOf (sixth .value))) (count cipheredValue (called .value) + length (reducedsOf (sixth .value)))
+                  (lt-leb (length (randomsIn (sixth .value))) (count cipheredValue (called .value) + length (reducedsIn (sixth .value)))
                   (omega (arith, ciphered-count, reduced-count, random-count))) refl
 
               module _ (h : a .randoms ≤ c .ciphered + a .reduced) where
                 fit : randomsFit said ≡ true
-                fit = le-leb (length (randomsOf (sixth .value))) (count cipheredValue (called .value) + length (reducedsOf (sixth .value))) (omega (arith, ciphered-count, reduced-count, random-count))
+                fit = le-leb (length (randomsIn (sixth .value))) (count cipheredValue (called .value) + length (reducedsIn (sixth .value))) (omega (arith, ciphered-count, reduced-count, random-count))
 
                 pub seven-due : c .described < b .count → readOctets s ≡ bad (ground 7)
-                seven-due k = tested true false fit (lt-leb (length (marksOf (seventh .value))) (count describedValue (called .value)) (omega (arith, described-count, mark-count)))
+                seven-due k = tested true false fit (lt-leb (length (marksIn (seventh .value))) (count describedValue (called .value)) (omega (arith, described-count, mark-count)))
 
                 pub none-due : b .count ≤ c .described → readOctets s ≡ ok said (b .at)
-                none-due k = tested true true fit (le-leb (length (marksOf (seventh .value))) (count describedValue (called .value)) (omega (arith, described-count, mark-count)))
+                none-due k = tested true true fit (le-leb (length (marksIn (seventh .value))) (count describedValue (called .value)) (omega (arith, described-count, mark-count)))

@@ -1,7 +1,7 @@
 -- The eleven numbers of a call. Assumes nothing.
 use mathlib.Core.List.{List, [], _∷_}
-use Prim.Native.Nat.{ℕ, _+_, _%_, _≤_}
-use lib.ListN.{length, getD}
+use Prim.Native.Nat.{ℕ, _+_, _%_}
+use lib.ListN.{getD}
 use Rattle.csn1.specs.Told.{isOne, asBit}
 use Rattle.arrays.specs.Limits.{flag, octet, word, long}
 use Rattle.call.specs.declared.Call.{Call}
@@ -58,15 +58,3 @@ callBy f ns at =
 
 abbrev pub callFrom : List ℕ → ℕ → Call
 callFrom ns at = callBy whole ns at
-
--- the numbers are there, and what is no flag fits its field
-pub record DescriptionFits (ns : List ℕ) (at : ℕ) : Type 0 where
-  pub there : at + 5 ≤ length ns
-  pub channel : getD ns at 0 ≤ word
-  pub octets : getD ns (at + 3) 0 ≤ octet
-
-pub record CallFits (ns : List ℕ) (at : ℕ) : Type 0 where
-  pub reference : getD ns at 0 ≤ word
-  pub priority : getD ns (at + 3) 0 ≤ octet
-  pub cipher : getD ns (at + 4) 0 ≤ octet
-  pub description : DescriptionFits ns (at + 6)

@@ -5,5 +5,5 @@ pub mod Write
 pub mod Owners
 pub mod CallNumbers
 pub mod NotificationNumbers
-pub mod Passing
+pub mod Inner
 pub mod Promises

@@ -5,10 +5,10 @@ use mathlib.Core.Path.{_≡_}
 use Prim.Native.Nat.{ℕ, _+_, _≤_}
 use lib.ListN.{length, getD}
 use lib.Dec.{eqb}
-use Rattle.bits.specs.Field.{pick}
+use Rattle.bits.specs.Field.{pick, firstDue}
 use Rattle.csn1.specs.Told.{isOne, asBit}
 use Rattle.arrays.specs.Limits.{within, flag, octet, word, long, times}
-use Rattle.arrays.specs.Runs.{each, parts}
+use Rattle.arrays.specs.Runs.{each, partsFrom}
 use Rattle.nch.specs.declared.Reduced.{Reduced}
 use Rattle.nch.specs.declared.Random.{Random}
 use Rattle.nch.specs.declared.Release6.{Release6}
@@ -77,9 +77,6 @@ readNumbers s = numbersOf (readOf s .«record») ++ (readOf s .used ∷ [])
 unfoldable pub reducedBy : Fields → List ℕ → ℕ → Reduced
 reducedBy f ns at = record { reference = f .word (getD ns at 0); vgcs = isOne (getD ns (at + 1) 0) }
 
-abbrev pub reducedFrom : List ℕ → ℕ → Reduced
-reducedFrom ns at = reducedBy whole ns at
-
 unfoldable pub randomFrom : List ℕ → ℕ → Random
 randomFrom ns at = record { segment = isOne (getD ns at 0); given = isOne (getD ns (at + 1) 0); rand = getD ns (at + 2) 0 }
 
@@ -90,9 +87,9 @@ release6By f ns =
       counted = isOne (getD ns countedAt 0);
       cellcount = f .octet (getD ns cellcountAt 0);
       reducedcount = getD ns reducedsAt 0;
-      reduced = parts (reducedBy f ns) firstReduced reducedLength mostReduceds;
+      reduced = partsFrom (reducedBy f ns) firstReduced reducedLength mostReduceds;
       randomcount = getD ns randomsAt 0;
-      randoms = parts (randomFrom ns) firstRandom randomLength mostRandoms;
+      randoms = partsFrom (randomFrom ns) firstRandom randomLength mostRandoms;
     }
 
 unfoldable pub release7By : Fields → List ℕ → Release7
@@ -100,7 +97,7 @@ release7By f ns =
     record {
       there = isOne (getD ns release7At 0);
       markcount = getD ns marksAt 0;
-      marks = parts (λ at. isOne (getD ns at 0)) firstMark 1 mostMarks;
+      marks = partsFrom (λ at. isOne (getD ns at 0)) firstMark 1 mostMarks;
       uplinked = isOne (getD ns uplinkedAt 0);
       uplink = isOne (getD ns uplinkAt 0);
       amr = isOne (getD ns amrAt 0);
@@ -119,7 +116,7 @@ recordBy f ns =
       numbered = isOne (getD ns numberedAt 0);
       nln = f .octet (getD ns nlnAt 0);
       callcount = getD ns callsAt 0;
-      calls = parts (callBy f ns) firstCall callLength mostCalls;
+      calls = partsFrom (callBy f ns) firstCall callLength mostCalls;
       release6 = release6By f ns;
       release7 = release7By f ns;
     }
@@ -151,18 +148,14 @@ release7Most = (flag ∷ long ∷ []) ++ times mostMarks (flag ∷ []) ++ partsM
 unfoldable pub most : List ℕ
 most = headMost ++ times mostCalls callMost ++ release6Most ++ release7Most
 
-pub record ReducedFits (ns : List ℕ) (at : ℕ) : Type 0 where
-  pub there : at + reducedLength ≤ length ns
-  pub reference : getD ns at 0 ≤ word
-
 -- there are as many numbers as a record has, or more, and each fits its field
 pub record Fits (ns : List ℕ) : Type 0 where
   pub long : recordLength ≤ length ns
   pub held : within ns most ≡ true
 
--- 13 where there are not as many numbers as a record has, 12 where a field cannot hold its number, else what the writer says of the record and n octets
+-- 13 where there are not as many numbers as a record has, 12 where a field cannot hold its number, then what the writer refuses of the record and n octets
 unfoldable pub writeCode : List ℕ → ℕ → ℕ
-writeCode ns n = pick (eqb (length ns) recordLength) (pick (within ns most) (records.writeNumber (recordFrom ns) n) 12) 13
+writeCode ns n = firstDue ((eqb (length ns) recordLength, 13) ∷ (within ns most, 12) ∷ records.writeTests (recordFrom ns) n)
 
 -- what the writer leaves of the octets b: where it refuses, b
 unfoldable pub afterWrite : List ℕ → List ℕ → List ℕ

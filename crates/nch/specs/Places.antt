@@ -99,19 +99,6 @@ confidentialAt = smsAt + 1
 abbrev pub privateAt : ℕ
 privateAt = confidentialAt + 1
 
--- how many numbers each release has
-abbrev pub release6Length : ℕ
-release6Length = release7At - release6At
-
-abbrev pub release7Length : ℕ
-release7Length = privateAt + 1 - release7At
-
--- the record's numbers, behind them the number of bits used, and all of these
+-- the record's numbers; where a message was read, the number of bits used stands behind them
 abbrev pub recordLength : ℕ
 recordLength = privateAt + 1 - numberedAt
-
-abbrev pub usedAt : ℕ
-usedAt = privateAt + 1
-
-abbrev pub allLength : ℕ
-allLength = recordLength + 1

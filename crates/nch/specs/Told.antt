@@ -4,12 +4,14 @@ use mathlib.Core.List.{List, [], _∷_, map}
 use mathlib.Core.Bool.{Bool, true, false}
 use mathlib.Core.Option.{Option, none, some}
 use Prim.Native.Nat.{ℕ}
-use lib.ListN.{length, getD, take}
+use lib.ListN.{length, take}
 use Rattle.csn1.specs.Format.{Res, ok, bad, noRefusal}
 use Rattle.csn1.specs.Told.{isThere, orZero, there, isOne, asBit, padded}
-use Rattle.call.specs.Call.{callOf, callValue, noCall}
+use Rattle.call.specs.Call.{callReference, serviceFlag, callOf, callValue, noCall}
 use Rattle.nch.specs.Places.{mostCalls, mostReduceds, mostRandoms, mostMarks}
-use Rattle.nch.specs.Octets.{Release6Value, AmrValue, Release7Value, Value, readOctets}
+use Rattle.nch.specs.Octets.{segmentId, vstkRand, Release6Value, cellGlobalCount, reducedReferences, randomEntries}
+use Rattle.nch.specs.Octets.{AmrValue, frAmrConfig, hrAmrConfig, dataConfidentiality, guaranteedPrivacy, Release7Value, emergencyMarks, uplinkAccess, amrPart, smsPart}
+use Rattle.nch.specs.Octets.{Value, nlnPart, callList, release6Part, release7Part, readOctets}
 use Rattle.nch.specs.declared.Reduced.{Reduced}
 use Rattle.nch.specs.declared.Random.{Random}
 use Rattle.nch.specs.declared.Release6.{Release6}
@@ -25,13 +27,13 @@ orFalse (some b) = isOne b
 -- ## Release 6
 
 abbrev pub reducedOf : List ℕ → Reduced
-reducedOf c = record { reference = getD c 0 0; vgcs = isOne (getD c 1 0) }
+reducedOf c = record { reference = callReference c; vgcs = isOne (serviceFlag c) }
 
 abbrev pub noReduced : Reduced
 noReduced = record { reference = 0; vgcs = false }
 
 abbrev pub randomOf : ℕ × Option ℕ → Random
-randomOf v = record { segment = isOne (v .0); given = isThere (v .1); rand = orZero (v .1) }
+randomOf v = record { segment = isOne (segmentId v); given = isThere (vstkRand v); rand = orZero (vstkRand v) }
 
 abbrev pub noRandom : Random
 noRandom = record { segment = false; given = false; rand = 0 }
@@ -53,12 +55,12 @@ release6Of none = noRelease6
 release6Of (some v) =
     record {
       there = true;
-      counted = isThere (v .0);
-      cellcount = orZero (v .0);
-      reducedcount = length (v .1 .0);
-      reduced = padded noReduced mostReduceds (map reducedOf (v .1 .0));
-      randomcount = length (v .1 .1);
-      randoms = padded noRandom mostRandoms (map randomOf (v .1 .1));
+      counted = isThere (cellGlobalCount v);
+      cellcount = orZero (cellGlobalCount v);
+      reducedcount = length (reducedReferences v);
+      reduced = padded noReduced mostReduceds (map reducedOf (reducedReferences v));
+      randomcount = length (randomEntries v);
+      randoms = padded noRandom mostRandoms (map randomOf (randomEntries v));
     }
 
 -- ## Release 7
@@ -84,37 +86,37 @@ noRelease7 =
 -- the two AMR parts behind their flag, and the two SMS bits behind theirs
 abbrev pub fullRate : Option AmrValue → Option ℕ
 fullRate none = none
-fullRate (some a) = a .0
+fullRate (some a) = frAmrConfig a
 
 abbrev pub halfRate : Option AmrValue → Option ℕ
 halfRate none = none
-halfRate (some a) = a .1
+halfRate (some a) = hrAmrConfig a
 
 abbrev pub confidentiality : Option (ℕ × ℕ) → Bool
 confidentiality none = false
-confidentiality (some s) = isOne (s .0)
+confidentiality (some s) = isOne (dataConfidentiality s)
 
 abbrev pub privacy : Option (ℕ × ℕ) → Bool
 privacy none = false
-privacy (some s) = isOne (s .1)
+privacy (some s) = isOne (guaranteedPrivacy s)
 
 abbrev pub release7Of : Option Release7Value → Release7
 release7Of none = noRelease7
 release7Of (some v) =
     record {
       there = true;
-      markcount = length (v .0);
-      marks = padded false mostMarks (map isOne (v .0));
-      uplinked = isThere (v .1 .0);
-      uplink = orFalse (v .1 .0);
-      amr = isThere (v .1 .1 .0);
-      fullrated = isThere (fullRate (v .1 .1 .0));
-      fullrate = orZero (fullRate (v .1 .1 .0));
-      halfrated = isThere (halfRate (v .1 .1 .0));
-      halfrate = orZero (halfRate (v .1 .1 .0));
-      sms = isThere (v .1 .1 .1);
-      confidential = confidentiality (v .1 .1 .1);
-      private = privacy (v .1 .1 .1);
+      markcount = length (emergencyMarks v);
+      marks = padded false mostMarks (map isOne (emergencyMarks v));
+      uplinked = isThere (uplinkAccess v);
+      uplink = orFalse (uplinkAccess v);
+      amr = isThere (amrPart v);
+      fullrated = isThere (fullRate (amrPart v));
+      fullrate = orZero (fullRate (amrPart v));
+      halfrated = isThere (halfRate (amrPart v));
+      halfrate = orZero (halfRate (amrPart v));
+      sms = isThere (smsPart v);
+      confidential = confidentiality (smsPart v);
+      private = privacy (smsPart v);
     }
 
 -- ## The whole
@@ -122,12 +124,12 @@ release7Of (some v) =
 abbrev pub recordOf : Value → Notification
 recordOf v =
     record {
-      numbered = isThere (v .0);
-      nln = orZero (v .0);
-      callcount = length (v .1 .0);
-      calls = padded noCall mostCalls (map callOf (v .1 .0));
-      release6 = release6Of (v .1 .1 .0);
-      release7 = release7Of (v .1 .1 .1);
+      numbered = isThere (nlnPart v);
+      nln = orZero (nlnPart v);
+      callcount = length (callList v);
+      calls = padded noCall mostCalls (map callOf (callList v));
+      release6 = release6Of (release6Part v);
+      release7 = release7Of (release7Part v);
     }
 
 abbrev pub noRecord : Notification
@@ -149,7 +151,7 @@ pub record Shaped (m : Notification) : Type 0 where
   pub randoms : length (m .release6 .randoms) ≡ mostRandoms
   pub marks : length (m .release7 .marks) ≡ mostMarks
 
--- ## And back: the value that a record says
+-- ## And back: the value that a record says, each part in its place of the grammar
 
 abbrev pub reducedValue : Reduced → List ℕ
 reducedValue r = r .reference ∷ asBit (r .vgcs) ∷ []
@@ -159,15 +161,32 @@ randomValue r = (asBit (r .segment), there (r .given) (r .rand))
 
 abbrev pub release6Value : Release6 → Release6Value
 release6Value r =
-    (there (r .counted) (r .cellcount), (map reducedValue (take (r .reducedcount) (r .reduced)), map randomValue (take (r .randomcount) (r .randoms))))
+    let count = there (r .counted) (r .cellcount) in
+    let references = map reducedValue (take (r .reducedcount) (r .reduced)) in
+    let randoms = map randomValue (take (r .randomcount) (r .randoms)) in
+    (count, (references, randoms))
 
 abbrev pub amrValue : Release7 → AmrValue
-amrValue r = (there (r .fullrated) (r .fullrate), there (r .halfrated) (r .halfrate))
+amrValue r =
+    let full = there (r .fullrated) (r .fullrate) in
+    let half = there (r .halfrated) (r .halfrate) in
+    (full, half)
+
+abbrev pub smsValue : Release7 → ℕ × ℕ
+smsValue r = (asBit (r .confidential), asBit (r .private))
 
 abbrev pub release7Value : Release7 → Release7Value
 release7Value r =
-    (map asBit (take (r .markcount) (r .marks)), (there (r .uplinked) (asBit (r .uplink)), (there (r .amr) (amrValue r), there (r .sms) (asBit (r .confidential), asBit (r .private)))))
+    let marks = map asBit (take (r .markcount) (r .marks)) in
+    let uplink = there (r .uplinked) (asBit (r .uplink)) in
+    let amr = there (r .amr) (amrValue r) in
+    let sms = there (r .sms) (smsValue r) in
+    (marks, (uplink, (amr, sms)))
 
 abbrev pub valueOf : Notification → Value
 valueOf m =
-    (there (m .numbered) (m .nln), (map callValue (take (m .callcount) (m .calls)), (there (m .release6 .there) (release6Value (m .release6)), there (m .release7 .there) (release7Value (m .release7)))))
+    let nln = there (m .numbered) (m .nln) in
+    let calls = map callValue (take (m .callcount) (m .calls)) in
+    let six = there (m .release6 .there) (release6Value (m .release6)) in
+    let seven = there (m .release7 .there) (release7Value (m .release7)) in
+    (nln, (calls, (six, seven)))

@@ -1,10 +1,10 @@
 -- What the writer of NT/N Rest Octets refuses, in document 01's order, and the octets that it leaves. Assumes nothing.
-use mathlib.Core.List.{List, [], _∷_}
+use mathlib.Core.List.{List, [], _∷_, _++_}
 use mathlib.Core.Bool.{Bool, true, false, not}
 use Prim.Native.Nat.{ℕ, zero, suc, _+_, _^_}
 use lib.ListN.{length, take, replicate}
 use lib.Dec.{leb, ltb, eqb}
-use Rattle.bits.specs.Field.{both, pick}
+use Rattle.bits.specs.Field.{both, pick, firstDue}
 use Rattle.csn1.specs.Format.{putBits}
 use Rattle.call.specs.Call.{ciphered}
 use Rattle.call.specs.declared.Call.{Call}
@@ -55,8 +55,9 @@ randomInRange r = flaggedRight (r .given) (r .rand) (2 ^ 36)
 abbrev pub randomIsZero : Random → Bool
 randomIsZero r = both (not (r .segment)) (both (not (r .given)) (eqb (r .rand) 0))
 
-abbrev pub yes : Bool → Bool
-yes b = true
+-- a mark in use may be either
+abbrev pub anyMark : Bool → Bool
+anyMark b = true
 
 abbrev pub release6Places : Release6 → Bool
 release6Places r =
@@ -78,13 +79,13 @@ amrInRange r =
 abbrev pub flagsInRange : Release7 → Bool
 flagsInRange r = both (behind (r .uplinked) (r .uplink)) (both (amrInRange r) (both (behind (r .sms) (r .confidential)) (behind (r .sms) (r .private))))
 
-abbrev pub release7Parts : Release7 → Bool
-release7Parts r = both (placesRight yes not (r .markcount) (r .marks)) (flagsInRange r)
+abbrev pub release7Places : Release7 → Bool
+release7Places r = both (placesRight anyMark not (r .markcount) (r .marks)) (flagsInRange r)
 
 unfoldable pub release7InRange : Release7 → Bool
 release7InRange r =
     both (leb (r .markcount) mostMarks)
-    (both (pick (r .there) true (both (eqb (r .markcount) 0) (both (not (r .uplinked)) (both (not (r .amr)) (not (r .sms)))))) (release7Parts r))
+    (both (pick (r .there) true (both (eqb (r .markcount) 0) (both (not (r .uplinked)) (both (not (r .amr)) (not (r .sms)))))) (release7Places r))
 
 unfoldable pub inRange : Notification → Bool
 inRange m =
@@ -120,16 +121,21 @@ isDescribed c = c .described
 unfoldable pub marksOwned : Notification → Bool
 marksOwned m = leb (m .release7 .markcount) (count isDescribed (callsOf m))
 
--- a call that none of these refuses
-abbrev pub callRight : Call → Bool
-callRight c = both (callInRange c) (both (callIsLow c) (both (callLengthRight c) (callHopsRight c)))
-
 -- ## The first of these that is due
 
+-- each test with the number of its refusal, in document 01's order
+abbrev pub recordTests : Notification → List (Bool × ℕ)
+recordTests m =
+    (inRange m, 12)
+    ∷ (referencesLow m, 4)
+    ∷ (lengthsRight m, 3)
+    ∷ (hopsRight m, 5)
+    ∷ (randomsOwned m, 6)
+    ∷ (marksOwned m, 7)
+    ∷ []
+
 unfoldable pub recordRefusal : Notification → ℕ
-recordRefusal m =
-    pick (inRange m)
-    (pick (referencesLow m) (pick (lengthsRight m) (pick (hopsRight m) (pick (randomsOwned m) (pick (marksOwned m) 0 7) 6) 5) 3) 4) 12
+recordRefusal m = firstDue (recordTests m)
 
 -- ## 11: the written form takes over 160 bits, or the buffer is not 20 octets
 
@@ -137,11 +143,18 @@ recordRefusal m =
 unfoldable pub form : Notification → List ℕ
 form m = notification .bits 160 0 (valueOf m)
 
+abbrev pub formFits : Notification → ℕ → Bool
+formFits m n = both (leb (length (form m)) 160) (eqb n 20)
+
 -- ## The answer
+
+-- 11 is the last test
+abbrev pub writeTests : Notification → ℕ → List (Bool × ℕ)
+writeTests m n = recordTests m ++ ((formFits m n, 11) ∷ [])
 
 -- the number of the refusal, and 0 where the record is written into a buffer of n octets
 unfoldable pub writeNumber : Notification → ℕ → ℕ
-writeNumber m n = pick (eqb (recordRefusal m) 0) (pick (both (leb (length (form m)) 160) (eqb n 20)) 0 11) (recordRefusal m)
+writeNumber m n = firstDue (writeTests m n)
 
 -- the written form over twenty octets of padding
 unfoldable pub written : Notification → List ℕ

@@ -1,7 +1,7 @@
 // A record from its numbers, and the eleven numbers of a call. Of a number that is too large for its field what is left there is taken.
 ghost use mathlib.Core.Path.{_≡_};
 ghost use Prim.Native.Nat.{_+_, _*_, _≤_, _<_};
-ghost use Rattle.arrays.specs.Runs.{parts};
+ghost use Rattle.arrays.specs.Runs.{partsFrom};
 ghost use Rattle.nch.specs.Places.{firstCall, callLength, mostCalls, firstReduced, reducedLength, mostReduceds, firstRandom, randomLength, mostRandoms};
 ghost use Rattle.nch.specs.CallNumbers.{callNumbers, cut, descriptionBy, callBy};
 ghost use Rattle.nch.specs.NotificationNumbers.{reducedBy, randomFrom, release6By, release7By, recordBy};
@@ -97,7 +97,7 @@ fn random_no(numbers: &[u64], k: usize) -> Random
 }
 
 fn reduceds_from(numbers: &[u64]) -> [Reduced; places::MOST_REDUCEDS]
-    ensures { λ r. ⌜ r ≡ parts (reducedBy cut (now (numbers .entry))) firstReduced reducedLength mostReduceds ⌝ }
+    ensures { λ r. ⌜ r ≡ partsFrom (reducedBy cut (now (numbers .entry))) firstReduced reducedLength mostReduceds ⌝ }
 {
     [
         reduced_no(numbers, 0),
@@ -109,7 +109,7 @@ fn reduceds_from(numbers: &[u64]) -> [Reduced; places::MOST_REDUCEDS]
 }
 
 fn randoms_from(numbers: &[u64]) -> [Random; places::MOST_RANDOMS]
-    ensures { λ r. ⌜ r ≡ parts (randomFrom (now (numbers .entry))) firstRandom randomLength mostRandoms ⌝ }
+    ensures { λ r. ⌜ r ≡ partsFrom (randomFrom (now (numbers .entry))) firstRandom randomLength mostRandoms ⌝ }
 {
     [
         random_no(numbers, 0),

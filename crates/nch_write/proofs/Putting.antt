@@ -10,7 +10,7 @@ use borrow.Author.Tests.{ltb-true, leb-true, eqb-true, le-leb, lt-leb, eq-eqb, n
 use Rattle.bits.specs.Field.{both, pick, afterPut}
 use Rattle.csn1.specs.Format.{num, numBits, _⨟_, opt, putBits}
 use Rattle.csn1.specs.Grammar.{format}
-use Rattle.csn1.specs.Put.{Put}
+use Rattle.csn1.specs.Inner.{Put}
 use Rattle.csn1.specs.Told.{there, asBit}
 use Rattle.bits.proofs.Answers.{both-true}
 use Rattle.csn1.proofs.Writing.{flag-lt}
@@ -24,7 +24,9 @@ use Rattle.nch.specs.declared.Random.{Random}
 use Rattle.nch.specs.declared.Notification.{Notification}
 use Rattle.nch.specs.Octets.{reduced, random, notification}
 use Rattle.nch.specs.Told.{reducedValue, randomValue, valueOf}
-use Rattle.nch.specs.Write.{all, flaggedRight, callRight, recordRefusal, form, writeNumber, written, afterWrite}
+use Rattle.nch.specs.Write.{all, flaggedRight, recordRefusal, form, formFits, writeNumber, written, afterWrite}
+use Rattle.nch.specs.Inner.{callRight}
+use Rattle.nch.proofs.Record.{one-more}
 
 -- ## What the places and flags say
 
@@ -105,10 +107,11 @@ call-short c r =
 -- r is the refusal of the record, and b the buffer
 module _ (m : Notification) (b : List ℕ) (r : ℕ) (x : r ≡ recordRefusal m) where
   pub write-refused : (r ≡ 0 → ⊥) → (r ≡ writeNumber m (length b)) × (b ≡ afterWrite m b)
-  unfolding writeNumber afterWrite
+  unfolding afterWrite
   write-refused h =
       let e = ne-eqb (recordRefusal m) 0 (λ z. h (x ∙ z)) in
-      (rw e x, rw (e, e))
+      let w : writeNumber m (length b) ≡ recordRefusal m = one-more m (length b) ∙ rw e in
+      (x ∙ sym w, rw (w, e))
 
   -- nothing is refused, and f is the form over padding
   module _ (o : r ≡ 0) (used : ℕ) (f : List ℕ) (p : Put notification 160 0 (valueOf m) used (replicate 20 43) f) where
@@ -120,9 +123,11 @@ module _ (m : Notification) (b : List ℕ) (r : ℕ) (x : r ≡ recordRefusal m)
     size-is = p .next ∙ omega arith
 
     -- and the form is not put into the buffer
-    refused : both (leb (length (form m)) 160) (eqb (length b) 20) ≡ false → (11 ≡ writeNumber m (length b)) × (b ≡ afterWrite m b)
-    unfolding writeNumber afterWrite
-    refused e = (rw (accepted, e), rw (accepted, e))
+    refused : formFits m (length b) ≡ false → (11 ≡ writeNumber m (length b)) × (b ≡ afterWrite m b)
+    unfolding afterWrite
+    refused e =
+        let w : writeNumber m (length b) ≡ 11 = one-more m (length b) ∙ rw (accepted, e) in
+        (sym w, rw w)
 
     pub write-long : 160 < used → (11 ≡ writeNumber m (length b)) × (b ≡ afterWrite m b)
     write-long h = refused (rw (lt-leb (length (form m)) 160 (omega (arith, size-is))))
@@ -135,7 +140,7 @@ module _ (m : Notification) (b : List ℕ) (r : ℕ) (x : r ≡ recordRefusal m)
       write-elsewhere n = refused (rw (short, ne-eqb (length b) 20 n))
 
       pub write-done : length b ≡ 20 → (d : List ℕ) → d ≡ f → (0 ≡ writeNumber m (length b)) × (d ≡ afterWrite m b)
-      unfolding writeNumber afterWrite written form
+      unfolding afterWrite written form
       write-done n d e =
-          let t = eq-eqb (length b) 20 n in
-          (rw (accepted, short, t), rw (accepted, short, t) (e ∙ p .same h))
+          let w : writeNumber m (length b) ≡ 0 = one-more m (length b) ∙ rw (accepted, short, eq-eqb (length b) 20 n) in
+          (sym w, rw w (e ∙ p .same h))

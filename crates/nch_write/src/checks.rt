@@ -4,7 +4,7 @@ ghost use mathlib.Core.Bool.{not};
 ghost use lib.ListN.{take};
 ghost use Rattle.bits.specs.Field.{both};
 ghost use Rattle.call.specs.Write.{callInRange, callIsZero, callIsLow, callLengthRight, callHopsRight};
-ghost use Rattle.nch.specs.Write.{placesRight, all, flaggedRight, behind, reducedInRange, reducedIsZero, reducedIsLow, randomInRange, randomIsZero, yes, release6InRange, flagsInRange, release7InRange, inRange, recordRefusal};
+ghost use Rattle.nch.specs.Write.{placesRight, all, flaggedRight, behind, reducedInRange, reducedIsZero, reducedIsLow, randomInRange, randomIsZero, anyMark, release6InRange, flagsInRange, release7InRange, inRange, recordRefusal};
 use crate::calls;
 use call::Call;
 use nch::Notification;
@@ -116,7 +116,7 @@ fn randoms_in_range(items: [Random; places::MOST_RANDOMS], n: usize) -> bool
 }
 
 fn marks_in_range(marks: [bool; places::MOST_MARKS], n: usize) -> bool
-    ensures { λ r. ⌜ r ≡ placesRight yes not n marks ⌝ }
+    ensures { λ r. ⌜ r ≡ placesRight anyMark not n marks ⌝ }
 {
     let mut i: usize = 0;
     while i < places::MOST_MARKS {

@@ -2,3 +2,4 @@
 pub mod FacchRuns
 pub mod Listed
 pub mod Promises
+pub mod FacchBack

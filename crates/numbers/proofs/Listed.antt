@@ -14,29 +14,47 @@ use Rattle.arrays.specs.Runs.{each}
 use Rattle.nch.specs.CallNumbers.{callNumbers, descriptionBy, callBy}
 use Rattle.numbers.specs.FacchNumbers as facch-numbers
 use Rattle.nch.specs.NotificationNumbers.{reducedNumbers, randomNumbers, markNumbers, release6Numbers, partsNumbers, release7Numbers, numbersOf, readNumbers, reducedBy, randomFrom, release6By, release7By, recordBy, most, writeCode, afterWrite}
-use Rattle.numbers.specs.Promises.{everyPart, everyNumber, everyFacchPart, everyFacchNumber, Listed-numbers}
+use Rattle.numbers.specs.Promises.{firstParts, firstNumbers, everyFacchPart, everyFacchNumber, uplinkPart, uplinkNumbers, absentParts, absentNumbers, endParts, endNumbers, Every-listed-input-gives-its-numbers}
 
 facch-read : facch-numbers.readNumbers everyFacchPart ≡ everyFacchNumber ++ (183 ∷ [])
 unfolding facch.notification groupCall field bit padBit callNumbers facch-numbers.numbersOf facch-numbers.readNumbers
 facch-read = refl
 
-nch-accepted : writeCode everyNumber 20 ≡ 0
+facch-uplink : facch-numbers.readNumbers uplinkPart ≡ uplinkNumbers ++ (101 ∷ [])
+unfolding facch.notification groupCall field bit padBit callNumbers facch-numbers.numbersOf facch-numbers.readNumbers
+facch-uplink = refl
+
+facch-absent : facch-numbers.readNumbers absentParts ≡ absentNumbers ++ (48 ∷ [])
+unfolding facch.notification groupCall field bit padBit callNumbers facch-numbers.numbersOf facch-numbers.readNumbers
+facch-absent = refl
+
+facch-end : facch-numbers.readNumbers endParts ≡ endNumbers ++ (136 ∷ [])
+unfolding facch.notification groupCall field bit padBit callNumbers facch-numbers.numbersOf facch-numbers.readNumbers
+facch-end = refl
+
+nch-accepted : writeCode firstNumbers 20 ≡ 0
 unfolding writeCode within most callBy descriptionBy reducedBy randomFrom release6By release7By recordBy records.writeNumber records.recordRefusal records.inRange records.placesRight records.all records.release6InRange records.release7InRange records.referencesLow records.lengthsRight records.hopsRight records.randomsOwned records.marksOwned calls.callInRange calls.callIsZero calls.callIsLow calls.callLengthRight calls.callHopsRight records.form notification groupCall numBits padBit
 nch-accepted = refl
 
-nch-written : afterWrite everyNumber (replicate 20 0) ≡ everyPart
+nch-written : afterWrite firstNumbers (replicate 20 0) ≡ firstParts
 unfolding afterWrite within most callBy descriptionBy reducedBy randomFrom release6By release7By recordBy records.afterWrite records.writeNumber records.recordRefusal records.inRange records.placesRight records.all records.release6InRange records.release7InRange records.referencesLow records.lengthsRight records.hopsRight records.randomsOwned records.marksOwned calls.callInRange calls.callIsZero calls.callIsLow calls.callLengthRight calls.callHopsRight records.form records.written notification groupCall numBits padBit putBits setBit withBit
 nch-written = refl
 
-pub listed-numbers : Listed-numbers
+pub every-listed-input-gives-its-numbers : Every-listed-input-gives-its-numbers
 unfolding notification groupCall readItems field bit padBit each callNumbers reducedNumbers randomNumbers markNumbers release6Numbers partsNumbers release7Numbers numbersOf readNumbers writeCode within most
-listed-numbers =
+every-listed-input-gives-its-numbers =
     record {
       nothing = refl;
       numbered = refl;
       refused = refl;
-      parts = refl;
+      first = refl;
+      second = refl;
+      third = refl;
+      fourth = refl;
       facch = facch-read;
+      facch-uplink = facch-uplink;
+      facch-absent = facch-absent;
+      facch-end = facch-end;
       accepted = nch-accepted;
       written = nch-written;
       flagged = refl;

@@ -6,7 +6,6 @@ use native.Mathlib.Omega.{arith}
 use lib.Dec.{eqb}
 use lib.ListN.{length, replicate}
 use borrow.Author.Tests.{eqb-true, eq-eqb}
-use Rattle.bits.specs.Field.{pick}
 use Rattle.csn1.specs.Format.{Res, ok, bad}
 use Rattle.csn1.proofs.Telling.{picked}
 use Rattle.nch.specs.declared.Reading.{Reading}
@@ -51,10 +50,10 @@ record Accepted (ns : List ℕ) : Type 0 where
   right : records.writeNumber (recordFrom ns) 20 ≡ 0
 
 accepted : (ns : List ℕ) → writeCode ns 20 ≡ 0 → Accepted ns
-unfolding writeCode
+unfolding writeCode records.writeNumber
 accepted ns e =
-    let p = picked (eqb (length ns) recordLength) (pick (within ns most) (records.writeNumber (recordFrom ns) 20) 12) 13 (omega arith) e in
-    let q = picked (within ns most) (records.writeNumber (recordFrom ns) 20) 12 (omega arith) (p .1) in
+    let p = picked (eqb (length ns) recordLength) _ 13 (omega arith) e in
+    let q = picked (within ns most) _ 12 (omega arith) (p .1) in
     record { fitting = record { long = omega (arith, eqb-true (length ns) recordLength (p .0)); held = q .0 }; exact = eqb-true (length ns) recordLength (p .0); right = q .1 }
 
 shaped : (ns : List ℕ) → Shaped (recordFrom ns)

@@ -1,12 +1,15 @@
--- NOTIFICATION/FACCH as numbers. Assumes nothing.
+-- NOTIFICATION/FACCH as numbers, and back. Assumes nothing.
 use mathlib.Core.List.{List, [], _∷_, _++_}
-use Prim.Native.Nat.{ℕ}
-use Rattle.csn1.specs.Told.{asBit}
+use Prim.Native.Nat.{ℕ, _+_}
+use lib.ListN.{getD}
+use Rattle.csn1.specs.Told.{isOne, asBit}
+use Rattle.arrays.specs.Limits.{flag, octet, long}
 use Rattle.facch.specs.declared.Release6.{Release6}
 use Rattle.facch.specs.declared.Release7.{Release7}
 use Rattle.facch.specs.declared.Notification.{Notification}
 use Rattle.facch.specs.Told.{readOf}
-use Rattle.nch.specs.CallNumbers.{callNumbers}
+use Rattle.nch.specs.Places.{callLength}
+use Rattle.nch.specs.CallNumbers.{callNumbers, callMost, callFrom}
 
 -- Release 6 there, count there, CELL_GLOBAL_COUNT, B22_COUNT, VSTK_RAND there, VSTK_RAND
 abbrev pub release6Numbers : Release6 → List ℕ
@@ -23,3 +26,37 @@ numbersOf m = callNumbers (m .call) ++ release6Numbers (m .release6) ++ release7
 -- what is read of any octets: the record's numbers, and behind them the number of bits used
 unfoldable pub readNumbers : List ℕ → List ℕ
 readNumbers s = numbersOf (readOf s .«record») ++ (readOf s .used ∷ [])
+
+-- ## A record from its numbers
+
+abbrev release6At : ℕ
+release6At = callLength
+
+abbrev release7At : ℕ
+release7At = release6At + 6
+
+unfoldable pub recordFrom : List ℕ → Notification
+recordFrom ns =
+    record {
+      call = callFrom ns 0;
+      release6 =
+          record {
+            there = isOne (getD ns release6At 0);
+            counted = isOne (getD ns (release6At + 1) 0);
+            cellcount = getD ns (release6At + 2) 0;
+            b22 = isOne (getD ns (release6At + 3) 0);
+            given = isOne (getD ns (release6At + 4) 0);
+            rand = getD ns (release6At + 5) 0;
+          };
+      release7 =
+          record {
+            there = isOne (getD ns release7At 0);
+            uplink = isOne (getD ns (release7At + 1) 0);
+            emergency = isOne (getD ns (release7At + 2) 0);
+            caused = isOne (getD ns (release7At + 3) 0);
+          };
+    }
+
+-- the largest number of each field
+abbrev pub most : List ℕ
+most = callMost ++ (flag ∷ flag ∷ octet ∷ flag ∷ flag ∷ long ∷ []) ++ (flag ∷ flag ∷ flag ∷ flag ∷ [])

@@ -1,8 +1,10 @@
 -- What is promised of records as arrays of numbers. Assumes nothing.
 use mathlib.Core.Path.{_≡_}
 use mathlib.Core.List.{List, [], _∷_, _++_}
+use mathlib.Core.Bool.{true}
 use Prim.Native.Nat.{ℕ}
 use lib.ListN.{length, replicate}
+use Rattle.arrays.specs.Limits.{within}
 use Rattle.facch.specs.declared.Notification as facch
 use Rattle.nch.specs.declared.Notification as nch
 use Rattle.facch.specs.Told as facch-told
@@ -19,7 +21,18 @@ A-record-is-its-numbers = (m : nch.Notification) → Shaped m → recordFrom (nu
 abbrev pub Numbers-are-their-record : Type 0
 Numbers-are-their-record = (ns : List ℕ) → length ns ≡ 105 → Fits ns → numbersOf (recordFrom ns) ≡ ns
 
--- 3. Reading what was written gives the numbers back, and behind them the length of the written form.
+-- 3. The same of NOTIFICATION/FACCH, which has no writer.
+abbrev pub A-facch-record-is-its-numbers : Type 0
+A-facch-record-is-its-numbers =
+    (m : facch.Notification)
+    → facch-numbers.recordFrom (facch-numbers.numbersOf m) ≡ m
+
+-- 4. And back.
+abbrev pub Numbers-are-their-facch-record : Type 0
+Numbers-are-their-facch-record =
+    (ns : List ℕ) → length ns ≡ 21 → within ns facch-numbers.most ≡ true → facch-numbers.numbersOf (facch-numbers.recordFrom ns) ≡ ns
+
+-- 5. Reading what was written gives the numbers back, and behind them the length of the written form.
 abbrev pub Reading-gives-the-numbers-back : Type 0
 Reading-gives-the-numbers-back =
     (ns b : List ℕ)
@@ -27,25 +40,27 @@ Reading-gives-the-numbers-back =
     → writeCode ns 20 ≡ 0
     → readNumbers (afterWrite ns b) ≡ ns ++ (length (form (recordFrom ns)) ∷ [])
 
--- 4. A record of NT/N Rest Octets has 105 numbers, and one of NOTIFICATION/FACCH 21.
+-- 6. A record of NT/N Rest Octets has 105 numbers, and one of NOTIFICATION/FACCH 21.
 abbrev pub All-have-their-places : Type 0
 All-have-their-places =
     ((m : nch.Notification) → Shaped m → length (numbersOf m) ≡ 105)
     × ((m : facch.Notification) → length (facch-numbers.numbersOf m) ≡ 21)
 
--- 5. A refused reading is all zeros.
+-- 7. A refused reading is all zeros.
 abbrev pub A-refused-reading-is-all-zeros : Type 0
 A-refused-reading-is-all-zeros =
     ((s : List ℕ) → (readOf s .refusal .number ≡ 0 → ⊥) → readNumbers s ≡ replicate 106 0)
     × ((s : List ℕ) → (facch-told.readOf s .refusal .number ≡ 0 → ⊥) → facch-numbers.readNumbers s ≡ replicate 22 0)
 
--- 6. Listed inputs. A call with an allocation of two octets, and every kind of part behind it:
-abbrev pub everyPart : List ℕ
-everyPart =
+-- 8. Listed inputs, with every kind of part: each field of the record, of a call, a reduced reference, a random entry and a mark has a number that is not zero in one of
+-- them, and on both channels each release is there (H), is absent (L) and finds all bits used. First a call with an allocation of two octets, a reduced reference,
+-- a random entry without VSTK_RAND, a mark:
+abbrev pub firstParts : List ℕ
+firstParts =
     0xb1 ∷ 0x78 ∷ 0xc2 ∷ 0x9d ∷ 0x35 ∷ 0xd5 ∷ 0xee ∷ 0xf7 ∷ 0xc0 ∷ 0x42 ∷ 0x46 ∷ 0x86 ∷ 0xdf ∷ 0x5e ∷ 0x0f ∷ 0xf2 ∷ 0x1b ∷ 0x6b ∷ 0x2b ∷ 0x2b ∷ []
 
-abbrev pub everyNumber : List ℕ
-everyNumber =
+abbrev pub firstNumbers : List ℕ
+firstNumbers =
     -- NLN 1, one call
     (1 ∷ 1 ∷ 1 ∷ 12345678 ∷ 1 ∷ 0 ∷ 3 ∷ 5 ∷ 1 ∷ 0xabddef ∷ 1 ∷ 0 ∷ 2 ∷ 0x1234 ∷ [])
     ++ replicate 33 0
@@ -57,27 +72,94 @@ everyNumber =
     -- Release 7: one mark, uplink 1, SMS 1 and 0
     ++ (1 ∷ 1 ∷ 1 ∷ 0 ∷ 0 ∷ 0 ∷ 1 ∷ 1 ∷ 0 ∷ 0 ∷ 0 ∷ 0 ∷ 0 ∷ 1 ∷ 1 ∷ 0 ∷ [])
 
--- NOTIFICATION/FACCH, 23 octets with every part there is
+-- a call with a short list, Release 6 absent, both AMR configurations, SMS 0 and 1
+abbrev pub secondParts : List ℕ
+secondParts =
+    0x69 ∷ 0xcb ∷ 0xfd ∷ 0x8a ∷ 0x83 ∷ 0x57 ∷ 0xbb ∷ 0xdf ∷ 0xc0 ∷ 0x00 ∷ 0x00 ∷ 0x00 ∷ 0x00 ∷ 0x00 ∷ 0x00 ∷ 0x00 ∷ 0xb3 ∷ 0x9b ∷ 0x5b ∷ 0x2b ∷ []
+
+abbrev pub secondNumbers : List ℕ
+secondNumbers =
+    (0 ∷ 0 ∷ 1 ∷ 87654321 ∷ 0 ∷ 1 ∷ 2 ∷ 0 ∷ 1 ∷ 0xabddef ∷ 1 ∷ 1 ∷ 0 ∷ 0x8000000000000001 ∷ [])
+    ++ replicate 33 0
+    ++ replicate 42 0
+    ++ (1 ∷ 0 ∷ 0 ∷ 0 ∷ 0 ∷ 0 ∷ 0 ∷ 0 ∷ 1 ∷ 1 ∷ 9 ∷ 1 ∷ 6 ∷ 1 ∷ 0 ∷ 1 ∷ [])
+
+-- a call without a description, a reduced reference of a VGCS, a random entry with VSTK_RAND, Release 7 absent
+abbrev pub thirdParts : List ℕ
+thirdParts =
+    0x45 ∷ 0xe3 ∷ 0x0a ∷ 0x74 ∷ 0xd4 ∷ 0xb4 ∷ 0xe5 ∷ 0xfe ∷ 0xc6 ∷ 0xf5 ∷ 0x79 ∷ 0xbd ∷ 0xe0 ∷ 0x24 ∷ 0x2b ∷ 0x2b ∷ 0x2b ∷ 0x2b ∷ 0x2b ∷ 0x2b ∷ []
+
+abbrev pub thirdNumbers : List ℕ
+thirdNumbers =
+    (0 ∷ 0 ∷ 1 ∷ 12345678 ∷ 1 ∷ 0 ∷ 3 ∷ 5 ∷ 0 ∷ 0 ∷ 0 ∷ 0 ∷ 0 ∷ 0 ∷ [])
+    ++ replicate 33 0
+    ++ (1 ∷ 0 ∷ 0 ∷ 1 ∷ 87654321 ∷ 1 ∷ [])
+    ++ replicate 8 0
+    ++ (1 ∷ 1 ∷ 1 ∷ 0xabcdef012 ∷ [])
+    ++ replicate 24 0
+    ++ replicate 16 0
+
+-- two calls, the second with an allocation of six octets, which use all 160 bits: no release has any
+abbrev pub fourthParts : List ℕ
+fourthParts =
+    0x45 ∷ 0xe3 ∷ 0x0a ∷ 0x74 ∷ 0xd5 ∷ 0x00 ∷ 0x00 ∷ 0x00 ∷ 0xe0 ∷ 0x0d ∷ 0x5e ∷ 0xef ∷ 0x7c ∷ 0x0c ∷ 0x24 ∷ 0x68 ∷ 0xac ∷ 0xf1 ∷ 0x35 ∷ 0x78 ∷ []
+
+abbrev pub fourthNumbers : List ℕ
+fourthNumbers =
+    (0 ∷ 0 ∷ 2 ∷ 12345678 ∷ 1 ∷ 0 ∷ 3 ∷ 5 ∷ 0 ∷ 0 ∷ 0 ∷ 0 ∷ 0 ∷ 0 ∷ [])
+    ++ (7 ∷ 0 ∷ 0 ∷ 0 ∷ 0 ∷ 1 ∷ 0xabddef ∷ 1 ∷ 0 ∷ 6 ∷ 0x123456789abc ∷ [])
+    ++ replicate 22 0
+    ++ replicate 42 0
+    ++ replicate 16 0
+
+-- NOTIFICATION/FACCH, 23 octets: a call with a short list, and every kind of part behind it; emergency and not uplink
 abbrev pub everyFacchPart : List ℕ
 everyFacchPart =
-    0x04 ∷ 0x0b ∷ 0xc6 ∷ 0x14 ∷ 0xed ∷ 0xae ∷ 0xaf ∷ 0x77 ∷ 0xbf ∷ 0x80 ∷ 0 ∷ 0 ∷ 0 ∷ 0 ∷ 0 ∷ 0 ∷ 0x01 ∷ 0xfe ∷ 0xaf ∷ 0x37 ∷ 0xbc ∷ 0x04 ∷ 0x8f ∷ []
+    0x04 ∷ 0x0b ∷ 0xc6 ∷ 0x14 ∷ 0xed ∷ 0xae ∷ 0xaf ∷ 0x77 ∷ 0xbf ∷ 0x80 ∷ 0 ∷ 0 ∷ 0 ∷ 0 ∷ 0 ∷ 0 ∷ 0x01 ∷ 0xfe ∷ 0xaf ∷ 0x37 ∷ 0xbc ∷ 0x04 ∷ 0x87 ∷ []
 
 abbrev pub everyFacchNumber : List ℕ
 everyFacchNumber =
-    (12345678 ∷ 1 ∷ 1 ∷ 3 ∷ 5 ∷ 1 ∷ 0xabddef ∷ 1 ∷ 1 ∷ 0 ∷ 0x8000000000000001 ∷ []) ++ (1 ∷ 1 ∷ 3 ∷ 1 ∷ 1 ∷ 0xabcdef012 ∷ []) ++ (1 ∷ 0 ∷ 0 ∷ 1 ∷ [])
+    (12345678 ∷ 1 ∷ 1 ∷ 3 ∷ 5 ∷ 1 ∷ 0xabddef ∷ 1 ∷ 1 ∷ 0 ∷ 0x8000000000000001 ∷ []) ++ (1 ∷ 1 ∷ 3 ∷ 1 ∷ 1 ∷ 0xabcdef012 ∷ []) ++ (1 ∷ 0 ∷ 1 ∷ 1 ∷ [])
 
-pub record Listed-numbers : Type 0 where
+-- 16 octets: a call with an allocation of two octets, Release 6 absent, uplink and not emergency
+abbrev pub uplinkPart : List ℕ
+uplinkPart = 0x04 ∷ 0x53 ∷ 0x97 ∷ 0xfb ∷ 0x11 ∷ 0x06 ∷ 0xaf ∷ 0x77 ∷ 0xbe ∷ 0x02 ∷ 0x12 ∷ 0x34 ∷ 0x43 ∷ 0x2b ∷ 0x2b ∷ 0x2b ∷ []
+
+abbrev pub uplinkNumbers : List ℕ
+uplinkNumbers = (87654321 ∷ 0 ∷ 0 ∷ 2 ∷ 0 ∷ 1 ∷ 0xabddef ∷ 1 ∷ 0 ∷ 2 ∷ 0x1234 ∷ []) ++ replicate 6 0 ++ (1 ∷ 1 ∷ 0 ∷ 0 ∷ [])
+
+-- 6 octets: a call without a description, both releases absent
+abbrev pub absentParts : List ℕ
+absentParts = 0x04 ∷ 0x0b ∷ 0xc6 ∷ 0x14 ∷ 0xe9 ∷ 0xab ∷ []
+
+abbrev pub absentNumbers : List ℕ
+absentNumbers = (12345678 ∷ 1 ∷ 0 ∷ 3 ∷ 5 ∷ []) ++ replicate 16 0
+
+-- 17 octets: a call with a short list, which uses all of their bits
+abbrev pub endParts : List ℕ
+endParts = 0x04 ∷ 0x0b ∷ 0xc6 ∷ 0x14 ∷ 0xe9 ∷ 0xae ∷ 0xaf ∷ 0x77 ∷ 0xbf ∷ 0x80 ∷ 0 ∷ 0 ∷ 0 ∷ 0 ∷ 0 ∷ 0 ∷ 0x01 ∷ []
+
+abbrev pub endNumbers : List ℕ
+endNumbers = (12345678 ∷ 1 ∷ 0 ∷ 3 ∷ 5 ∷ 1 ∷ 0xabddef ∷ 1 ∷ 1 ∷ 0 ∷ 0x8000000000000001 ∷ []) ++ replicate 10 0
+
+pub record Every-listed-input-gives-its-numbers : Type 0 where
   -- twenty 2B: no parts, 4 bits used
   pub nothing : readNumbers (replicate 20 0x2b) ≡ replicate 105 0 ++ (4 ∷ [])
   -- CB and nineteen 2B: NLN 2, 6 used
   pub numbered : readNumbers (0xcb ∷ replicate 19 0x2b) ≡ (1 ∷ 2 ∷ replicate 103 0) ++ (6 ∷ [])
   -- twenty FF are refused: all zeros
   pub refused : readNumbers (replicate 20 0xff) ≡ replicate 106 0
-  pub parts : readNumbers everyPart ≡ everyNumber ++ (140 ∷ [])
+  pub first : readNumbers firstParts ≡ firstNumbers ++ (140 ∷ [])
+  pub second : readNumbers secondParts ≡ secondNumbers ++ (148 ∷ [])
+  pub third : readNumbers thirdParts ≡ thirdNumbers ++ (113 ∷ [])
+  pub fourth : readNumbers fourthParts ≡ fourthNumbers ++ (160 ∷ [])
   pub facch : facch-numbers.readNumbers everyFacchPart ≡ everyFacchNumber ++ (183 ∷ [])
+  pub facch-uplink : facch-numbers.readNumbers uplinkPart ≡ uplinkNumbers ++ (101 ∷ [])
+  pub facch-absent : facch-numbers.readNumbers absentParts ≡ absentNumbers ++ (48 ∷ [])
+  pub facch-end : facch-numbers.readNumbers endParts ≡ endNumbers ++ (136 ∷ [])
   -- and written again, over zeros
-  pub accepted : writeCode everyNumber 20 ≡ 0
-  pub written : afterWrite everyNumber (replicate 20 0) ≡ everyPart
+  pub accepted : writeCode firstNumbers 20 ≡ 0
+  pub written : afterWrite firstNumbers (replicate 20 0) ≡ firstParts
   -- a flag of 2, and 104 numbers
   pub flagged : writeCode (2 ∷ replicate 104 0) 20 ≡ 12
   pub few : writeCode (replicate 104 0) 20 ≡ 13

@@ -9,12 +9,12 @@ use lib.ListN.{length, take, length-append}
 use borrow.Author.Tests.{ltb-true}
 use Rattle.csn1.specs.Told.{padded}
 use Rattle.bits.proofs.Answers.{both-true}
-use Rattle.csn1.proofs.Telling.{picked, handed-on}
+use Rattle.csn1.proofs.Telling.{picked}
 use Rattle.nch.specs.declared.Notification.{Notification}
 use Rattle.nch.specs.Told.{readOf}
 use Rattle.facch.specs.declared.Notification.{Notification as Message}
 use Rattle.facch.specs.Told.{readOf as readFacch}
-use Rattle.nch.specs.Write.{callsOf, flaggedRight, inRange, recordRefusal, writeNumber}
+use Rattle.nch.specs.Write.{callsOf, flaggedRight, inRange, writeNumber}
 use Rattle.nch.proofs.Promises.{writing-gives-back-what-was-read, places-are-enough}
 use Rattle.receiver.specs.declared.Record.{Record}
 use Rattle.receiver.specs.declared.Slot.{Slot}
@@ -31,10 +31,9 @@ flagged-lt true v e o = ltb-true v 4 e
 flagged-lt false v e o = absurd (let z : _≡_ {A = ℕ} 0 1 = cc in omega arith)
 
 written-nln : (m : Notification) → writeNumber m 20 ≡ 0 → flaggedRight (m .numbered) (m .nln) 4 ≡ true
-unfolding writeNumber recordRefusal inRange
+unfolding writeNumber inRange
 written-nln m e =
-    let a = handed-on (recordRefusal m) _ e in
-    let b = picked (inRange m) _ 12 (omega arith) (a .0) in
+    let b = picked (inRange m) _ 12 (omega arith) e in
     both-true (flaggedRight (m .numbered) (m .nln) 4) _ (both-true (leb (m .callcount) 4) _ (b .0) .1) .0
 
 -- where a message has an NLN, it is none that says that none is known

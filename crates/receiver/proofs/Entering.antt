@@ -24,8 +24,7 @@ use Rattle.receiver.specs.declared.messages.Entries.{Entries}
 use Rattle.receiver.proofs.Accepted.{few, take-padded, length-told}
 use Rattle.receiver.proofs.Loops.{padded-snoc}
 use Rattle.receiver.specs.declared.Answer.{Answer}
-use Rattle.receiver.specs.Model.{noRecord, emptySlot, late, keyOf, indexOf, sweptSlots, expiredOf, droppedOf, meetOf, ruleFor, remade}
-use Rattle.receiver.specs.Store.{withSlots}
+use Rattle.receiver.specs.Model.{noRecord, emptySlot, late, keyOf, indexOf, sweptSlots, expiredOf, droppedOf, meetOf, ruleFor, remade, withSlots}
 use Rattle.receiver.specs.Step.{mostEntries, entriesIn, Event, Happening, numbering, contentOf, changes, cellAfter, ruleBy, toldOf, slotsAfter, allAfter}
 use Rattle.receiver.specs.Step.{allTold, noTold, groundsOf, refusalOf, refusedWith, acceptedWith, acceptedAs, stepOf}
 

@@ -8,7 +8,7 @@ use Rattle.csn1.specs.Format.{noRefusal, ground}
 use Rattle.receiver.specs.declared.Receiver.{Receiver}
 use Rattle.receiver.specs.Model.{wrapSub, lateStep, late, lastKey}
 use Rattle.receiver.specs.Step.{Event, Happening, heardNch, heardFacch, joins, moves, passes, groundsOf, refusalOf, stepOf}
-use Rattle.receiver.specs.Promises.{On-ground}
+use Rattle.receiver.specs.Promises.{Ground}
 use Rattle.receiver.proofs.Dropping.{by-test}
 
 -- a refusal is its number alone, so that number 0 is no refusal
@@ -29,7 +29,7 @@ pub in-time : (r : Receiver) (e : Event) → wrapSub (e .tick) (r .tick) < lateS
 unfolding refusalOf late
 in-time r e h = rw (lt-leb lateStep (wrapSub (e .tick) (r .tick)) h)
 
-pub on-ground : (h : Happening) (n : ℕ) → n ≡ groundsOf h .number → On-ground h n
+pub on-ground : (h : Happening) (n : ℕ) → n ≡ groundsOf h .number → Ground h n
 unfolding ground
 on-ground (heardNch s) n q = q
 on-ground (heardFacch s) n q = q

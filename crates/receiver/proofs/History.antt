@@ -14,7 +14,7 @@ use Rattle.receiver.specs.declared.Record.{Record}
 use Rattle.receiver.specs.Model.{agree, joinedOf}
 use Rattle.receiver.specs.Channels.{Channel}
 use Rattle.receiver.specs.Step.{Cause, nothing, joining, moving, numbered}
-use Rattle.receiver.specs.One.{mayLead, goneBy, Kind, clear, piece, first, second, bare, unusable, kindOf, Which, theFirst, theSecond, Half, One, Known, says, stored}
+use Rattle.receiver.specs.One.{mayLead, goneBy, Kind, clear, piece, first, second, bare, unusable, kindOn, Which, theFirst, theSecond, Half, One, Known, says, newHalf}
 use Rattle.receiver.specs.One.{met, meetKind, meetOne, Seen, aged, changed, heldAfter, sparedBy, spared, passed, stepOne, oneAfter, fresh}
 use Rattle.receiver.specs.History.{Moment, wait, happens, entry, followed, opened, untilEntry, afterEvent, pastOf, lastKnown, took, elapsed, Opposite}
 use Rattle.receiver.specs.History.{Storable, Same-nln, Leaves, Spares, Begins, younger, Standing, All-spare, Came-and-stayed}
@@ -31,7 +31,7 @@ module _ (key : ℕ) (c : Channel) (timer : ℕ) where
         before = past;
         later = [];
         split = ap (λ (x : Record). entry x ∷ past) (b .0);
-        half = subst (λ (x : Record). Storable c (kindOf c x) (h .which)) (b .0) (b .2);
+        half = subst (λ (x : Record). Storable c (kindOn c x) (h .which)) (b .0) (b .2);
         free = f;
         spared = tt;
         summed = sym (b .1);
@@ -50,7 +50,7 @@ module _ (key : ℕ) (c : Channel) (timer : ℕ) where
         young = s .2;
       }
 
-  from-story : (before later : List Moment) (h : Half) → Storable c (kindOf c (h .entry)) (h .which) → ((g : Half) → Standing key c timer before g → ⊥)
+  from-story : (before later : List Moment) (h : Half) → Storable c (kindOn c (h .entry)) (h .which) → ((g : Half) → Standing key c timer before g → ⊥)
       → All-spare key c (h .which) (h .entry) (entry (h .entry) ∷ before) later → elapsed later ≡ h .age → h .age < timer
       → Standing key c timer (later ++ (entry (h .entry) ∷ before)) h
   unfolding Standing
@@ -171,7 +171,7 @@ left c first none x h q = stored-as c first theFirst x h tt q
 left c first (some g) x h q = first-left c x (g .which) (g .age) (g .entry) h q
 left c second none x h q = early (mayLead c) refl q
   where
-    early : (b : Bool) → mayLead c ≡ b → pick b (says 4 (stored theSecond x)) (says 8 none) .held ≡ some h → Left c second none x h
+    early : (b : Bool) → mayLead c ≡ b → pick b (says 4 (newHalf theSecond x)) (says 8 none) .held ≡ some h → Left c second none x h
     early true e p = stored-as c second theSecond x h e p
     early false e p = no-half h p
 left c second (some g) x h q = second-left c x (g .which) (g .age) (g .entry) h q
@@ -247,9 +247,9 @@ module _ (key : ℕ) (c : Channel) (timer : ℕ) (long : 1 ≤ timer) where
   stands-on (happens x) past a h q =
       let w = cause-kept key c (lastKnown past) x (holds key c timer past) h q in
       still (happens x) past h refl (w .0) (a .stands h (w .1))
-  stands-on (entry e) past a h q = go (left c (kindOf c e) (holds key c timer past) e h q)
+  stands-on (entry e) past a h q = go (left c (kindOn c e) (holds key c timer past) e h q)
     where
-      go : Left c (kindOf c e) (holds key c timer past) e h → Standing key c timer (entry e ∷ past) h
+      go : Left c (kindOn c e) (holds key c timer past) e h → Standing key c timer (entry e ∷ past) h
       go (inl l) = still (entry e) past h refl (l .0) (a .stands h (l .1))
       go (inr l) = inr (l .0, λ g s. no-half g (sym (l .1) ∙ a .held g s))
 
@@ -258,11 +258,11 @@ module _ (key : ℕ) (c : Channel) (timer : ℕ) (long : 1 ≤ timer) where
   held-on (wait t) past a h (inl s) = ap (aged timer t) (a .held (younger t h) (s .3)) ∙ waits timer t h (s .1) (s .2)
   held-on (happens x) past a h (inl s) = cause-keeps key c (lastKnown past) x (holds key c timer past) (s .0) ∙ a .held h (unaged past h (s .3))
   held-on (entry e) past a h (inl s) =
-      ap (λ (b : Option Half). meetKind c (kindOf c e) b e .held) (a .held h (unaged past h (s .3)))
-      ∙ not-joined c (kindOf c e) e (h .which) (h .age) (h .entry) (s .0)
+      ap (λ (b : Option Half). meetKind c (kindOn c e) b e .held) (a .held h (unaged past h (s .3)))
+      ∙ not-joined c (kindOn c e) e (h .which) (h .age) (h .entry) (s .0)
   held-on (entry e) past a h (inr s) =
-      ap (λ (b : Option Half). meetKind c (kindOf c e) b e .held) (free-none (holds key c timer past) (λ g q. s .1 g (a .stands g q)))
-      ∙ comes c (kindOf c e) e (h .which) (s .0 .2)
+      ap (λ (b : Option Half). meetKind c (kindOn c e) b e .held) (free-none (holds key c timer past) (λ g q. s .1 g (a .stands g q)))
+      ∙ comes c (kindOn c e) e (h .which) (s .0 .2)
       ∙ ap (λ (x : Record). some (record { which = h .which; age = 0; entry = x })) (s .0 .0)
       ∙ ap (λ (n : ℕ). some (record { which = h .which; age = n; entry = h .entry })) (sym (s .0 .1))
   held-on (wait t) past a h (inr s) = absurd (s .0)

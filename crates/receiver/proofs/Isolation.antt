@@ -17,15 +17,15 @@ use Rattle.receiver.specs.declared.Receiver.{Receiver}
 use Rattle.receiver.specs.declared.Cell.{Cell}
 use Rattle.receiver.specs.declared.Answer.{Answer}
 use Rattle.receiver.specs.declared.Rule.{Rule}
-use Rattle.receiver.specs.Channels.{keyCount, places, Channel, numberOf, same}
+use Rattle.receiver.specs.Channels.{keyCount, places, Channel, numberOf}
 use Rattle.receiver.specs.Model.{emptySlot, noNln, longestTimer, wrapSub, lateStep, late, indexOf, spares, timerAt, keptOf, sweptSlots}
 use Rattle.receiver.specs.Step.{Event, Cause, nothing, joining, moving, numbered, Content, contentOf, changes, cellAfter, taking, sparing}
 use Rattle.receiver.specs.Step.{ruleBy, ruleOf, groundsOf, refusalOf, refusedWith, acceptedAs, stepOf}
-use Rattle.receiver.specs.One.{showsNln, goneBy, forgottenBy, Half, Known, One, Said, Sight, sightOf, stepBetween, accepts, sees, seen, aged, knownAfter}
+use Rattle.receiver.specs.One.{showsNln, hears, goneBy, forgottenBy, Half, Known, One, Said, Sight, sightOf, stepBetween, accepts, sees, seen, aged, knownAfter}
 use Rattle.receiver.specs.One.{heldAfter, saidOf, sparedBy, spared, passed, stepOne, stepSaid, runOne, runEach, oneAfter}
-use Rattle.receiver.specs.Calls.{clockAfter}
+use Rattle.receiver.specs.Calls.{channelIn, clockAfter}
 use Rattle.receiver.specs.Promises.{under, answersOn, answers, answersEach, Ticks, after, heldOf, slotIn}
-use Rattle.receiver.proofs.Tables.{shows-same, drops-same, forgets-same, shown, showing, sight-same}
+use Rattle.receiver.proofs.Tables.{same, shows-same, drops-same, forgets-same, shown, showing, heard-same, sight-same}
 use Rattle.receiver.proofs.Places.{place-lt, timerIn, timer-at, spares-at}
 use Rattle.receiver.proofs.Keys.{same-index}
 use Rattle.receiver.proofs.Meets.{Sound}
@@ -149,7 +149,7 @@ module _ (key : ℕ) (c : Channel) (r : Receiver) (g : Good key c r) (e : Event)
   unfolding answersOn heldAfter saidOf
   acts-other n =
       let o = other-channel (r .keys) (e .tick) key c (contentIn e .channel) (eqb-false (numberOf c) (numberOf (contentIn e .channel)) n) (sweptBy r e) (contentIn e .entries) in
-      record { held = rw (same-seen key c e, n, o); said = rw (same-seen key c e, n); sound = rw o p }
+      record { held = rw (same-seen key c e, n, o); said = rw (heard-same c (e .happening), same-seen key c e, n); sound = rw o p }
 
   -- entries on its own channel
   acts-own : groundsOf (e .happening) .number ≡ 0 → same c (contentIn e .channel) ≡ true → Acts key c r e
@@ -160,7 +160,7 @@ module _ (key : ℕ) (c : Channel) (r : Receiver) (g : Good key c r) (e : Event)
       record {
         held = rw (same-seen key c e, n, a) (x .held);
         said =
-            rw (same-seen key c e, n)
+            rw (heard-same c (e .happening), same-seen key c e, n)
             (ap (under key) (told-back (r .keys) (numberOf (contentIn e .channel)) (e .tick) (sweptBy r e) (contentIn e .entries) (few (e .happening) z)) ∙ rw a (x .said));
         sound = rw a (x .sound);
       }
@@ -199,7 +199,7 @@ not-stepped r e p = rw (sym (accepts-same r e) ∙ p)
 
 not-answered : (key : ℕ) (c : Channel) (r : Receiver) (e : Event) → answersOn key c e (refusedWith r (refusalOf r e)) ≡ []
 unfolding answersOn under
-not-answered key c r e = by-test (same c (contentIn e .channel)) (λ p. rw p) (λ p. rw p)
+not-answered key c r e = by-test (hears c (channelIn e)) (λ p. rw p) (λ p. rw p)
 
 module _ (key : ℕ) (c : Channel) (r : Receiver) (g : Good key c r) (e : Event) (k : e .tick < 2 ^ 32) (a : Accepted r e) where
   pub left-sound : Sound (e .tick) (timerIn c r) (leftIn key c r e)

@@ -13,8 +13,8 @@ use Rattle.receiver.specs.declared.Record.{Record}
 use Rattle.receiver.specs.Model.{agree, joinedOf}
 use Rattle.receiver.specs.Channels.{Channel}
 use Rattle.receiver.specs.Step.{Cause, nothing, joining, moving, numbered}
-use Rattle.receiver.specs.One.{mayLead, goneBy, Kind, clear, piece, first, second, bare, unusable, kindOf, Which, theFirst, theSecond, Half, One, Said, Heard, met}
-use Rattle.receiver.specs.One.{meetKind, says, stored, meetOne, Sight, aged, changed, heldAfter, saidOf, sparedBy, spared}
+use Rattle.receiver.specs.One.{mayLead, goneBy, Kind, clear, piece, first, second, bare, unusable, kindOn, Which, theFirst, theSecond, Half, One, Said, Heard, met}
+use Rattle.receiver.specs.One.{meetKind, says, newHalf, meetOne, Sight, aged, changed, heldAfter, saidOf, sparedBy, spared}
 use Rattle.receiver.specs.History.{Opposite}
 use Rattle.receiver.specs.Promises.{Opposite-held, joinedWith}
 
@@ -51,7 +51,7 @@ three c first (some h) e q =
     record { half = h; held = refl; opposite = o .0; agrees = o .1 }
 three c second none e q = absurd (early (mayLead c) q)
   where
-    early : (b : Bool) → pick b (says 4 (stored theSecond e)) (says 8 none) .said .number ≡ 3 → ⊥
+    early : (b : Bool) → pick b (says 4 (newHalf theSecond e)) (says 8 none) .said .number ≡ 3 → ⊥
     early true p = omega arith
     early false p = omega arith
 three c second (some h) e q =
@@ -125,7 +125,7 @@ module _ (timer : ℕ) (long : 1 ≤ timer) where
   young-meet c first (some h) e y = young-first c (h .which) (h .age) (h .entry) e y
   young-meet c second none e y = early (mayLead c)
     where
-      early : (b : Bool) → Young timer (pick b (says 4 (stored theSecond e)) (says 8 none) .held)
+      early : (b : Bool) → Young timer (pick b (says 4 (newHalf theSecond e)) (says 8 none) .held)
       early true = long
       early false = tt
   young-meet c second (some h) e y = young-second c (h .which) (h .age) (h .entry) e y
@@ -135,7 +135,7 @@ module _ (timer : ℕ) (long : 1 ≤ timer) where
   young-after : (c : Channel) (h : Option Half) (es : List Record) → Young timer h → Young timer (heldAfter c h es)
   unfolding heldAfter meetOne
   young-after c h [] y = y
-  young-after c h (e ∷ es) y = young-after c (meetOne c h e .held) es (young-meet c (kindOf c e) h e y)
+  young-after c h (e ∷ es) y = young-after c (meetOne c h e .held) es (young-meet c (kindOn c e) h e y)
 
 -- ## The k-th entry
 
@@ -158,7 +158,7 @@ module _ (c : Channel) (timer : ℕ) (long : 1 ≤ timer) (h : Option Half) (y :
   unfolding meetOne
   joins-only q =
       let b : Option Half = heldAfter c h (take k es) in
-      let o = three c (kindOf c (getD es k z)) b (getD es k z) (sym (ap (λ (s : Said). s .number) (said-at c h es k d z l)) ∙ q) in
+      let o = three c (kindOn c (getD es k z)) b (getD es k z) (sym (ap (λ (s : Said). s .number) (said-at c h es k d z l)) ∙ q) in
       record {
         half = o .half;
         held = o .held;
@@ -173,5 +173,5 @@ module _ (c : Channel) (timer : ℕ) (long : 1 ≤ timer) (h : Option Half) (y :
   joins-then o =
       let e : Record = getD es k z in
       let q : meetOne c (heldAfter c h (take k es)) e ≡ joined (o .half) e =
-      ap (λ (b : Option Half). meetOne c b e) (o .held) ∙ joins-with c (kindOf c e) (o .half .which) (o .half .age) (o .half .entry) e (o .opposite) (o .agrees) in
+      ap (λ (b : Option Half). meetOne c b e) (o .held) ∙ joins-with c (kindOn c e) (o .half .which) (o .half .age) (o .half .entry) e (o .opposite) (o .agrees) in
       (said-at c h es k d z l ∙ ap (λ (x : Heard). x .said) q, held-at c h es k z l ∙ ap (λ (x : Heard). x .held) q)

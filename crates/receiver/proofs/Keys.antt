@@ -12,7 +12,7 @@ use borrow.Author.Tests.{eqb-true, eq-eqb, ne-eqb, lt-ltb, le-ltb, ltb-true, ltb
 use Rattle.bits.specs.Field.{both, pick}
 use Rattle.bits.proofs.Answers.{both-true}
 use Rattle.receiver.specs.Model.{lastKey, noKey, indexOf, keysRight, keyPlaces}
-use Rattle.receiver.specs.Store.{standsFrom}
+use Rattle.receiver.specs.Inner.{standsFrom}
 use Rattle.receiver.proofs.Dropping.{by-test}
 
 -- ## The two laws

@@ -11,18 +11,19 @@ use Rattle.csn1.specs.Grammar.{format}
 use Rattle.csn1.specs.Format.{eitherFits}
 use Rattle.csn1.specs.Told.{asBit}
 use Rattle.bits.proofs.Answers.{both-true}
-use Rattle.csn1.proofs.Telling.{picked, handed-on}
+use Rattle.csn1.proofs.Telling.{picked}
 use Rattle.call.specs.declared.Call.{Call}
 use Rattle.call.specs.Call.{CallValue, callGrammar}
 use Rattle.call.specs.Write.{callIsLow}
 use Rattle.nch.specs.declared.Reduced.{Reduced}
 use Rattle.nch.specs.declared.Notification.{Notification}
 use Rattle.nch.specs.Told.{readOf}
-use Rattle.nch.specs.Write.{all, callsOf, inRange, reducedIsLow, referencesLow, recordRefusal, writeNumber}
+use Rattle.nch.specs.Write.{all, callsOf, inRange, reducedIsLow, referencesLow, writeNumber}
 use Rattle.nch.proofs.Promises.{writing-gives-back-what-was-read}
 use Rattle.facch.specs.declared.Notification.{Notification as Message}
 use Rattle.facch.specs.Message.{paging, notification}
 use Rattle.facch.specs.Told.{notified, readOf as readFacch}
+use Rattle.facch.specs.Back.{valueOf}
 use Rattle.facch.proofs.Promises.{every-reading-stands-in-the-octets}
 use Rattle.receiver.specs.declared.Record.{Record}
 use Rattle.receiver.specs.Model.{lastKey, keyOf, mapAt}
@@ -61,10 +62,9 @@ low-reduced m k (r ∷ l) e =
     (key-low (reducedCall r) (leb-true (r .reference) 99999999 (b .0)), low-reduced m (suc k) l (b .1))
 
 low-nch : (m : Notification) → writeNumber m 20 ≡ 0 → Low (nchEntries m)
-unfolding writeNumber recordRefusal referencesLow nchEntries
+unfolding writeNumber referencesLow nchEntries
 low-nch m e =
-    let a = handed-on (recordRefusal m) _ e in
-    let b = picked (inRange m) _ 12 (omega arith) (a .0) in
+    let b = picked (inRange m) _ 12 (omega arith) e in
     let c = picked (referencesLow m) _ 4 (omega arith) (b .1) in
     let d = both-true (all callIsLow (callsOf m)) (all reducedIsLow (take (m .release6 .reducedcount) (m .release6 .reduced))) (c .0) in
     low-append (mapAt (callEntry m) 0 (callsOf m)) (mapAt (reducedEntry m) 0 (take (m .release6 .reducedcount) (m .release6 .reduced)))
@@ -80,7 +80,8 @@ read-low : (s : List ℕ) → readFacch s .refusal .number ≡ 0 → readFacch s
 unfolding notification
 read-low s z =
     let w = every-reading-stands-in-the-octets s z in
-    subst (λ (m : Message). m .call .reference ≤ 99999999) (w .told) (low-notified (w .value .1 .0) (w .stands .fitting .1 .0))
+    let v = valueOf (w .first) (w .cause) (readFacch s .«record») in
+    subst (λ (m : Message). m .call .reference ≤ 99999999) (w .told) (low-notified (v .1 .0) (w .stands .fitting .1 .0))
 
 low-facch : (m : Message) → m .call .reference ≤ 99999999 → Low (facchEntries m)
 unfolding facchEntries facchEntry

@@ -12,8 +12,8 @@ use Rattle.receiver.specs.declared.Slot.{Slot}
 use Rattle.receiver.specs.declared.Met.{Met}
 use Rattle.receiver.specs.Channels.{Channel, numberOf, leads}
 use Rattle.receiver.specs.Model.{emptySlot, wrapSub, classOf, isCiphered, agree, joinedOf, only, complete, storing, meetHalf, meetOf}
-use Rattle.receiver.specs.One.{hasSegments, mayLead, Kind, clear, piece, first, second, bare, unusable, withSegments, withoutSegments, kindOf}
-use Rattle.receiver.specs.One.{theFirst, theSecond, Half, Heard, says, stored, met, meetKind, meetOne}
+use Rattle.receiver.specs.One.{hasSegments, mayLead, Kind, clear, piece, first, second, bare, unusable, withSegments, withoutSegments, kindOn}
+use Rattle.receiver.specs.One.{theFirst, theSecond, Half, Heard, says, newHalf, met, meetKind, meetOne}
 use Rattle.receiver.specs.Promises.{halfOf, heldOf}
 use Rattle.receiver.proofs.Tables.{asks-same, leads-same}
 use Rattle.receiver.proofs.Clock.{ageless}
@@ -75,8 +75,8 @@ facch-table true false true f = refl
 facch-table true false false true = refl
 facch-table true false false false = refl
 
-class-kind : (c : Channel) (e : Record) → classOf (numberOf c) e ≡ classNumber (kindOf c e)
-unfolding classOf kindOf
+class-kind : (c : Channel) (e : Record) → classOf (numberOf c) e ≡ classNumber (kindOn c e)
+unfolding classOf kindOn
 class-kind c e = rw (asks-same c) (by-segments (hasSegments c))
   where
     by-segments : (b : Bool)
@@ -118,7 +118,7 @@ met-second : (c : Channel) (now n since : ℕ) (x e : Record) → n ≤ 2
     → heardOf now (meetClass 4 (numberOf c) now (storing n since x) e) ≡ meetKind c second (halfOf n (wrapSub now since) x) e
 met-second c now zero since x e l = rw (leads-same c) (early (mayLead c))
   where
-    early : (b : Bool) → heardOf now (pick b (only 4 (storing 2 now e)) (only 8 (storing 0 since x))) ≡ pick b (says 4 (stored theSecond e)) (says 8 none)
+    early : (b : Bool) → heardOf now (pick b (only 4 (storing 2 now e)) (only 8 (storing 0 since x))) ≡ pick b (says 4 (newHalf theSecond e)) (says 8 none)
     early true = ap (λ (a : ℕ). says 4 (some (record { which = theSecond; age = a; entry = e }))) (ageless now)
     early false = refl
 met-second c now (suc zero) since x e l = opposite now (agree x e) (joinedOf x e) 1 since x _ refl
@@ -136,7 +136,7 @@ met-kind c unusable now s e l = refl
 
 pub meet-same : (c : Channel) (now : ℕ) (s : Slot) (e : Record) → s .half ≤ 2 → heardOf now (meetOf (numberOf c) now s e) ≡ meetOne c (heldOf now s) e
 unfolding meetOf meetOne
-meet-same c now s e l = rw (class-kind c e) (met-kind c (kindOf c e) now s e l)
+meet-same c now s e l = rw (class-kind c e) (met-kind c (kindOn c e) now s e l)
 
 -- ## What a place may hold
 
@@ -185,4 +185,4 @@ module _ (now timer : ℕ) (t : now < 2 ^ 32) (l : 1 ≤ timer) where
 
   pub meet-sound : (c : Channel) (s : Slot) (e : Record) → Sound now timer s → Sound now timer (meetOf (numberOf c) now s e .held)
   unfolding meetOf
-  meet-sound c s e p = rw (class-kind c e) (kind-sound c (kindOf c e) s e p)
+  meet-sound c s e p = rw (class-kind c e) (kind-sound c (kindOn c e) s e p)

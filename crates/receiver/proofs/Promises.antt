@@ -12,7 +12,7 @@ use Rattle.receiver.specs.One.{Half, One, Said, sees, seen, spared, pass
 use Rattle.receiver.specs.History.{Moment, untilEntry, pastOf}
 use Rattle.receiver.specs.Calls.{timerOf, notOurs, lastTick, callAfter}
 use Rattle.receiver.specs.Promises.{No-call-disturbs-another, No-call-disturbs-another-at-any-event}
-use Rattle.receiver.specs.Promises.{Joins-exactly-when, Held-is-history, Joins-exactly-when-over-history, A-refused-event-changes-nothing}
+use Rattle.receiver.specs.Promises.{An-entry-joins-exactly-where-the-opposite-half-is-held, What-is-held-came-and-stayed, An-entry-joins-exactly-where-the-opposite-half-came-and-stayed, A-refused-event-changes-nothing}
 use Rattle.receiver.specs.Promises.{saidAt, heardAt, A-call-joins-exactly-when, A-reply-and-a-receiver-are-an-answer, The-answer-is-the-calls}
 use Rattle.receiver.specs.Promises.{The-number-is-on-its-ground, The-wrapped-difference-is-the-sum, Every-lost-half-is-counted-once, Expiries-and-drops-are-counted-apart}
 use Rattle.receiver.proofs.Dropping.{by-test, expired-all, dropped-all, lost-all}
@@ -39,24 +39,24 @@ the-wrapped-difference-is-the-sum s keys t z key h c es ts =
     rw (starts s keys z, ← started-view s keys t z key h c)
     (ap (λ (o : One). o .held) (viewed key c (started s keys) (started-good s keys t z key h c) es ts))
 
-pub joins-exactly-when : Joins-exactly-when
+pub an-entry-joins-exactly-where-the-opposite-half-is-held : An-entry-joins-exactly-where-the-opposite-half-is-held
 unfolding stepSaid
-joins-exactly-when key c timer long s v k l =
+an-entry-joins-exactly-where-the-opposite-half-is-held key c timer long s v k l =
     let h : Option Half = spared key c (passed timer s (v .step)) (v .sight) in
     let y = young-spared timer key c (passed timer s (v .step)) (v .sight) (young-aged timer (v .step) (s .held)) in
     (joins-only c timer long h y (v .sight .entries) k l _ noRecord, joins-then c timer long h y (v .sight .entries) k l _ noRecord)
 
-pub held-is-history : Held-is-history
-held-is-history key c timer long vs h =
+pub what-is-held-came-and-stayed : What-is-held-came-and-stayed
+what-is-held-came-and-stayed key c timer long vs h =
     let q = held-after key c timer vs in
     (λ p. came key c timer long (pastOf [] vs) h (sym q ∙ p), λ o. q ∙ stayed key c timer long (pastOf [] vs) h o)
 
-pub joins-exactly-when-over-history : Joins-exactly-when-over-history
-joins-exactly-when-over-history key c timer long vs v k l =
+pub an-entry-joins-exactly-where-the-opposite-half-came-and-stayed : An-entry-joins-exactly-where-the-opposite-half-came-and-stayed
+an-entry-joins-exactly-where-the-opposite-half-came-and-stayed key c timer long vs v k l =
     let s : One = oneAfter key c timer fresh vs in
     let past : List Moment = untilEntry (pastOf [] vs) v k in
     let q = held-until key c timer vs v k in
-    let j = joins-exactly-when key c timer long s v k l in (
+    let j = an-entry-joins-exactly-where-the-opposite-half-is-held key c timer long s v k l in (
       λ p.
           let o = j .0 p in
           record { half = o .half; history = came key c timer long past (o .half) (sym q ∙ o .held); opposite = o .opposite; agrees = o .agrees },
@@ -76,7 +76,7 @@ a-call-joins-exactly-when s keys t z key h c es ts e k n i l =
     let p = said-is s keys t z es ts key h c e k (not-refused (state s keys t z es ts) e m) in
     let q : heardAt s keys es e key c i ≡ saidAt key c (timerOf c s) (callAfter s es key c) (sees key c (lastTick s es) e) i =
     rw (starts s keys z) (ap (λ (x : List Said). getD x i notOurs) p) in
-    let j = joins-exactly-when-over-history key c (timerOf c s) (long s keys t z es ts key h c) (seen key c (s .tick) es) (sees key c (lastTick s es) e) i l in
+    let j = an-entry-joins-exactly-where-the-opposite-half-came-and-stayed key c (timerOf c s) (long s keys t z es ts key h c) (seen key c (s .tick) es) (sees key c (lastTick s es) e) i l in
     (λ x. j .0 (sym (ap (λ (w : Said). w .number) q) ∙ x), λ o. q ∙ j .1 o)
 
 pub a-refused-event-changes-nothing : A-refused-event-changes-nothing

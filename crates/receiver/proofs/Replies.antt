@@ -24,7 +24,7 @@ use Rattle.receiver.specs.Model.{emptySlot, wrapSub, lateStep, late, las
 use Rattle.receiver.specs.Model.{ranOutOf, takenOf, keptOf, mapAt, sweptSlots, expiredOf, droppedOf, keyPlaces, keysRight, startedOf}
 use Rattle.receiver.specs.Step.{Event, groundsOf, refusalOf, ruleOf, ours, slotsAfter, toldOf, allAfter, allTold, stepOf}
 use Rattle.receiver.specs.One.{Half, One, Listed, listedIn, accepts, aged, mine, meetOne, heldAfter}
-use Rattle.receiver.specs.Calls.{lastTick, listed, channelIn, callAfter, callAt, leftBy, lost, total, subscribed, named, notOurs, toldTo, laidOut, refusedBy, acceptedBy, groundBy, replyBy}
+use Rattle.receiver.specs.Calls.{lastTick, eventEntries, channelIn, callAfter, callAt, leftBy, lost, totalOver, subscribed, named, notOurs, toldTo, laidOut, refusedBy, acceptedBy, groundBy, replyBy}
 use Rattle.receiver.specs.Promises.{Ticks, heldOf, slotIn, replyOf}
 use Rattle.receiver.proofs.Tables.{listed-same}
 use Rattle.receiver.proofs.Places.{number-lt, timerIn, timer-at}
@@ -158,7 +158,7 @@ module _ (s : Setup) (keys : List ℕ) (t : s .tick < 4294967296) (z : startedOf
     enough : channels * length keys ≤ length (r .slots)
     enough = omega (arith, few, spare .whole)
 
-    expiries : expiredOf r now (r .slots) ≡ total (λ key c. lost (callAfter s es key c .held) (callAt s es e key c .held)) keys
+    expiries : expiredOf r now (r .slots) ≡ totalOver (λ key c. lost (callAfter s es key c .held) (callAt s es e key c .held)) keys
     unfolding expiredOf
     expiries =
         counted (λ i u. ranOutOf now (timerAt r i) u) (λ key c. lost (callAfter s es key c .held) (callAt s es e key c .held)) 0 keys (r .slots) enough
@@ -167,7 +167,7 @@ module _ (s : Setup) (keys : List ℕ) (t : s .tick < 4294967296) (z : startedOf
         ∙ expired-at (getD keys j 0) (in-keys j w) c)
         (λ i q u v w. free-out now (timerAt r q) (getD (r .slots) i emptySlot) (spare .free i v (omega (arith, w, spare .whole))))
 
-    drops : droppedOf r now (ruleOf r e) ≡ total (λ key c. lost (callAt s es e key c .held) (leftBy s es e key c)) keys
+    drops : droppedOf r now (ruleOf r e) ≡ totalOver (λ key c. lost (callAt s es e key c .held) (leftBy s es e key c)) keys
     unfolding droppedOf
     drops =
         counted (λ i u. takenOf now (timerAt r i) (ruleOf r e) i u) (λ key c. lost (callAt s es e key c .held) (leftBy s es e key c)) 0 keys (r .slots) enough
@@ -221,15 +221,15 @@ module _ (s : Setup) (keys : List ℕ) (t : s .tick < 4294967296) (z : startedOf
     same-list : _≡_ {A = Listed} (record { channel = contentIn e .channel; entries = contentIn e .entries }) (listedIn (e .happening))
     same-list = sym (listed-same (e .happening))
 
-    low-listed : Low (listed e)
+    low-listed : Low (eventEntries e)
     low-listed = subst (λ (l : Listed). Low (l .entries)) same-list (low-keys (e .happening) (a .allowed))
 
     told-is : allTold (r .keys) (numberOf (contentIn e .channel)) now (sweptBy r e) (contentIn e .entries)
-        ≡ mapAt (λ i x. toldTo s es e keys (take i (listed e)) x) 0 (listed e)
+        ≡ mapAt (λ i x. toldTo s es e keys (take i (eventEntries e)) x) 0 (eventEntries e)
     unfolding allAfter
     told-is =
         ap (λ (l : Listed). allTold (r .keys) (numberOf (l .channel)) now (sweptBy r e) (l .entries)) same-list
-        ∙ told-all [] (listed e) (listed e) low-listed refl
+        ∙ told-all [] (eventEntries e) (eventEntries e) low-listed refl
 
     pub accepted-reply : replyOf (stepOf r e) ≡ acceptedBy s es e keys
     accepted-reply =

@@ -12,8 +12,8 @@ use Rattle.receiver.specs.declared.Receiver.{Receiver}
 use Rattle.receiver.specs.declared.Rule.{Rule}
 use Rattle.receiver.specs.declared.store.Fate.{Fate}
 use Rattle.receiver.specs.declared.store.Fate.the-variants.{Stays, RanOut, Taken}
-use Rattle.receiver.specs.Model.{emptySlot, isHeld, spares, timerAt, ranOutOf, takenOf, keptOf, sweptSlots, expiredOf, droppedOf}
-use Rattle.receiver.specs.Store.{withSlots, fateOf}
+use Rattle.receiver.specs.Model.{emptySlot, isHeld, spares, timerAt, ranOutOf, takenOf, keptOf, sweptSlots, expiredOf, droppedOf, withSlots}
+use Rattle.receiver.specs.Inner.{fateOf}
 use Rattle.receiver.proofs.Loops.{partAt, partCount, part-get, part-set, part-keep, part-all, count-le, count-step, count-all}
 
 -- what a place's fate says of the two tests

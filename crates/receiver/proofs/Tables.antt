@@ -1,17 +1,22 @@
 -- Each table of the receiver says the same as the one-call receiver's own, row by row; and so an event shows what it holds. Assumes nothing.
-use mathlib.Core.Path.{_≡_, refl}
+use mathlib.Core.Path.{_≡_, refl, sym}
 use mathlib.Core.Bool.{Bool, true, false}
 use mathlib.Core.List.{[]}
 use Prim.Native.Nat.{ℕ}
+use lib.Dec.{eqb}
 use Rattle.bits.specs.Field.{pick}
 use Rattle.nch.specs.Told.{readOf}
 use Rattle.receiver.specs.declared.Move.{Move}
 use Rattle.receiver.specs.declared.Move.the-variants.{Reselection, Handover, Reconfiguration}
-use Rattle.receiver.specs.Channels.{asks, leads, Channel, onNch, onFacch, numberOf, hasNln, same, drops, forgets}
+use Rattle.receiver.specs.Channels.{asks, leads, Channel, onNch, onFacch, numberOf, hasNln, drops, forgets}
 use Rattle.receiver.specs.Step.{Happening, heardNch, heardFacch, joins, moves, passes, Cause, nothing, joining, moving, numbered, numbering, Content, contentOf}
 use Rattle.receiver.specs.One.{hasSegments, mayLead, showsNln, hears, goneBy, forgottenBy, listedIn, Sight, mine, nlnSeen, causeSeen, sightOf}
 
 -- ## The tables
+
+-- one channel and another are the same
+abbrev pub same : Channel → Channel → Bool
+same c d = eqb (numberOf c) (numberOf d)
 
 pub asks-same : (c : Channel) → asks (numberOf c) ≡ hasSegments c
 asks-same onNch = refl
@@ -71,6 +76,10 @@ listed-same (heardFacch s) = refl
 listed-same (joins k) = refl
 listed-same (moves m) = refl
 listed-same passes = refl
+
+-- the channel on which they are heard
+pub heard-same : (c : Channel) (h : Happening) → hears c (listedIn h .channel) ≡ same c (contentOf h .channel)
+heard-same c h = rw (listed-same h) (sym (hears-same c (contentOf h .channel)))
 
 cause-same : (c : Channel) (h : Happening) → causeSeen c h ≡ shown c (contentOf h .cause)
 cause-same c (heardNch s) = nln-same c (showsNln c) (readOf s .«record» .numbered) (readOf s .«record» .nln) (shows-same c)

@@ -11,7 +11,7 @@ use Rattle.csn1.specs.Told.{asBit}
 use Rattle.receiver.specs.declared.Slot.{Slot}
 use Rattle.receiver.specs.Channels.{channels, placeOn, Channel, everyChannel, numberOf}
 use Rattle.receiver.specs.Model.{emptySlot, countAt}
-use Rattle.receiver.specs.Calls.{sumOver, total}
+use Rattle.receiver.specs.Calls.{sumOver, totalOver}
 
 -- channels whose numbers go up from n
 abbrev Numbered : ℕ → List Channel → Type 0
@@ -44,7 +44,7 @@ module _ (t : ℕ → Slot → Bool) where
   pub counted : (f : ℕ → Channel → ℕ) (k : ℕ) (ks : List ℕ) (l : List Slot) → channels * length ks ≤ length l
       → ((j i q : ℕ) (c : Channel) → i ≡ placeOn j (numberOf c) → q ≡ k + i → j < length ks → asBit (t q (getD l i emptySlot)) ≡ f (getD ks j 0) c)
       → ((i q : ℕ) → q ≡ k + i → channels * length ks ≤ i → i < length l → t q (getD l i emptySlot) ≡ false)
-      → countAt t k l ≡ total f ks
+      → countAt t k l ≡ totalOver f ks
   counted f k [] l n h g = none-counted k l (λ i q u v. g i q u (omega arith) v)
   counted f k (x ∷ ks) l n h g =
       of-key (f x) everyChannel 0 k (k + channels) l refl (omega arith) in-order (λ c i q u v. h 0 i q c (omega arith) v (omega arith))

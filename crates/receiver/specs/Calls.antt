@@ -29,8 +29,8 @@ clockAfter last [] = last
 clockAfter last (e ∷ es) = clockAfter (pick (accepts last e) (e .tick) last) es
 
 -- the entries of an event, and their channel
-abbrev pub listed : Event → List Record
-listed e = listedIn (e .happening) .entries
+abbrev pub eventEntries : Event → List Record
+eventEntries e = listedIn (e .happening) .entries
 
 abbrev pub channelIn : Event → Channel
 channelIn e = listedIn (e .happening) .channel
@@ -46,8 +46,8 @@ sumOver f [] = 0
 sumOver f (x ∷ xs) = f x + sumOver f xs
 
 -- the sum over keys and channels
-abbrev pub total : (ℕ → Channel → ℕ) → List ℕ → ℕ
-total f keys = sumOver (λ key. sumOver (f key) everyChannel) keys
+abbrev pub totalOver : (ℕ → Channel → ℕ) → List ℕ → ℕ
+totalOver f keys = sumOver (λ key. sumOver (f key) everyChannel) keys
 
 abbrev pub subscribed : List ℕ → ℕ → Bool
 subscribed keys key = ltb (indexOf keys key) (length keys)
@@ -112,10 +112,10 @@ module _ (s : Setup) (es : List Event) where
       acceptedBy =
           record {
             refusal = noRefusal;
-            expired = total (λ key c. lost (callAfter key c .held) (callAt key c .held)) keys;
-            dropped = total (λ key c. lost (callAt key c .held) (leftBy key c)) keys;
-            count = length (listed e);
-            entries = laidOut (mapAt (λ k x. toldTo (take k (listed e)) x) 0 (listed e));
+            expired = totalOver (λ key c. lost (callAfter key c .held) (callAt key c .held)) keys;
+            dropped = totalOver (λ key c. lost (callAt key c .held) (leftBy key c)) keys;
+            count = length (eventEntries e);
+            entries = laidOut (mapAt (λ k x. toldTo (take k (eventEntries e)) x) 0 (eventEntries e));
           }
 
       unfoldable pub replyBy : Reply

@@ -63,9 +63,6 @@ byChannel onFacch nch facch = facch
 abbrev pub hasNln : Channel → Bool
 hasNln c = byChannel c true false
 
-abbrev pub same : Channel → Channel → Bool
-same c d = eqb (numberOf c) (numberOf d)
-
 -- ## What a move of the mobile costs: the halves of a channel, and what is known of the cell's NLN
 
 abbrev pub drops : Channel → Move → Bool

@@ -10,7 +10,7 @@ use Rattle.receiver.specs.declared.Record.{Record}
 use Rattle.receiver.specs.Model.{agree}
 use Rattle.receiver.specs.Channels.{Channel}
 use Rattle.receiver.specs.Step.{Cause, nothing, joining, moving, numbered}
-use Rattle.receiver.specs.One.{mayLead, goneBy, Kind, clear, piece, first, second, bare, unusable, kindOf, Which, theFirst, theSecond, Half, Known, knownAfter, Seen}
+use Rattle.receiver.specs.One.{mayLead, goneBy, Kind, clear, piece, first, second, bare, unusable, kindOn, Which, theFirst, theSecond, Half, Known, knownAfter, Seen}
 
 -- ## Moments
 
@@ -98,7 +98,7 @@ Leaves key c l (numbered n) = Same-nln (l .nln) n
 abbrev pub Spares : ℕ → Channel → List Moment → Which → Record → Moment → Type 0
 Spares key c past w e (wait t) = Unit {0}
 Spares key c past w e (happens x) = Leaves key c (lastKnown past) x
-Spares key c past w e (entry x) = Opposite (kindOf c x) w → agree e x ≡ true → ⊥
+Spares key c past w e (entry x) = Opposite (kindOn c x) w → agree e x ≡ true → ⊥
 
 -- ## The half that stands
 
@@ -106,7 +106,7 @@ Spares key c past w e (entry x) = Opposite (kindOf c x) w → agree e x ≡ true
 abbrev pub Begins : Channel → Half → Moment → Type 0
 Begins c h (wait t) = ⊥
 Begins c h (happens x) = ⊥
-Begins c h (entry e) = (e ≡ h .entry) × (h .age ≡ 0) × Storable c (kindOf c e) (h .which)
+Begins c h (entry e) = (e ≡ h .entry) × (h .age ≡ 0) × Storable c (kindOn c e) (h .which)
 
 abbrev pub younger : ℕ → Half → Half
 younger t h = record { which = h .which; age = h .age - t; entry = h .entry }
@@ -128,7 +128,7 @@ pub record Came-and-stayed (key : ℕ) (c : Channel) (timer : ℕ) (past : List 
   pub before : List Moment
   pub later : List Moment
   pub split : past ≡ later ++ (entry (h .entry) ∷ before)
-  pub half : Storable c (kindOf c (h .entry)) (h .which)
+  pub half : Storable c (kindOn c (h .entry)) (h .which)
   pub free : (g : Half) → Standing key c timer before g → ⊥
   pub spared : All-spare key c (h .which) (h .entry) (entry (h .entry) ∷ before) later
   pub summed : elapsed later ≡ h .age

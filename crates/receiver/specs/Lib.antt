@@ -1,6 +1,6 @@
 pub mod Channels
 pub mod Model
-pub mod Store
+pub mod Inner
 pub mod Entries
 pub mod Step
 pub mod One

@@ -245,6 +245,10 @@ newReceiver s keys = record { slots = replicate places emptySlot; keys = keys; t
 abbrev pub remade : Receiver → List Slot → ℕ → Cell → Receiver
 remade r l now cell = record { slots = l; keys = r .keys; tick = now; t3206 = r .t3206; t3208 = r .t3208; cell = cell }
 
+-- a receiver with other places
+abbrev pub withSlots : Receiver → List Slot → Receiver
+withSlots r l = remade r l (r .tick) (r .cell)
+
 -- the key places: the keys as they were lent, then unused ones
 abbrev pub keyPlaces : ℕ → List ℕ → List ℕ
 keyPlaces zero l = []

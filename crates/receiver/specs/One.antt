@@ -93,8 +93,8 @@ withoutSegments true false false false = unusable
 withoutSegments false false g true = bare
 withoutSegments false false g false = unusable
 
-unfoldable pub kindOf : Channel → Record → Kind
-kindOf c e =
+unfoldable pub kindOn : Channel → Record → Kind
+kindOn c e =
     pick (hasSegments c) (withSegments (isCiphered e) (e .call .described) (there (e .segmented) (e .segment)) (e .given) (e .full))
     (withoutSegments (isCiphered e) (e .call .described) (e .given) (e .full))
 
@@ -136,8 +136,8 @@ says n h = record { said = record { number = n; told = noRecord }; held = h }
 abbrev pub tells : ℕ → Record → Option Half → Heard
 tells n e h = record { said = record { number = n; told = e }; held = h }
 
-abbrev pub stored : Which → Record → Option Half
-stored w e = some (record { which = w; age = 0; entry = e })
+abbrev pub newHalf : Which → Record → Option Half
+newHalf w e = some (record { which = w; age = 0; entry = e })
 
 -- a half that meets the opposite one: joined, and the place is free; or the references disagree, and the newcomer is unusable
 abbrev pub met : Bool → Record → Half → Heard
@@ -145,7 +145,7 @@ met true e h = tells 3 e none
 met false e h = says 7 (some h)
 
 abbrev pub meetFirst : Option Half → Record → Heard
-meetFirst none e = says 4 (stored theFirst e)
+meetFirst none e = says 4 (newHalf theFirst e)
 meetFirst (some h) e = byHalf (h .which)
   where
     byHalf : Which → Heard
@@ -154,7 +154,7 @@ meetFirst (some h) e = byHalf (h .which)
 
 -- where a second half may not come first, it is told 8
 abbrev pub meetSecond : Channel → Option Half → Record → Heard
-meetSecond c none e = pick (mayLead c) (says 4 (stored theSecond e)) (says 8 none)
+meetSecond c none e = pick (mayLead c) (says 4 (newHalf theSecond e)) (says 8 none)
 meetSecond c (some h) e = byHalf (h .which)
   where
     byHalf : Which → Heard
@@ -170,7 +170,7 @@ meetKind c bare h e = says 6 h
 meetKind c unusable h e = says 7 h
 
 unfoldable pub meetOne : Channel → Option Half → Record → Heard
-meetOne c h e = meetKind c (kindOf c e) h e
+meetOne c h e = meetKind c (kindOn c e) h e
 
 -- ## What it sees
 

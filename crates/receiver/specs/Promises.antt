@@ -18,11 +18,11 @@ use Rattle.receiver.specs.declared.Slot.{Slot}
 use Rattle.receiver.specs.declared.Told.{Told}
 use Rattle.receiver.specs.declared.Answer.{Answer}
 use Rattle.receiver.specs.declared.Setup.{Setup}
-use Rattle.receiver.specs.Channels.{placeOn, Channel, numberOf, same}
+use Rattle.receiver.specs.Channels.{placeOn, Channel, numberOf}
 use Rattle.receiver.specs.Model.{noRecord, emptySlot, wrapSub, keyOf, indexOf, isHeld, sweptSlots, isCiphered, agree, joinedOf, keep, startedOf}
-use Rattle.receiver.specs.Step.{Event, Happening, heardNch, heardFacch, joins, moves, passes, contentOf, refusalOf, ruleOf, stepOf}
-use Rattle.receiver.specs.One.{kindOf, Which, theFirst, theSecond, Half, One, Said, Seen, seen, sees, sightOf, heldAfter, spared, passed, stepSaid, runOne, runEach, oneAfter, fresh}
-use Rattle.receiver.specs.Calls.{timerOf, notOurs, lastTick, Reply, replyBy}
+use Rattle.receiver.specs.Step.{Event, Happening, heardNch, heardFacch, joins, moves, passes, refusalOf, ruleOf, stepOf}
+use Rattle.receiver.specs.One.{hears, kindOn, Which, theFirst, theSecond, Half, One, Said, Seen, seen, sees, sightOf, heldAfter, spared, passed, stepSaid, runOne, runEach, oneAfter, fresh}
+use Rattle.receiver.specs.Calls.{timerOf, channelIn, notOurs, lastTick, Reply, replyBy}
 use Rattle.receiver.specs.History.{Moment, untilEntry, pastOf, Opposite, Came-and-stayed}
 
 -- ## 1. Isolation
@@ -32,9 +32,9 @@ unfoldable pub under : ℕ → List Told → List Said
 under key [] = []
 under key (t ∷ ts) = pick (eqb (t .key) key) (record { number = t .number; told = t .«record» } ∷ under key ts) (under key ts)
 
--- an event's answers are on the channel of its message
+-- an event's answers are on the channel of its message, by the one-call receiver's own table
 unfoldable pub answersOn : ℕ → Channel → Event → Answer → List Said
-answersOn key c e a = pick (same c (contentOf (e .happening) .channel)) (under key (take (a .count) (a .entries))) []
+answersOn key c e a = pick (hears c (channelIn e)) (under key (take (a .count) (a .entries))) []
 
 unfoldable pub answers : ℕ → Channel → Receiver → List Event → List Said
 answers key c r [] = []
@@ -82,7 +82,7 @@ pub record Opposite-held (c : Channel) (timer : ℕ) (h : Option Half) (e : Reco
   pub half : Half
   pub held : h ≡ some half
   pub young : half .age < timer
-  pub opposite : Opposite (kindOf c e) (half .which)
+  pub opposite : Opposite (kindOn c e) (half .which)
   pub agrees : agree (half .entry) e ≡ true
 
 -- everything from the first half, VSTK_RAND from the second, whichever of the two is held
@@ -105,8 +105,8 @@ abbrev pub saidAt : ℕ → Channel → ℕ → One → Seen → ℕ → Said
 saidAt key c timer s v k = getD (stepSaid key c timer s v) k (record { number = 0; told = noRecord })
 
 -- An entry is told 3 exactly where it meets the opposite half; then it is told the joined record, and the place is free.
-abbrev pub Joins-exactly-when : Type 0
-Joins-exactly-when =
+abbrev pub An-entry-joins-exactly-where-the-opposite-half-is-held : Type 0
+An-entry-joins-exactly-where-the-opposite-half-is-held =
     (key : ℕ) (c : Channel) (timer : ℕ)
     → 1 ≤ timer
     → (s : One) (v : Seen) (k : ℕ)
@@ -116,15 +116,15 @@ Joins-exactly-when =
     → (saidAt key c timer s v k ≡ record { number = 3; told = joinedWith (o .half) (entryAt v k) }) × (heldBefore key c timer s v (suc k) ≡ none))
 
 -- the opposite half came in the past, nothing discarded it since, and their references agree
-pub record Opposite-came (key : ℕ) (c : Channel) (timer : ℕ) (past : List Moment) (e : Record) : Type 0 where
+pub record Opposite-in-history (key : ℕ) (c : Channel) (timer : ℕ) (past : List Moment) (e : Record) : Type 0 where
   pub half : Half
   pub history : Came-and-stayed key c timer past half
-  pub opposite : Opposite (kindOf c e) (half .which)
+  pub opposite : Opposite (kindOn c e) (half .which)
   pub agrees : agree (half .entry) e ≡ true
 
 -- what the receiver holds after any events is the half that came and stayed
-abbrev pub Held-is-history : Type 0
-Held-is-history =
+abbrev pub What-is-held-came-and-stayed : Type 0
+What-is-held-came-and-stayed =
     (key : ℕ) (c : Channel) (timer : ℕ)
     → 1 ≤ timer
     → (vs : List Seen) (h : Half)
@@ -132,15 +132,15 @@ Held-is-history =
     × (Came-and-stayed key c timer (pastOf [] vs) h → oneAfter key c timer fresh vs .held ≡ some h)
 
 -- After any events, the k-th entry of the next one is told 3 exactly where the opposite half came and nothing discarded it since.
-abbrev pub Joins-exactly-when-over-history : Type 0
-Joins-exactly-when-over-history =
+abbrev pub An-entry-joins-exactly-where-the-opposite-half-came-and-stayed : Type 0
+An-entry-joins-exactly-where-the-opposite-half-came-and-stayed =
     (key : ℕ) (c : Channel) (timer : ℕ)
     → 1 ≤ timer
     → (vs : List Seen) (v : Seen) (k : ℕ)
     → k < length (v .sight .entries)
     → (saidAt key c timer (oneAfter key c timer fresh vs) v k .number ≡ 3
-    → Opposite-came key c timer (untilEntry (pastOf [] vs) v k) (entryAt v k))
-    × ((o : Opposite-came key c timer (untilEntry (pastOf [] vs) v k) (entryAt v k))
+    → Opposite-in-history key c timer (untilEntry (pastOf [] vs) v k) (entryAt v k))
+    × ((o : Opposite-in-history key c timer (untilEntry (pastOf [] vs) v k) (entryAt v k))
     → saidAt key c timer (oneAfter key c timer fresh vs) v k ≡ record { number = 3; told = joinedWith (o .half) (entryAt v k) })
 
 -- ## 3. A refused event
@@ -149,19 +149,19 @@ abbrev pub A-refused-event-changes-nothing : Type 0
 A-refused-event-changes-nothing = (r : Receiver) (e : Event) → (stepOf r e .refusal .number ≡ 0 → ⊥) → stepOf r e .receiver ≡ r
 
 -- the number that an event in time carries: its message's own, 4 exactly where a joined key is above 199,999,999, none otherwise
-abbrev pub On-ground : Happening → ℕ → Type 0
-On-ground (heardNch s) n = n ≡ readOf s .refusal .number
-On-ground (heardFacch s) n = n ≡ readFacch s .refusal .number
-On-ground (joins k) n = (k ≤ 199999999 → n ≡ 0) × (199999999 < k → n ≡ 4)
-On-ground (moves m) n = n ≡ 0
-On-ground passes n = n ≡ 0
+abbrev pub Ground : Happening → ℕ → Type 0
+Ground (heardNch s) n = n ≡ readOf s .refusal .number
+Ground (heardFacch s) n = n ≡ readFacch s .refusal .number
+Ground (joins k) n = (k ≤ 199999999 → n ≡ 0) × (199999999 < k → n ≡ 4)
+Ground (moves m) n = n ≡ 0
+Ground passes n = n ≡ 0
 
 -- a step of 2^31 or more is 9 whatever else is wrong; else the number is on the event's own ground; and it is the one that `refusalOf` names
 abbrev pub The-number-is-on-its-ground : Type 0
 The-number-is-on-its-ground =
     (r : Receiver) (e : Event)
     → (2147483648 ≤ wrapSub (e .tick) (r .tick) → stepOf r e .refusal .number ≡ 9)
-    × (wrapSub (e .tick) (r .tick) < 2147483648 → On-ground (e .happening) (stepOf r e .refusal .number))
+    × (wrapSub (e .tick) (r .tick) < 2147483648 → Ground (e .happening) (stepOf r e .refusal .number))
     × (stepOf r e .refusal ≡ refusalOf r e)
 
 -- ## 4. Time that has passed
@@ -274,8 +274,8 @@ A-call-joins-exactly-when =
     → (k : ℕ)
     → k < length (sightOf key c (e .happening) .entries)
     → (heardAt s keys es e key c k .number ≡ 3
-    → Opposite-came key c (timerOf c s) (pastAt s es e key c k) (ownEntry key c e k))
-    × ((o : Opposite-came key c (timerOf c s) (pastAt s es e key c k) (ownEntry key c e k))
+    → Opposite-in-history key c (timerOf c s) (pastAt s es e key c k) (ownEntry key c e k))
+    × ((o : Opposite-in-history key c (timerOf c s) (pastAt s es e key c k) (ownEntry key c e k))
     → heardAt s keys es e key c k ≡ record { number = 3; told = joinedWith (o .half) (ownEntry key c e k) })
 
 -- ## 8. What the receiver and the one-call receiver share

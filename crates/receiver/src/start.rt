@@ -2,7 +2,7 @@
 ghost use mathlib.Core.Path.{_≡_};
 ghost use Rattle.receiver.specs.Channels.{keyCount};
 ghost use Rattle.receiver.specs.Model.{newReceiver, noSetup, keyPlaces, isTimer, keysRight, setupRight, startedOf, readySetup};
-ghost use Rattle.receiver.specs.Store.{standsFrom};
+ghost use Rattle.receiver.specs.Inner.{standsFrom};
 use crate::Cell;
 use crate::LAST_KEY;
 use crate::NO_KEY;

@@ -1,8 +1,8 @@
 // The clock, the keys, and the one sweep over all places that drops what ran out and what an event takes.
 ghost use mathlib.Core.Path.{_≡_};
-ghost use Rattle.receiver.specs.Model.{wrapSub, late, indexOf, keep, takes, spares, ranOutOf, sweptSlots, expiredOf, droppedOf};
+ghost use Rattle.receiver.specs.Model.{wrapSub, late, indexOf, keep, takes, spares, ranOutOf, sweptSlots, expiredOf, droppedOf, withSlots};
 ghost use Rattle.receiver.specs.Channels.{byNumber, sideOf};
-ghost use Rattle.receiver.specs.Store.{fateOf, withSlots};
+ghost use Rattle.receiver.specs.Inner.{fateOf};
 use crate::PLACES;
 use crate::Receiver;
 use crate::Rule;

@@ -9,7 +9,7 @@ use Prim.Native.Nat.{ℕ, zero, suc, _+_, _-_, _*_, _/_, _%_, _^_, _≤_, _<_}
 use lib.ListN.{length, getD, length-append}
 use lib.Dec.{ltb, leb}
 use Rattle.io.specs.Digits.{glyph}
-use Rattle.text.specs.Digits.{more, numeral, value, worth}
+use Rattle.text.specs.Digits.{more, numeral, value, numberSpelled}
 
 value-glyph : (d : ℕ) (t : Bool) → ltb d 10 ≡ t → d < 16 → value (cond t (48 + d) (87 + d)) ≡ d
 unfolding value
@@ -18,8 +18,8 @@ value-glyph d false e h =
     let g = ltb-false d 10 e in
     rw (le-ltb (87 + d) 48 (omega arith), lt-leb (87 + d) 57 (omega arith), le-ltb (87 + d) 97 (omega arith), le-leb (87 + d) 102 (omega arith)) (omega arith)
 
-worth-last : (b a : ℕ) (s : List ℕ) (c : ℕ) → worth b a (s ++ (c ∷ [])) ≡ worth b a s * b + value c
-unfolding worth
+worth-last : (b a : ℕ) (s : List ℕ) (c : ℕ) → numberSpelled b a (s ++ (c ∷ [])) ≡ numberSpelled b a s * b + value c
+unfolding numberSpelled
 worth-last b a [] c = refl
 worth-last b a (d ∷ s) c = worth-last b (a * b + value d) s c
 
@@ -29,19 +29,19 @@ neither false u e = e
 
 module _ (b : ℕ) (lo : 1 < b) (hi : b ≤ 16) where
   -- the digits before the last are worth n / b, where there are none too
-  worth-front : (n : ℕ) (s : List ℕ) (m t : Bool) → cond m true (leb b n) ≡ t → worth b 0 s ≡ n / b → worth b 0 (cond t s []) ≡ n / b
-  unfolding worth
+  worth-front : (n : ℕ) (s : List ℕ) (m t : Bool) → cond m true (leb b n) ≡ t → numberSpelled b 0 s ≡ n / b → numberSpelled b 0 (cond t s []) ≡ n / b
+  unfolding numberSpelled
   worth-front n s m true e h = h
   worth-front n s m false e h = sym (div-eq-of-lt (leb-false b n (neither m (leb b n) e)))
 
-  pub worth-numeral : (k least n : ℕ) → n < b ^ k → worth b 0 (numeral b k least n) ≡ n
-  unfolding numeral worth
+  pub worth-numeral : (k least n : ℕ) → n < b ^ k → numberSpelled b 0 (numeral b k least n) ≡ n
+  unfolding numeral numberSpelled
   worth-numeral zero least n h = let z = rw pow-zero at h in omega arith
   worth-numeral (suc k) least n h =
       let q : n / b < b ^ k = div-lt-iff-lt-mul {k = b} {x = n} {y = b ^ k} (omega arith) .1 (rw pow-suc at h) in
       let s : List ℕ = numeral b k (least - 1) (n / b) in
       let t : Bool = more b least n in
-      let f : worth b 0 (cond t s []) ≡ n / b = worth-front n s (ltb 1 least) t refl (worth-numeral k (least - 1) (n / b) q) in
+      let f : numberSpelled b 0 (cond t s []) ≡ n / b = worth-front n s (ltb 1 least) t refl (worth-numeral k (least - 1) (n / b) q) in
       let v : value (glyph (n % b)) ≡ n % b = value-glyph (n % b) (ltb (n % b) 10) refl (omega (arith, mod-lt n {m = b} (omega arith))) in
       worth-last b 0 (cond t s []) (glyph (n % b)) ∙ rw (f, v) (div-add-mod' n b)
 

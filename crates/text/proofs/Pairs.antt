@@ -6,7 +6,7 @@ use native.Mathlib.Numerals.{add-one}
 use Prim.Native.Nat.{ℕ, zero, suc, _+_, _*_, _/_, _<_}
 use lib.ListN.{length, getD, set}
 use lib.Seq.{paste, paste-suc}
-use Rattle.text.specs.Digits.{octet, octetsOf, pairs}
+use Rattle.text.specs.Digits.{octetOf, octetsOf, pairs}
 
 length-octets : (s : List ℕ) → length (octetsOf s) ≡ length s / 2
 unfolding octetsOf
@@ -14,7 +14,7 @@ length-octets [] = refl
 length-octets (c ∷ []) = refl
 length-octets (c ∷ d ∷ s) = omega (arith, length-octets s)
 
-octet-at : (s : List ℕ) (n i : ℕ) → i ≡ 2 * n → suc i < length s → getD (octetsOf s) n 0 ≡ octet (getD s i 0) (getD s (suc i) 0)
+octet-at : (s : List ℕ) (n i : ℕ) → i ≡ 2 * n → suc i < length s → getD (octetsOf s) n 0 ≡ octetOf (getD s i 0) (getD s (suc i) 0)
 unfolding octetsOf
 octet-at [] n i e h = absurd (omega arith)
 octet-at (c ∷ []) n i e h = absurd (omega arith)
@@ -25,7 +25,7 @@ octet-at (c ∷ d ∷ s) (suc n) (suc zero) e h = absurd (omega arith)
 octet-at (c ∷ d ∷ s) (suc n) (suc (suc i)) e h = octet-at s n i (omega arith) (omega arith)
 
 -- one octet more is read
-pub read-next : (l s : List ℕ) (n v : ℕ) → n < length l → n < length s / 2 → v ≡ octet (getD s (2 * n) 0) (getD s (2 * n + 1) 0)
+pub read-next : (l s : List ℕ) (n v : ℕ) → n < length l → n < length s / 2 → v ≡ octetOf (getD s (2 * n) 0) (getD s (2 * n + 1) 0)
     → set (paste l 0 (octetsOf s) n) n v ≡ paste l 0 (octetsOf s) (n + 1)
 read-next l s n v h k e =
     let p : List ℕ = paste l 0 (octetsOf s) n in

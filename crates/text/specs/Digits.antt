@@ -27,19 +27,19 @@ unfoldable pub value : ℕ → ℕ
 value c = cond (ltb c 48) 16 (cond (leb c 57) (c - 48) (cond (ltb c 97) 16 (cond (leb c 102) (c - 87) 16)))
 
 -- the number that digits spell in base b, behind those of a
-unfoldable pub worth : ℕ → ℕ → List ℕ → ℕ
-worth b a [] = a
-worth b a (c ∷ s) = worth b (a * b + value c) s
+unfoldable pub numberSpelled : ℕ → ℕ → List ℕ → ℕ
+numberSpelled b a [] = a
+numberSpelled b a (c ∷ s) = numberSpelled b (a * b + value c) s
 
 -- the octet that two digits spell; a character that is no digit counts as 0
-abbrev pub octet : ℕ → ℕ → ℕ
-octet c d = value c % 16 * 16 + value d % 16
+abbrev pub octetOf : ℕ → ℕ → ℕ
+octetOf c d = value c % 16 * 16 + value d % 16
 
 -- those that pairs of digits spell; a digit without another spells none
 unfoldable pub octetsOf : List ℕ → List ℕ
 octetsOf [] = []
 octetsOf (c ∷ []) = []
-octetsOf (c ∷ d ∷ s) = octet c d ∷ octetsOf s
+octetsOf (c ∷ d ∷ s) = octetOf c d ∷ octetsOf s
 
 -- how many of them there is room for
 abbrev pub pairs : List ℕ → List ℕ → ℕ

@@ -11,7 +11,7 @@ use mathlib.Core.Option.{none}
 use Rattle.csn1.specs.Grammar.{format}
 use Rattle.csn1.proofs.Reading.{found, found-lt}
 use Rattle.call.specs.Call.{frequencies, withFrequencies}
-use Rattle.call.specs.Told.{descriptionAtOf}
+use Rattle.call.specs.Inner.{descriptionAtOf}
 use Rattle.call.proofs.Reading.{frequencies-grounded, description-short, hopping-short, hopping-refused, description-fixed, description-hops, hopping, hops-refused, hops-told}
 use native.Mathlib.Omega.{arith}
 use borrow.Author.Needs.{needs}

@@ -1,6 +1,6 @@
 -- `call::read_flat` meets its contract. Assumes nothing.
 use mathlib.Core.Path.{ap, _∙_}
-use Rattle.call.specs.Told.{gathered}
+use Rattle.call.specs.Inner.{gathered}
 use borrow.Author.Needs.{needs}
 use Rattle.call.proofs.read_flat.Statement.{statement}
 use Rattle.call.proofs.read_flat.Tie as tie

@@ -8,7 +8,7 @@ use Rattle.bits.specs.declared.Got.the-variants.{Bits, Short}
 use Rattle.csn1.specs.declared.Refusal.{Refusal}
 use Rattle.csn1.specs.Format.{bad}
 use Rattle.csn1.proofs.Reading.{found}
-use Rattle.call.specs.Told.{frequenciesAtOf}
+use Rattle.call.specs.Inner.{frequenciesAtOf}
 use Rattle.call.proofs.Reading.{frequencies-short, list-short, list-read, length-short, length-low, length-high, octets-short, octets-read}
 use native.Mathlib.Omega.{arith}
 use borrow.Author.Needs.{needs}

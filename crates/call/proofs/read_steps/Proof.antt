@@ -12,7 +12,8 @@ use Rattle.csn1.specs.Grammar.{format}
 use Rattle.csn1.proofs.Reading.{found, read-at, read-long}
 use Rattle.call.specs.declared.Call.{Call}
 use Rattle.call.specs.Call.{groupCall, description}
-use Rattle.call.specs.Told.{callAtOf, callFrom}
+use Rattle.call.specs.Told.{callAtOf}
+use Rattle.call.specs.Inner.{callFromHead}
 use Rattle.call.proofs.Reading.{description-grounded, call-short, reference-refused, described-short, call-plain, call-described, call-told, described-refused, described-told}
 use native.Mathlib.Omega.{arith}
 use borrow.Author.Needs.{needs}
@@ -126,7 +127,7 @@ returns-5 c =
     let a = c .before .before .before .before .before .before .before .before .before .before .before .before .before .before .before .args in
     let h = c .before .before .before .before .before .before .before .before .before .before .head .given .0 .0 in
     ap₂ (λ (r : Refusal) (k : Call). record { refusal = r; call = k; at = a .at + 37 }) (c .before .before .no-refusal .ensures)
-    (c .call-from .ensures ∙ ap (callFrom h false) (c .before .no-description .ensures))
+    (c .call-from .ensures ∙ ap (callFromHead h false) (c .before .no-description .ensures))
     ∙ call-told h none (a .at + 37)
     ∙ sym (ap callAtOf (read-at groupCall (now (a .s)) (a .at) (omega arith) ∙ call-plain (now (a .s)) (a .at) _ (head-got (c .before .before .before .before .before .before .before .before .before)) (omega arith) _ (flag-got (c .before .before .before .before)) (c .before .before .before .if3 .taken)))
 

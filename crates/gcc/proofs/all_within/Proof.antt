@@ -3,14 +3,14 @@ use native.Mathlib.Omega.{arith}
 use mathlib.Core.Path.{_≡_, sym, ap, _∙_}
 use Prim.Native.Nat.{_≤_, _-_}
 use lib.ListN.{length, drop}
-use Rattle.gcc.specs.Octet.{within}
+use Rattle.gcc.specs.Octet.{allBetween}
 use Rattle.gcc.proofs.Lists.{within-next, within-low, within-high, drop-all}
 use borrow.Author.Needs.{needs}
 use Rattle.gcc.proofs.all_within.Statement.{statement}
 use Rattle.gcc.proofs.all_within.Tie as tie
 
 abbrev Inv-loop : tie.InvT-loop
-Inv-loop s lo hi i₀ i = (i ≤ length s) × (within lo hi s ≡ within lo hi (drop i s))
+Inv-loop s lo hi i₀ i = (i ≤ length s) × (allBetween lo hi s ≡ allBetween lo hi (drop i s))
 
 abbrev μ-loop : tie.MeasureT-loop
 μ-loop s lo hi i₀ i = length s - i
@@ -49,11 +49,11 @@ loop-again c =
     (omega arith, l .inv .1 ∙ within-next (a .lo) (a .hi) (l .i) (a .s .now) (omega arith) (c .before .before .if1 .left) (c .if2 .left))
 
 returns-3 : tie.Need-returns-3 Inv-loop μ-loop
-unfolding within
+unfolding allBetween
 returns-3 c =
     let a = c .before .before .args in
     let l = c .before .loop in
-    sym (l .inv .1 ∙ ap (within (a .lo) (a .hi)) (drop-all (l .i) (a .s .now) (l .inv .0) (c .loop-test .left)))
+    sym (l .inv .1 ∙ ap (allBetween (a .lo) (a .hi)) (drop-all (l .i) (a .s .now) (l .inv .0) (c .loop-test .left)))
 
 pub all-within-spec : {M : Type 1} → statement M
 all-within-spec =

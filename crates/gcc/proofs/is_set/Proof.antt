@@ -1,6 +1,6 @@
 -- `gcc::is_set` meets its contract. Assumes nothing.
 use borrow.Author.Needs.{needs}
-use Rattle.gcc.specs.Octet.{bit}
+use Rattle.gcc.specs.Octet.{isSet}
 use Rattle.gcc.proofs.is_set.Statement.{statement}
 use Rattle.gcc.proofs.is_set.Tie as tie
 
@@ -11,7 +11,7 @@ shr-result : tie.Need-shr-result
 shr-result c = search needs
 
 returns : tie.Need-returns
-unfolding bit
+unfolding isSet
 returns c = search needs
 
 pub is-set-spec : {M : Type 1} → statement M

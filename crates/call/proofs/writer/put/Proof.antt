@@ -3,7 +3,7 @@ use denote.Ref.{now}
 use mathlib.Core.Path.{_∙_, ap}
 use Rattle.bits.specs.Field.{afterPut}
 use Rattle.call.specs.Call.{groupCall, callValue}
-use Rattle.call.specs.Write.{Room}
+use Rattle.call.specs.Inner.{Room}
 use Rattle.call.proofs.Put.{put-wrong, put-full, put-room, put-done, plain-put, described-put, description-room}
 use native.Mathlib.Omega.{arith}
 use borrow.Author.Needs.{needs}
@@ -36,7 +36,7 @@ put-requires : tie.Need-put-requires
 put-requires c κs = search needs
 
 add-put-description : tie.Need-add-put-description
-add-put-description c = let r = room (c .before .before .before .before .before .before .before .before) in omega (arith, r .within, r .few)
+add-put-description c = let r = room (c .before .before .before .before .before .before .before .before) in omega (arith, r .enough, r .few)
 
 put-description-requires : tie.Need-put-description-requires
 put-description-requires c κs = let a = c .before .before .before .before .before .before .before .before .before .before .before .before .before .before .args in description-room (now (a .buf)) (c .before .before .before .before .before .put .last .0) (a .at) (a .c) (room (c .before .before .before .before .before .before .before .before)) (c .before .before .before .before .before .put .ensures .1 ∙ ap (afterPut (now (a .buf)) (a .at) 37) (c .before .before .before .before .before .before .head .ensures)) (c .before .before .if3 .taken)

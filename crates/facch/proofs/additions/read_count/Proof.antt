@@ -10,7 +10,7 @@ use Rattle.csn1.specs.Format.{ok, bad, num, _⨟_}
 use Rattle.csn1.specs.Told.{isOne}
 use Rattle.csn1.proofs.Reading.{found, found-lt, num-got, num-short, opt-short, opt-none}
 use Rattle.csn1.proofs.Answers.{opt-bad, opt-ok, first-bad, then-bad, then-ok}
-use Rattle.facch.specs.Parts.{countAtOf}
+use Rattle.facch.specs.Inner.{countAtOf}
 use native.Mathlib.Omega.{arith}
 use borrow.Author.Needs.{needs}
 use Rattle.facch.proofs.additions.read_count.Statement.{statement}

@@ -1,7 +1,7 @@
 -- `gcc::cause::closes_at` meets its contract. Assumes nothing.
 use native.Mathlib.Omega.{arith}
 use mathlib.Core.Path.{_≡_}
-use Rattle.gcc.specs.Cause.{closing}
+use Rattle.gcc.specs.Inner.{closing}
 use Rattle.gcc.proofs.Causes.{closing-here, closing-next}
 use borrow.Author.Needs.{needs}
 use Prim.Native.Nat.{ℕ, _<_}

@@ -6,7 +6,7 @@ use borrow.Author.Needs.{needs}
 use Prim.Native.Nat.{ℕ, _/_, _%_, _^_}
 use lib.ListN.{getD}
 use lib.Dec.{eqb}
-use Rattle.gcc.specs.Cause.{listed}
+use Rattle.gcc.specs.Cause.{isListed}
 use Rattle.gcc.proofs.Tests.{below, same, same-true}
 use Rattle.gcc.proofs.cause.is_listed.Statement.{statement}
 use Rattle.gcc.proofs.cause.is_listed.Tie as tie
@@ -31,8 +31,8 @@ shr-result : tie.Need-shr-result
 shr-result c = search needs
 
 returns : tie.Need-returns
-unfolding listed
-returns c = same-true _ _ (below (λ n. same (found n) (listed n)) 128 refl (c .args .n) (c .pre))
+unfolding isListed
+returns c = same-true _ _ (below (λ n. same (found n) (isListed n)) 128 refl (c .args .n) (c .pre))
 
 pub is-listed-spec : {M : Type 1} → statement M
 is-listed-spec =

@@ -4,7 +4,7 @@ use mathlib.Core.Path.{_≡_, sym, ap, _∙_}
 use lib.ListN.{length, drop, length-map}
 use lib.Seq.{length-take-le}
 use borrow.Author.Tests.{not-true, not-false}
-use Rattle.gcc.specs.Octet.{within}
+use Rattle.gcc.specs.Octet.{allBetween}
 use Rattle.gcc.specs.Cause.{right}
 use Rattle.gcc.proofs.Lists.{rest-all}
 use borrow.Author.Needs.{needs}
@@ -51,8 +51,8 @@ returns-2 : tie.Need-returns-2
 unfolding right
 returns-2 c =
     let a = c .before .before .before .before .before .before .before .before .before .args .cause in
-    let e : c .before .all-within2 .result ≡ within 0 0 (drop (a .count) (a .septets)) =
-    c .before .all-within2 .ensures ∙ ap (within 0 0) (rest-all (a .count) 255 (a .septets) (septets-long (c .before .before .before .before .before .before .before .before .before))) in
+    let e : c .before .all-within2 .result ≡ allBetween 0 0 (drop (a .count) (a .septets)) =
+    c .before .all-within2 .ensures ∙ ap (allBetween 0 0) (rest-all (a .count) 255 (a .septets) (septets-long (c .before .before .before .before .before .before .before .before .before))) in
     rw (← c .before .before .before .before .before .all-within .ensures, not-false (c .before .before .before .before .before .all-within .result) (c .before .before .before .before .if1 .left), ← e, not-true (c .before .all-within2 .result) (c .if2 .taken))
 
 cast-size : tie.Need-cast-size
@@ -74,10 +74,10 @@ returns-3 : tie.Need-returns-3
 unfolding right
 returns-3 c =
     let a = c .before .before .before .before .before .before .before .before .before .before .before .before .before .before .args .cause in
-    let e : c .before .before .before .before .before .before .all-within2 .result ≡ within 0 0 (drop (a .count) (a .septets)) =
-    c .before .before .before .before .before .before .all-within2 .ensures ∙ ap (within 0 0) (rest-all (a .count) 255 (a .septets) (septets-long (c .before .before .before .before .before .before .before .before .before .before .before .before .before .before))) in
-    let d : c .all-within3 .result ≡ within 0 0 (drop (a .size) (a .diagnostics)) =
-    c .all-within3 .ensures ∙ ap (within 0 0) (rest-all (a .size) 255 (a .diagnostics) (diagnostics-long (c .before .before .before .before .before .before .before .before .before .before .before .before .before .before))) in
+    let e : c .before .before .before .before .before .before .all-within2 .result ≡ allBetween 0 0 (drop (a .count) (a .septets)) =
+    c .before .before .before .before .before .before .all-within2 .ensures ∙ ap (allBetween 0 0) (rest-all (a .count) 255 (a .septets) (septets-long (c .before .before .before .before .before .before .before .before .before .before .before .before .before .before))) in
+    let d : c .all-within3 .result ≡ allBetween 0 0 (drop (a .size) (a .diagnostics)) =
+    c .all-within3 .ensures ∙ ap (allBetween 0 0) (rest-all (a .size) 255 (a .diagnostics) (diagnostics-long (c .before .before .before .before .before .before .before .before .before .before .before .before .before .before))) in
     d ∙ rw (← c .before .before .before .before .before .before .before .before .before .before .all-within .ensures, not-false (c .before .before .before .before .before .before .before .before .before .before .all-within .result) (c .before .before .before .before .before .before .before .before .before .if1 .left), ← e, not-false (c .before .before .before .before .before .before .all-within2 .result) (c .before .before .before .before .before .if2 .left))
 
 pub is-right-spec : {M : Type 1} → statement M

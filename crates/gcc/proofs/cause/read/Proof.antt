@@ -5,7 +5,8 @@ use Prim.Native.Nat.{_<_}
 use native.Mathlib.Numerals.{add-one}
 use lib.ListN.{length}
 use borrow.Author.Tests.{le-leb, lt-leb}
-use Rattle.gcc.specs.Cause.{closing, readOf}
+use Rattle.gcc.specs.Cause.{readOf}
+use Rattle.gcc.specs.Inner.{closing}
 use Rattle.gcc.proofs.Causes.{closing-kept, closing-le, parse-at, parse-never}
 use borrow.Author.Needs.{needs}
 use Rattle.gcc.proofs.cause.read.Statement.{statement}

@@ -5,7 +5,7 @@ use mathlib.Core.Bool.{true}
 use Prim.Native.Nat.{_+_}
 use lib.ListN.{length}
 use borrow.Author.Tests.{eq-eqb, ne-eqb, le-leb, lt-leb, not-true, not-false}
-use Rattle.gcc.specs.Octet.{within}
+use Rattle.gcc.specs.Octet.{allBetween}
 use Rattle.gcc.specs.Cause.{partsOf, right, writeNumber, writeTo}
 use Rattle.bits.proofs.Answers.{both-true}
 use borrow.Author.Needs.{needs}
@@ -63,7 +63,7 @@ unfolding right
 put-cause-requires c κs =
     let a = c .before .before .before .before .before .before .before .before .before .args in
     let r : right (a .cause) ≡ true = sym (c .before .before .before .is-right .ensures) ∙ not-false (c .before .before .before .is-right .result) (c .before .before .if3 .left) in
-    (omega arith, (c .before .if4 .left, both-true (within 0 127 (partsOf (a .cause))) _ r .0))
+    (omega arith, (c .before .if4 .left, both-true (allBetween 0 127 (partsOf (a .cause))) _ r .0))
 
 same-length : tie.Need-same-length
 same-length c = search needs

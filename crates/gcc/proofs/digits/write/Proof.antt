@@ -4,7 +4,7 @@ use mathlib.Core.Path.{_≡_, sym, _∙_}
 use mathlib.Core.Bool.{true}
 use lib.ListN.{length}
 use borrow.Author.Tests.{eq-eqb, ne-eqb, not-true, not-false}
-use Rattle.gcc.specs.Octet.{within}
+use Rattle.gcc.specs.Octet.{allBetween}
 use Rattle.gcc.specs.Digits.{writeNumber, writeTo}
 use Rattle.gcc.proofs.Lists.{within-each}
 use borrow.Author.Needs.{needs}
@@ -40,7 +40,7 @@ returns-3 c =
 worth-of-requires : tie.Need-worth-of-requires
 worth-of-requires c κs =
     let a = c .before .before .before .before .before .before .args in
-    let w : within 48 57 (a .digits .now) ≡ true = sym (c .before .before .all-within .ensures) ∙ not-false _ (c .before .if2 .left) in
+    let w : allBetween 48 57 (a .digits .now) ≡ true = sym (c .before .before .all-within .ensures) ∙ not-false _ (c .before .if2 .left) in
     (rw (c .before .before .before .if1 .left) (omega arith), λ i h. omega (arith, within-each 48 57 (a .digits .now) w i h))
 
 put-requires : tie.Need-put-requires

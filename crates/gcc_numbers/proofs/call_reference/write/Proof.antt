@@ -3,7 +3,7 @@ use denote.Ref.{now}
 use mathlib.Core.Path.{_∙_}
 use native.Mathlib.Omega.{arith}
 use Rattle.gcc_numbers.specs.ElementNumbers.{referenceMost}
-use Rattle.gcc_numbers.proofs.Refusals.{code-13, fits-13, code-12, fits-12, code-own, fits-own, each}
+use Rattle.gcc_numbers.proofs.Refusals.{code-13, fits-13, code-12, fits-12, code-own, fits-own, each-at-most}
 use borrow.Author.Needs.{needs}
 use Rattle.gcc_numbers.proofs.call_reference.write.Statement.{statement}
 use Rattle.gcc_numbers.proofs.call_reference.write.Tie as tie
@@ -27,19 +27,19 @@ shared-slice-read-priority-of : tie.Need-shared-slice-read-priority-of
 shared-slice-read-priority-of c = search needs
 
 mul-priority-of : tie.Need-mul-priority-of
-mul-priority-of c = omega (arith, each referenceMost (now (c .before .before .before .before .before .before .before .args .numbers)) (c .before .before .holds .result) (c .before .before .holds .ensures) (c .before .if2 .left) 1 (omega arith))
+mul-priority-of c = omega (arith, each-at-most referenceMost (now (c .before .before .before .before .before .before .before .args .numbers)) (c .before .before .holds .result) (c .before .before .holds .ensures) (c .before .if2 .left) 1 (omega arith))
 
 shared-slice-read-priority-of-2 : tie.Need-shared-slice-read-priority-of-2
 shared-slice-read-priority-of-2 c = search needs
 
 mul-priority-of-2 : tie.Need-mul-priority-of-2
-mul-priority-of-2 c = omega (arith, each referenceMost (now (c .before .before .before .before .before .before .before .before .args .numbers)) (c .before .before .before .holds .result) (c .before .before .before .holds .ensures) (c .before .before .if2 .left) 2 (omega arith))
+mul-priority-of-2 c = omega (arith, each-at-most referenceMost (now (c .before .before .before .before .before .before .before .before .args .numbers)) (c .before .before .before .holds .result) (c .before .before .before .holds .ensures) (c .before .before .if2 .left) 2 (omega arith))
 
 add-priority-of : tie.Need-add-priority-of
-add-priority-of c = omega (arith, each referenceMost (now (c .before .before .before .before .before .before .before .before .args .numbers)) (c .before .before .before .holds .result) (c .before .before .before .holds .ensures) (c .before .before .if2 .left) 1 (omega arith), each referenceMost (now (c .before .before .before .before .before .before .before .before .args .numbers)) (c .before .before .before .holds .result) (c .before .before .before .holds .ensures) (c .before .before .if2 .left) 2 (omega arith))
+add-priority-of c = omega (arith, each-at-most referenceMost (now (c .before .before .before .before .before .before .before .before .args .numbers)) (c .before .before .before .holds .result) (c .before .before .before .holds .ensures) (c .before .before .if2 .left) 1 (omega arith), each-at-most referenceMost (now (c .before .before .before .before .before .before .before .before .args .numbers)) (c .before .before .before .holds .result) (c .before .before .before .holds .ensures) (c .before .before .if2 .left) 2 (omega arith))
 
 cast-priority-of : tie.Need-cast-priority-of
-cast-priority-of c = omega (arith, each referenceMost (now (c .before .before .before .before .before .before .before .before .args .numbers)) (c .before .before .before .holds .result) (c .before .before .before .holds .ensures) (c .before .before .if2 .left) 1 (omega arith), each referenceMost (now (c .before .before .before .before .before .before .before .before .args .numbers)) (c .before .before .before .holds .result) (c .before .before .before .holds .ensures) (c .before .before .if2 .left) 2 (omega arith))
+cast-priority-of c = omega (arith, each-at-most referenceMost (now (c .before .before .before .before .before .before .before .before .args .numbers)) (c .before .before .before .holds .result) (c .before .before .before .holds .ensures) (c .before .before .if2 .left) 1 (omega arith), each-at-most referenceMost (now (c .before .before .before .before .before .before .before .before .args .numbers)) (c .before .before .before .holds .result) (c .before .before .before .holds .ensures) (c .before .before .if2 .left) 2 (omega arith))
 
 priority-of-requires : tie.Need-priority-of-requires
 priority-of-requires c κs = search needs
@@ -48,7 +48,7 @@ shared-slice-read-write : tie.Need-shared-slice-read-write
 shared-slice-read-write c = search needs
 
 cast-write : tie.Need-cast-write
-cast-write c = omega (arith, each referenceMost (now (c .before .before .before .before .before .before .before .before .before .before .args .numbers)) (c .before .before .before .before .before .holds .result) (c .before .before .before .before .before .holds .ensures) (c .before .before .before .before .if2 .left) 0 (omega arith))
+cast-write c = omega (arith, each-at-most referenceMost (now (c .before .before .before .before .before .before .before .before .before .before .args .numbers)) (c .before .before .before .before .before .holds .result) (c .before .before .before .before .before .holds .ensures) (c .before .before .before .before .if2 .left) 0 (omega arith))
 
 write-requires : tie.Need-write-requires
 write-requires c κs = search needs

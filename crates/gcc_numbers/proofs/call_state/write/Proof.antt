@@ -6,7 +6,7 @@ use native.Mathlib.Omega.{arith}
 use borrow.Author.Tests.{ne-eqb}
 use Rattle.gcc.specs.CallState.{writtenOf, stateOf}
 use Rattle.gcc_numbers.specs.ElementNumbers.{stateMost}
-use Rattle.gcc_numbers.proofs.Refusals.{code-13, code-12, code-own, each}
+use Rattle.gcc_numbers.proofs.Refusals.{code-13, code-12, code-own, each-at-most}
 use borrow.Author.Needs.{needs}
 use Rattle.gcc_numbers.proofs.call_state.write.Statement.{statement}
 use Rattle.gcc_numbers.proofs.call_state.write.Tie as tie
@@ -32,7 +32,7 @@ shared-slice-read-state-of c = search needs
 cast-state-of : tie.Need-cast-state-of
 cast-state-of c =
     let h = c .before .before .holds in
-    omega (arith, each stateMost (now (c .before .before .before .before .before .before .args .numbers)) (h .result) (h .ensures) (c .before .if2 .left) 0 (omega arith))
+    omega (arith, each-at-most stateMost (now (c .before .before .before .before .before .before .args .numbers)) (h .result) (h .ensures) (c .before .if2 .left) 0 (omega arith))
 
 state-of-requires : tie.Need-state-of-requires
 state-of-requires c κs = search needs

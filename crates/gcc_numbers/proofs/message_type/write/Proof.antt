@@ -6,7 +6,7 @@ use native.Mathlib.Omega.{arith}
 use borrow.Author.Tests.{ne-eqb}
 use Rattle.gcc.specs.MessageType.{writtenOf, kindOf}
 use Rattle.gcc_numbers.specs.ElementNumbers.{isFlag, typeMost}
-use Rattle.gcc_numbers.proofs.Refusals.{code-13, code-12, code-own, each}
+use Rattle.gcc_numbers.proofs.Refusals.{code-13, code-12, code-own, each-at-most}
 use borrow.Author.Needs.{needs}
 use Rattle.gcc_numbers.proofs.message_type.write.Statement.{statement}
 use Rattle.gcc_numbers.proofs.message_type.write.Tie as tie
@@ -35,7 +35,7 @@ shared-slice-read-kind-of c = search needs
 cast-kind-of : tie.Need-cast-kind-of
 cast-kind-of c =
     let h = c .before .before .before .holds in
-    omega (arith, each typeMost (now (c .before .before .before .before .before .before .before .args .numbers)) (h .result) (h .ensures) (c .before .before .if2 .left) 1 (omega arith))
+    omega (arith, each-at-most typeMost (now (c .before .before .before .before .before .before .before .args .numbers)) (h .result) (h .ensures) (c .before .before .if2 .left) 1 (omega arith))
 
 kind-of-requires : tie.Need-kind-of-requires
 kind-of-requires c κs = search needs

@@ -4,7 +4,7 @@ use mathlib.Core.Path.{refl, ap, _∙_}
 use native.Mathlib.Omega.{arith}
 use Rattle.gcc.specs.Talker.{numberOf}
 use Rattle.gcc_numbers.specs.ElementNumbers.{talkerMost}
-use Rattle.gcc_numbers.proofs.Refusals.{code-13, code-12, code-own, each}
+use Rattle.gcc_numbers.proofs.Refusals.{code-13, code-12, code-own, each-at-most}
 use borrow.Author.Needs.{needs}
 use Rattle.gcc_numbers.proofs.talker.write.Statement.{statement}
 use Rattle.gcc_numbers.proofs.talker.write.Tie as tie
@@ -30,7 +30,7 @@ shared-slice-read-priority-of c = search needs
 cast-priority-of : tie.Need-cast-priority-of
 cast-priority-of c =
     let h = c .before .before .holds in
-    omega (arith, each talkerMost (now (c .before .before .before .before .before .before .args .numbers)) (h .result) (h .ensures) (c .before .if2 .left) 0 (omega arith))
+    omega (arith, each-at-most talkerMost (now (c .before .before .before .before .before .before .args .numbers)) (h .result) (h .ensures) (c .before .if2 .left) 0 (omega arith))
 
 priority-of-requires : tie.Need-priority-of-requires
 priority-of-requires c κs = search needs

@@ -8,20 +8,20 @@ use borrow.Author.Needs.{needs}
 use Rattle.arrays.specs.Runs.{stored}
 use Rattle.arrays.proofs.Running.{stored-one}
 use Rattle.receiver.specs.declared.Cell.{Cell}
-use Rattle.layout.specs.Octets.{octets}
+use Rattle.layout.specs.Octets.{lowOctets}
 use Rattle.layout.specs.Layout.{tickFrom, cellFrom, answerFrom, cellOctets, putHead}
 use Rattle.layout.proofs.States.{at-state, no-state}
 use Rattle.layout.proofs.Numbers.{length-octets, three-runs}
 use Rattle.layout.proofs.answer.put_head.Statement.{statement}
 use Rattle.layout.proofs.answer.put_head.Tie as tie
 
-headed : (l l1 l2 l3 l4 : List ℕ) (tick : ℕ) (cell : Cell) (expired dropped count : ℕ) → l1 ≡ stored l tickFrom (octets 4 tick)
-    → l2 ≡ stored (set l1 cellFrom (cell .nln)) answerFrom (octets 4 expired) → l3 ≡ stored l2 (answerFrom + 4) (octets 4 dropped)
-    → l4 ≡ stored l3 (answerFrom + 8) (octets 4 count) → l4 ≡ putHead l tick cell expired dropped count
+headed : (l l1 l2 l3 l4 : List ℕ) (tick : ℕ) (cell : Cell) (expired dropped count : ℕ) → l1 ≡ stored l tickFrom (lowOctets 4 tick)
+    → l2 ≡ stored (set l1 cellFrom (cell .nln)) answerFrom (lowOctets 4 expired) → l3 ≡ stored l2 (answerFrom + 4) (lowOctets 4 dropped)
+    → l4 ≡ stored l3 (answerFrom + 8) (lowOctets 4 count) → l4 ≡ putHead l tick cell expired dropped count
 unfolding putHead
 headed l l1 l2 l3 l4 tick cell expired dropped count p q r s =
     three-runs (set l1 cellFrom (cell .nln)) l2 l3 l4 answerFrom 4 4 _ _ _ (length-octets 4 expired) (length-octets 4 dropped) q r s
-    ∙ ap (λ (x : List ℕ). stored x answerFrom (octets 4 expired ++ (octets 4 dropped ++ octets 4 count)))
+    ∙ ap (λ (x : List ℕ). stored x answerFrom (lowOctets 4 expired ++ (lowOctets 4 dropped ++ lowOctets 4 count)))
     (stored-one l1 cellFrom (cell .nln) ∙ ap (λ (x : List ℕ). stored x cellFrom (cellOctets cell)) p)
 
 returns : tie.Need-returns

@@ -7,13 +7,13 @@ use lib.ListN.{set}
 use borrow.Author.Needs.{needs}
 use Rattle.arrays.specs.Runs.{stored}
 use Rattle.receiver.specs.Step.{mostEntries}
-use Rattle.layout.specs.Octets.{octets}
+use Rattle.layout.specs.Octets.{lowOctets}
 use Rattle.layout.specs.Layout.{toldsFrom, toldLength, toldPlace, putNumber}
 use Rattle.layout.proofs.States.{in-none, no-such, at-entry}
 use Rattle.layout.proofs.answer.put_number.Statement.{statement}
 use Rattle.layout.proofs.answer.put_number.Tie as tie
 
-numbered : (l k : List ℕ) (j key number : ℕ) → k ≡ stored l (toldPlace j) (octets 8 key) → set k (toldsFrom + 8 + toldLength * j) number ≡ putNumber l j key number
+numbered : (l k : List ℕ) (j key number : ℕ) → k ≡ stored l (toldPlace j) (lowOctets 8 key) → set k (toldsFrom + 8 + toldLength * j) number ≡ putNumber l j key number
 unfolding putNumber
 numbered l k j key number p =
     let q : toldsFrom + 8 + toldLength * j ≡ toldPlace j + 8 = omega arith in

@@ -5,7 +5,7 @@ use native.Mathlib.Nat.{zero-add}
 use native.Mathlib.Omega.{arith}
 use borrow.Author.Tests.{not-false}
 use Rattle.receiver.specs.Channels.{places}
-use Rattle.layout.specs.Sweep.{Running}
+use Rattle.layout.specs.Inner.{Running}
 use Rattle.layout.proofs.NoneOut.{many, running-none, running-more}
 use Rattle.layout.proofs.looking.all_run.Statement.{statement}
 use Rattle.layout.proofs.looking.all_run.Tie as tie

@@ -4,7 +4,7 @@ use Prim.Native.Nat.{_-_, _≤_}
 use native.Mathlib.Omega.{arith}
 use borrow.Author.Needs.{needs}
 use borrow.Author.Tests.{not-false}
-use Rattle.layout.specs.Sweep.{Running}
+use Rattle.layout.specs.Inner.{Running}
 use Rattle.layout.proofs.NoneOut.{running-among, running-none, running-next}
 use Rattle.layout.proofs.looking.group_runs.Statement.{statement}
 use Rattle.layout.proofs.looking.group_runs.Tie as tie

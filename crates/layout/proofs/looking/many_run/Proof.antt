@@ -3,7 +3,7 @@ use mathlib.Core.Path.{_≡_}
 use Prim.Native.Nat.{_-_, _%_, _≤_}
 use native.Mathlib.Omega.{arith}
 use borrow.Author.Tests.{not-false}
-use Rattle.layout.specs.Sweep.{Running}
+use Rattle.layout.specs.Inner.{Running}
 use Rattle.layout.proofs.NoneOut.{running-quiet, running-none, running-more}
 use Rattle.layout.proofs.looking.many_run.Statement.{statement}
 use Rattle.layout.proofs.looking.many_run.Tie as tie

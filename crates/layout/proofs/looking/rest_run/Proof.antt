@@ -5,7 +5,7 @@ use native.Mathlib.Omega.{arith}
 use borrow.Author.Needs.{needs}
 use borrow.Author.Tests.{not-false}
 use Rattle.receiver.specs.Channels.{places}
-use Rattle.layout.specs.Sweep.{Running}
+use Rattle.layout.specs.Inner.{Running}
 use Rattle.layout.proofs.Runs.{whole}
 use Rattle.layout.proofs.NoneOut.{many, running-none, running-more}
 use Rattle.layout.proofs.looking.rest_run.Statement.{statement}

@@ -5,7 +5,7 @@ use native.Mathlib.Omega.{arith}
 use lib.ListN.{length-set}
 use borrow.Author.Needs.{needs}
 use Rattle.arrays.specs.Runs.{stored}
-use Rattle.layout.specs.Octets.{octets}
+use Rattle.layout.specs.Octets.{lowOctets}
 use Rattle.layout.proofs.octets.put_u32.Statement.{statement}
 use Rattle.layout.proofs.octets.put_u32.Tie as tie
 
@@ -46,7 +46,7 @@ same-length : tie.Need-same-length
 same-length c = search needs
 
 returns : tie.Need-returns
-unfolding octets stored
+unfolding lowOctets stored
 returns c = simp (towards-suc, div-div-eq-div-mul)
 
 pub put-u32-spec : {M : Type 1} → statement M

@@ -7,7 +7,7 @@ use native.Mathlib.Omega.{arith}
 use lib.ListN.{set, length-set}
 use Rattle.arrays.specs.Runs.{stored}
 use Rattle.arrays.proofs.Running.{more}
-use Rattle.layout.specs.Octets.{octets}
+use Rattle.layout.specs.Octets.{lowOctets}
 use Rattle.layout.proofs.records.put_small.Statement.{statement}
 use Rattle.layout.proofs.records.put_small.Tie as tie
 
@@ -73,7 +73,7 @@ same-length : tie.Need-same-length
 same-length c = c .before .before .put-u32 .kept .0 ∙ simp length-set
 
 returns : tie.Need-returns
-unfolding octets
+unfolding lowOctets
 returns c = more 8 _ _ _ _ _ _ (eight _ _ _ _ _ _ _ _ _ _) refl (c .before .before .put-u32 .ensures)
 
 pub put-small-spec : {M : Type 1} → statement M

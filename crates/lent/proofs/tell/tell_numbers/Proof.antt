@@ -6,7 +6,7 @@ use lib.Dec.{lit<}
 use borrow.Author.Needs.{needs}
 use Rattle.receiver.specs.declared.Record.{Record}
 use Rattle.receiver.specs.Model.{keyOf}
-use Rattle.lent.specs.Entry.{entryFrom}
+use Rattle.lent.specs.Inner.{entryFrom}
 use Rattle.lent.proofs.FromNumbers.{key-from}
 use Rattle.lent.proofs.Outcomes.{wide-value, telling-other, telling-ours}
 use Rattle.lent.proofs.tell.tell_numbers.Statement.{statement}

@@ -13,7 +13,7 @@ use Rattle.csn1.specs.Grammar.{format}
 use Rattle.csn1.proofs.Callees.{flagged-refused}
 use Rattle.nch.specs.Octets.{amr}
 use Rattle.nch.specs.Places.{amrAt}
-use Rattle.nch.specs.Passing.{partPassed, amrRun}
+use Rattle.nch.specs.Inner.{partPassed, amrRun}
 use Rattle.arrays.proofs.Zeroed.{opt-left-short, opt-left-none, opt-left-bad, opt-left-some}
 use Rattle.nch.proofs.Filled7.{amr-stored}
 use native.Mathlib.Omega.{arith}

@@ -7,8 +7,9 @@ use Rattle.csn1.specs.declared.Refusal.{Refusal}
 use Rattle.csn1.specs.Grammar.{format}
 use Rattle.arrays.proofs.Zeroed.{release-left-bad, release-left-none, release-left-some}
 use Rattle.nch.specs.Octets.{release6}
-use Rattle.nch.specs.Places.{release6At, release6Length}
-use Rattle.nch.specs.Passing.{release6Passed, release6Run}
+use Rattle.nch.specs.Places.{release6At}
+use Rattle.nch.specs.Inner.{release6Passed, release6Run}
+use Rattle.nch.proofs.Ends.{release6Length}
 use Rattle.nch.proofs.Filled6.{no-numbers6}
 use Rattle.nch.proofs.additions.fill_release6.Statement.{statement}
 use Rattle.nch.proofs.additions.fill_release6.Tie as tie

@@ -7,8 +7,9 @@ use Rattle.csn1.specs.declared.Refusal.{Refusal}
 use Rattle.csn1.specs.Grammar.{format}
 use Rattle.arrays.proofs.Zeroed.{release-left-bad, release-left-none, release-left-some}
 use Rattle.nch.specs.Octets.{release7}
-use Rattle.nch.specs.Places.{release7At, release7Length}
-use Rattle.nch.specs.Passing.{release7Passed, release7Run}
+use Rattle.nch.specs.Places.{release7At}
+use Rattle.nch.specs.Inner.{release7Passed, release7Run}
+use Rattle.nch.proofs.Ends.{release7Length}
 use Rattle.nch.proofs.Filled7.{no-numbers7}
 use Rattle.nch.proofs.additions.fill_release7.Statement.{statement}
 use Rattle.nch.proofs.additions.fill_release7.Tie as tie

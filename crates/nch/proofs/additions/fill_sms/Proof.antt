@@ -11,7 +11,7 @@ use Rattle.csn1.proofs.Reading.{found, found-lt, num-got, num-short}
 use Rattle.csn1.proofs.Answers.{first-bad, then-bad, then-ok}
 use Rattle.arrays.proofs.Zeroed.{opt-left-short, opt-left-none, opt-left-bad, opt-left-some}
 use Rattle.nch.specs.Places.{smsAt}
-use Rattle.nch.specs.Passing.{partPassed, smsRun}
+use Rattle.nch.specs.Inner.{partPassed, smsRun}
 use Rattle.nch.proofs.Filled7.{sms-stored}
 use native.Mathlib.Omega.{arith}
 use Rattle.nch.proofs.additions.fill_sms.Statement.{statement}

@@ -4,13 +4,13 @@ use mathlib.Core.Path.{refl, ap}
 use mathlib.Core.Bool.{true, not}
 use mathlib.Core.Logic.{⊎-elim}
 use Prim.Native.Nat.{_-_}
-use Rattle.nch.specs.Write.{yes}
+use Rattle.nch.specs.Write.{anyMark}
 use Rattle.nch_write.proofs.Testing.{Places, places-begin, places-used, places-unused, places-end, places-failed}
 use Rattle.nch_write.proofs.checks.marks_in_range.Statement.{statement}
 use Rattle.nch_write.proofs.checks.marks_in_range.Tie as tie
 
 abbrev Inv-loop : tie.InvT-loop
-Inv-loop n marks i₀ i = Places yes not n marks 4 true i
+Inv-loop n marks i₀ i = Places anyMark not n marks 4 true i
 
 abbrev μ-loop : tie.MeasureT-loop
 μ-loop n marks i₀ i = 4 - i

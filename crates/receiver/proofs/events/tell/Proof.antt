@@ -1,6 +1,6 @@
 -- `receiver::events::tell` meets its contract. Assumes nothing.
 use mathlib.Core.Path.{ap}
-use Rattle.receiver.specs.Store.{withSlots}
+use Rattle.receiver.specs.Model.{withSlots}
 use Rattle.receiver.proofs.Entering.{miss-told, miss-slots, hit-told, hit-slots}
 use native.Mathlib.Omega.{arith}
 use borrow.Author.Needs.{needs}

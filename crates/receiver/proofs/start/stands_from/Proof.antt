@@ -2,7 +2,7 @@
 use mathlib.Core.Path.{_≡_, refl, sym, _∙_}
 use Prim.Native.Nat.{_-_}
 use lib.ListN.{length}
-use Rattle.receiver.specs.Store.{standsFrom}
+use Rattle.receiver.specs.Inner.{standsFrom}
 use Rattle.receiver.proofs.Keys.{stands-here, stands-next, stands-past}
 use native.Mathlib.Omega.{arith}
 use borrow.Author.Needs.{needs}

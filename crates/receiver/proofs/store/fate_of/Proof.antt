@@ -2,7 +2,7 @@
 use mathlib.Core.Path.{sym, _∙_}
 use borrow.Author.Tests.{eq-eqb, ne-eqb}
 use Rattle.receiver.specs.Model.{ranOutOf, takenOf}
-use Rattle.receiver.specs.Store.{fateOf}
+use Rattle.receiver.specs.Inner.{fateOf}
 use borrow.Author.Needs.{needs}
 use Rattle.receiver.proofs.store.fate_of.Statement.{statement}
 use Rattle.receiver.proofs.store.fate_of.Tie as tie

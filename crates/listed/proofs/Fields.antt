@@ -1,7 +1,8 @@
 -- Every field of an answer, in order, so that one test compares two answers whole. Assumes nothing.
 use mathlib.Core.List.{List, [], _∷_, _++_, map}
 use mathlib.Core.Bool.{Bool, true, false, not}
-use Prim.Native.Nat.{ℕ}
+use mathlib.Core.Logic.{_⊎_, inl as number, inr as flag}
+use Prim.Native.Nat.{ℕ, zero, suc}
 use lib.Dec.{eqb}
 use Rattle.bits.specs.Field.{both}
 use Rattle.call.specs.declared.Call.{Call}
@@ -25,48 +26,42 @@ use Rattle.gcc.specs.declared.digits.Reading.{Reading as DigitsReading}
 
 -- ## One test for all
 
-pub data Field : Type 0 where
-  number : ℕ → Field
-  flag : Bool → Field
-
--- the fields of a struct; an answer is arrays of structs, where a lone struct is an array of one
-abbrev pub Struct : Type 0
-Struct = List Field
-
-abbrev pub Whole : Type 0
-Whole = List (List Struct)
+-- a field is a number or a flag; a struct is a list of fields, 1 deep; an answer is arrays of structs, 3 deep, where a lone struct is an array of one
+abbrev pub Nested : ℕ → Type 0
+Nested zero = ℕ ⊎ Bool
+Nested (suc n) = List (Nested n)
 
 abbrev pub sameFlag : Bool → Bool → Bool
 sameFlag true b = b
 sameFlag false b = not b
 
-abbrev pub sameField : Field → Field → Bool
+abbrev pub sameField : Nested 0 → Nested 0 → Bool
 sameField (number m) (number n) = eqb m n
 sameField (flag a) (flag b) = sameFlag a b
 sameField (number m) (flag b) = false
 sameField (flag a) (number n) = false
 
-abbrev pub each : {A : Type 0} → (A → A → Bool) → List A → List A → Bool
-each t [] [] = true
-each t [] (b ∷ m) = false
-each t (a ∷ l) [] = false
-each t (a ∷ l) (b ∷ m) = both (t a b) (each t l m)
+abbrev pub pairwise : {A : Type 0} → (A → A → Bool) → List A → List A → Bool
+pairwise t [] [] = true
+pairwise t [] (b ∷ m) = false
+pairwise t (a ∷ l) [] = false
+pairwise t (a ∷ l) (b ∷ m) = both (t a b) (pairwise t l m)
 
-abbrev pub same : Whole → Whole → Bool
-same = each (each (each sameField))
+abbrev pub same : Nested 3 → Nested 3 → Bool
+same = pairwise (pairwise (pairwise sameField))
 
-abbrev pub alone : Struct → List Struct
+abbrev pub alone : Nested 1 → Nested 2
 alone s = s ∷ []
 
-abbrev pub numbers : List ℕ → List Struct
+abbrev pub numbers : List ℕ → Nested 2
 numbers l = alone (map number l)
 
 -- ## What `nch::read` answers
 
-abbrev pub ofDescription : Description → Struct
+abbrev pub ofDescription : Description → Nested 1
 ofDescription d = number (d .channel) ∷ flag (d .hopping) ∷ flag (d .shortlist) ∷ number (d .length) ∷ number (d .frequencies) ∷ []
 
-abbrev pub ofCall : Call → Struct
+abbrev pub ofCall : Call → Nested 1
 ofCall c =
     number (c .reference)
     ∷ flag (c .vgcs)
@@ -76,16 +71,16 @@ ofCall c =
     ∷ flag (c .described)
     ∷ ofDescription (c .description)
 
-abbrev pub ofReduced : Reduced → Struct
+abbrev pub ofReduced : Reduced → Nested 1
 ofReduced r = number (r .reference) ∷ flag (r .vgcs) ∷ []
 
-abbrev pub ofRandom : Random → Struct
+abbrev pub ofRandom : Random → Nested 1
 ofRandom r = flag (r .segment) ∷ flag (r .given) ∷ number (r .rand) ∷ []
 
-abbrev pub ofRelease6 : Release6 → Struct
+abbrev pub ofRelease6 : Release6 → Nested 1
 ofRelease6 r = flag (r .there) ∷ flag (r .counted) ∷ number (r .cellcount) ∷ number (r .reducedcount) ∷ number (r .randomcount) ∷ []
 
-abbrev pub ofRelease7 : Release7 → Struct
+abbrev pub ofRelease7 : Release7 → Nested 1
 ofRelease7 r =
     flag (r .there)
     ∷ number (r .markcount)
@@ -101,7 +96,7 @@ ofRelease7 r =
     ∷ flag (r .private)
     ∷ map flag (r .marks)
 
-abbrev pub ofNotification : Notification → Whole
+abbrev pub ofNotification : Notification → Nested 3
 ofNotification m =
     alone (flag (m .numbered) ∷ number (m .nln) ∷ number (m .callcount) ∷ [])
     ∷ map ofCall (m .calls)
@@ -111,12 +106,12 @@ ofNotification m =
     ∷ alone (ofRelease7 (m .release7))
     ∷ []
 
-abbrev pub ofReading : Reading → Whole
+abbrev pub ofReading : Reading → Nested 3
 ofReading r = alone (number (r .refusal .number) ∷ number (r .used) ∷ []) ∷ ofNotification (r .«record»)
 
 -- ## What an event is answered
 
-abbrev pub ofCommon : Common → Struct
+abbrev pub ofCommon : Common → Nested 1
 ofCommon c =
     flag (c .counted)
     ∷ number (c .cellcount)
@@ -133,7 +128,7 @@ ofCommon c =
     ∷ flag (c .private)
     ∷ []
 
-abbrev pub ofRecord : Record → Struct
+abbrev pub ofRecord : Record → Nested 1
 ofRecord r =
     flag (r .full)
     ∷ flag (r .segmented)
@@ -144,16 +139,16 @@ ofRecord r =
     ∷ ofCall (r .call)
     ++ ofCommon (r .common)
 
-abbrev pub ofTold : Told → Struct
+abbrev pub ofTold : Told → Nested 1
 ofTold t = number (t .key) ∷ number (t .number) ∷ ofRecord (t .«record»)
 
-abbrev pub ofSlot : Slot → Struct
+abbrev pub ofSlot : Slot → Nested 1
 ofSlot s = number (s .half) ∷ number (s .since) ∷ ofRecord (s .«record»)
 
-abbrev pub ofReceiver : Receiver → Whole
+abbrev pub ofReceiver : Receiver → Nested 3
 ofReceiver r = map ofSlot (r .slots) ∷ numbers (r .keys) ∷ numbers (r .tick ∷ r .t3206 ∷ r .t3208 ∷ r .cell .nln ∷ []) ∷ []
 
-abbrev pub ofAnswer : Answer → Whole
+abbrev pub ofAnswer : Answer → Nested 3
 ofAnswer a =
     numbers (a .refusal .number ∷ a .expired ∷ a .dropped ∷ a .count ∷ [])
     ∷ map ofTold (a .entries)
@@ -161,12 +156,12 @@ ofAnswer a =
 
 -- ## What `gcc::cause::read` and `gcc::digits::read` answer
 
-abbrev pub ofMeaning : Meaning → Struct
+abbrev pub ofMeaning : Meaning → Nested 1
 ofMeaning Nothing = []
 ofMeaning (Specific n) = number n ∷ []
 ofMeaning Unspecific = flag true ∷ []
 
-abbrev pub ofCause : CauseReading → Whole
+abbrev pub ofCause : CauseReading → Nested 3
 ofCause r =
     numbers (r .refusal ∷ r .cause .count ∷ r .cause .size ∷ [])
     ∷ alone (ofMeaning (r .meaning))
@@ -174,5 +169,5 @@ ofCause r =
     ∷ numbers (r .cause .diagnostics)
     ∷ []
 
-abbrev pub ofDigits : DigitsReading → Whole
+abbrev pub ofDigits : DigitsReading → Nested 3
 ofDigits r = numbers (r .refusal ∷ []) ∷ numbers (r .digits) ∷ []

@@ -1,4 +1,4 @@
--- What the code of the store and of the setup says of lists. Assumes nothing.
+-- What only private functions' contracts speak of; nothing public rests on it. Assumes nothing.
 use mathlib.Core.List.{List}
 use mathlib.Core.Bool.{Bool}
 use Prim.Native.Nat.{ℕ}
@@ -6,15 +6,10 @@ use lib.ListN.{length, drop}
 use lib.Dec.{ltb}
 use Rattle.bits.specs.Field.{pick}
 use Rattle.receiver.specs.declared.Slot.{Slot}
-use Rattle.receiver.specs.declared.Receiver.{Receiver}
 use Rattle.receiver.specs.declared.Rule.{Rule}
 use Rattle.receiver.specs.declared.store.Fate.{Fate}
 use Rattle.receiver.specs.declared.store.Fate.the-variants.{Stays, RanOut, Taken}
-use Rattle.receiver.specs.Model.{indexOf, ranOutOf, takenOf, remade}
-
--- a receiver with other places
-abbrev pub withSlots : Receiver → List Slot → Receiver
-withSlots r l = remade r l (r .tick) (r .cell)
+use Rattle.receiver.specs.Model.{indexOf, ranOutOf, takenOf}
 
 -- what becomes of a place
 unfoldable pub fateOf : ℕ → ℕ → Rule → ℕ → Slot → Fate

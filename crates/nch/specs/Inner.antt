@@ -1,22 +1,27 @@
--- What the readers of NT/N Rest Octets pass on, and the numbers that they leave of what they read. Assumes nothing.
+-- What only private functions' contracts speak of; nothing public rests on it. Assumes nothing.
 use mathlib.Core.List.{List, [], _∷_}
-use mathlib.Core.Bool.{false}
+use mathlib.Core.Bool.{Bool, false}
 use mathlib.Core.Option.{Option}
-use Prim.Native.Nat.{ℕ}
-use lib.ListN.{length}
+use Prim.Native.Nat.{ℕ, _+_, _≤_}
+use lib.ListN.{length, getD}
+use Rattle.bits.specs.Field.{both}
 use Rattle.csn1.specs.Format.{Res, ok, bad, noRefusal}
 use Rattle.csn1.specs.Told.{isThere, orZero, isOne, asBit}
-use Rattle.arrays.specs.Runs.{listRun}
+use Rattle.arrays.specs.Limits.{octet, word}
+use Rattle.arrays.specs.Inner.{listRun}
+use Rattle.call.specs.declared.Call.{Call}
 use Rattle.call.specs.Call.{CallValue, callOf, noCall}
+use Rattle.call.specs.Write.{callInRange, callIsLow, callLengthRight, callHopsRight}
+use Rattle.nch.specs.declared.Reduced.{Reduced}
 use Rattle.nch.specs.declared.lists.CallsPassed.{CallsPassed}
 use Rattle.nch.specs.declared.lists.ListPassed.{ListPassed}
 use Rattle.nch.specs.declared.additions.Release6Passed.{Release6Passed}
 use Rattle.nch.specs.declared.additions.PartPassed.{PartPassed}
-use Rattle.nch.specs.Octets.{Release6Value, AmrValue, Release7Value, Value, count, cipheredValue, describedValue, reducedsOf, randomsOf, marksOf}
-use Rattle.nch.specs.Told.{reducedOf, noReduced, randomOf, noRandom, release6Of, orFalse, fullRate, halfRate, confidentiality, privacy, release7Of, recordOf}
-use Rattle.nch.specs.Places.{mostCalls, mostReduceds, mostRandoms, mostMarks}
-use Rattle.nch.specs.CallNumbers.{callNumbers}
-use Rattle.nch.specs.NotificationNumbers.{reducedNumbers, randomNumbers, markNumbers, release6Numbers, release7Numbers, numbersOf}
+use Rattle.nch.specs.Octets.{Release6Value, AmrValue, Release7Value, Value, count, cipheredValue, describedValue, reducedsIn, randomsIn, marksIn}
+use Rattle.nch.specs.Told.{reducedOf, noReduced, randomOf, noRandom, release6Of, fullRate, halfRate, confidentiality, privacy, release7Of, recordOf}
+use Rattle.nch.specs.Places.{mostCalls, reducedLength, mostReduceds, mostRandoms, mostMarks, recordLength}
+use Rattle.nch.specs.CallNumbers.{callNumbers, whole}
+use Rattle.nch.specs.NotificationNumbers.{reducedNumbers, randomNumbers, markNumbers, release6Numbers, release7Numbers, numbersOf, reducedBy}
 
 -- ## What is passed on: why not, what refusals 6 and 7 count, and the place behind the part
 
@@ -34,12 +39,12 @@ partPassed (ok v q) = record { refusal = noRefusal; at = q }
 
 abbrev pub release6Passed : Res (Option Release6Value) → Release6Passed
 release6Passed (bad r) = record { refusal = r; reduced = 0; randoms = 0; at = 0 }
-release6Passed (ok v q) = record { refusal = noRefusal; reduced = length (reducedsOf v); randoms = length (randomsOf v); at = q }
+release6Passed (ok v q) = record { refusal = noRefusal; reduced = length (reducedsIn v); randoms = length (randomsIn v); at = q }
 
 -- of Release 7 how many marks there are
 abbrev pub release7Passed : Res (Option Release7Value) → ListPassed
 release7Passed (bad r) = record { refusal = r; count = 0; at = 0 }
-release7Passed (ok v q) = record { refusal = noRefusal; count = length (marksOf v); at = q }
+release7Passed (ok v q) = record { refusal = noRefusal; count = length (marksIn v); at = q }
 
 -- ## What is left in the array
 
@@ -54,9 +59,6 @@ randomsRun l = listRun randomOf noRandom randomNumbers mostRandoms l
 
 abbrev pub marksRun : List ℕ → List ℕ
 marksRun l = listRun isOne false markNumbers mostMarks l
-
-abbrev pub uplinkRun : Option ℕ → List ℕ
-uplinkRun v = asBit (isThere v) ∷ asBit (orFalse v) ∷ []
 
 abbrev pub amrRun : Option AmrValue → List ℕ
 amrRun v =
@@ -73,3 +75,34 @@ release7Run v = release7Numbers (release7Of v)
 
 abbrev pub allRun : Value → List ℕ
 allRun v = numbersOf (recordOf v)
+
+-- how many numbers there are with the number of bits used
+abbrev pub allLength : ℕ
+allLength = recordLength + 1
+
+-- ## What is told of numbers
+
+abbrev pub reducedFrom : List ℕ → ℕ → Reduced
+reducedFrom ns at = reducedBy whole ns at
+
+-- the numbers are there, and what is no flag fits its field
+pub record DescriptionFits (ns : List ℕ) (at : ℕ) : Type 0 where
+  pub there : at + 5 ≤ length ns
+  pub channel : getD ns at 0 ≤ word
+  pub octets : getD ns (at + 3) 0 ≤ octet
+
+pub record CallFits (ns : List ℕ) (at : ℕ) : Type 0 where
+  pub reference : getD ns at 0 ≤ word
+  pub priority : getD ns (at + 3) 0 ≤ octet
+  pub cipher : getD ns (at + 4) 0 ≤ octet
+  pub description : DescriptionFits ns (at + 6)
+
+pub record ReducedFits (ns : List ℕ) (at : ℕ) : Type 0 where
+  pub there : at + reducedLength ≤ length ns
+  pub reference : getD ns at 0 ≤ word
+
+-- ## Writing
+
+-- a call that no test refuses
+abbrev pub callRight : Call → Bool
+callRight c = both (callInRange c) (both (callIsLow c) (both (callLengthRight c) (callHopsRight c)))

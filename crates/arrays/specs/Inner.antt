@@ -1,10 +1,17 @@
--- What the reader of a part leaves in an array of zeros, and what it passes on. Assumes nothing.
+-- What only private functions' contracts speak of; nothing public rests on it. Assumes nothing.
 use mathlib.Core.Path.{_≡_}
-use mathlib.Core.List.{List}
+use mathlib.Core.List.{List, _∷_, map}
 use Prim.Native.Nat.{ℕ, _≤_}
-use lib.ListN.{getD}
+use lib.ListN.{length, getD}
 use Rattle.csn1.specs.Format.{Res, ok, bad}
-use Rattle.arrays.specs.Runs.{stored}
+use Rattle.csn1.specs.Told.{padded}
+use Rattle.arrays.specs.Runs.{stored, each}
+
+-- ## What the reader of a part leaves in an array of zeros, and what it passes on
+
+-- how many were read, and the numbers of the first n of them in their places
+abbrev pub listRun : {A B : Type 0} → (A → B) → B → (B → List ℕ) → ℕ → List A → List ℕ
+listRun told z f n l = length l ∷ each f (padded z n (map told l))
 
 -- every place from one on holds 0
 abbrev pub Zeros : List ℕ → ℕ → Type 0

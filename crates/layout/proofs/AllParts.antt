@@ -1,0 +1,92 @@
+-- All parts of an answer are the answer. Assumes nothing.
+use mathlib.Core.Path.{_≡_, sym, ap, _∙_}
+use mathlib.Core.Bool.{Bool}
+use mathlib.Core.List.{List}
+use Prim.Native.Nat.{ℕ, suc, _<_}
+use native.Mathlib.Omega.{arith}
+use lib.Dec.{lit<}
+use lib.ListN.{length, getD}
+use lib.Seq.{ext-getD}
+use Rattle.csn1.specs.Told.{isOne, asBit}
+use Rattle.csn1.proofs.Writing.{flag-back}
+use Rattle.receiver.specs.declared.Record.{Record}
+use Rattle.receiver.specs.declared.Told.{Told}
+use Rattle.receiver.specs.Step.{noTold, mostEntries}
+use Rattle.layout.specs.Layout.{Last, lastOf}
+use Rattle.layout.specs.Parts.{recordNumbers, toldNumbers, partCount, partOf}
+use Rattle.layout.proofs.Numbers.{length-table}
+
+same-flag : (a b : Bool) → asBit a ≡ asBit b → a ≡ b
+same-flag a b p = sym (flag-back a) ∙ ap isOne p ∙ flag-back b
+
+-- a record is its thirty numbers
+same-record : (r s : Record) → ((n : ℕ) → n < 30 → getD (recordNumbers r) n 0 ≡ getD (recordNumbers s) n 0) → r ≡ s
+same-record r s p = λ i.
+    record {
+      full = same-flag (r .full) (s .full) (p 4 (lit< tt)) i;
+      call =
+          record {
+            reference = p 0 (lit< tt) i;
+            vgcs = same-flag (r .call .vgcs) (s .call .vgcs) (p 5 (lit< tt)) i;
+            acknowledged = same-flag (r .call .acknowledged) (s .call .acknowledged) (p 6 (lit< tt)) i;
+            priority = p 24 (lit< tt) i;
+            cipher = p 25 (lit< tt) i;
+            described = same-flag (r .call .described) (s .call .described) (p 7 (lit< tt)) i;
+            description =
+                record {
+                  channel = p 1 (lit< tt) i;
+                  hopping = same-flag (r .call .description .hopping) (s .call .description .hopping) (p 8 (lit< tt)) i;
+                  shortlist = same-flag (r .call .description .shortlist) (s .call .description .shortlist) (p 9 (lit< tt)) i;
+                  length = p 26 (lit< tt) i;
+                  frequencies = p 2 (lit< tt) i;
+                };
+          };
+      segmented = same-flag (r .segmented) (s .segmented) (p 10 (lit< tt)) i;
+      segment = same-flag (r .segment) (s .segment) (p 11 (lit< tt)) i;
+      given = same-flag (r .given) (s .given) (p 12 (lit< tt)) i;
+      rand = p 3 (lit< tt) i;
+      emergency = same-flag (r .emergency) (s .emergency) (p 13 (lit< tt)) i;
+      common =
+          record {
+            counted = same-flag (r .common .counted) (s .common .counted) (p 14 (lit< tt)) i;
+            cellcount = p 27 (lit< tt) i;
+            b22 = same-flag (r .common .b22) (s .common .b22) (p 15 (lit< tt)) i;
+            uplinked = same-flag (r .common .uplinked) (s .common .uplinked) (p 16 (lit< tt)) i;
+            uplink = same-flag (r .common .uplink) (s .common .uplink) (p 17 (lit< tt)) i;
+            amr = same-flag (r .common .amr) (s .common .amr) (p 18 (lit< tt)) i;
+            fullrated = same-flag (r .common .fullrated) (s .common .fullrated) (p 19 (lit< tt)) i;
+            fullrate = p 28 (lit< tt) i;
+            halfrated = same-flag (r .common .halfrated) (s .common .halfrated) (p 20 (lit< tt)) i;
+            halfrate = p 29 (lit< tt) i;
+            sms = same-flag (r .common .sms) (s .common .sms) (p 21 (lit< tt)) i;
+            confidential = same-flag (r .common .confidential) (s .common .confidential) (p 22 (lit< tt)) i;
+            private = same-flag (r .common .private) (s .common .private) (p 23 (lit< tt)) i;
+          };
+    }
+
+-- an entry is its key, its number and those of its record
+same-told : (a b : Told) → ((n : ℕ) → n < 32 → getD (toldNumbers a) n 0 ≡ getD (toldNumbers b) n 0) → a ≡ b
+same-told a b p = λ i.
+    record {
+      key = p 0 (lit< tt) i;
+      number = p 1 (lit< tt) i;
+      «record» = same-record (a .«record») (b .«record») (λ n h. p (suc (suc n)) (omega arith)) i;
+    }
+
+-- an answer is its three numbers and its entries
+pub same-answer : (a b : Last)
+    → length (a .entries) ≡ mostEntries
+    → length (b .entries) ≡ mostEntries
+    → ((entry part : ℕ) → entry < mostEntries → part < partCount → partOf a entry part ≡ partOf b entry part)
+    → a ≡ b
+unfolding partOf
+same-answer a b v w p =
+    let e : a .entries ≡ b .entries =
+    ext-getD noTold (a .entries) (b .entries) (v ∙ sym w)
+    (λ j h. same-told (getD (a .entries) j noTold) (getD (b .entries) j noTold) (λ n k. p j (suc (suc (suc n))) (omega (arith, h, v)) (omega arith)))
+    in
+    λ i. record { expired = p 0 0 (lit< tt) (lit< tt) i; dropped = p 0 1 (lit< tt) (lit< tt) i; count = p 0 2 (lit< tt) (lit< tt) i; entries = e i }
+
+pub nine-entries : (l : List ℕ) → length (lastOf l .entries) ≡ mostEntries
+unfolding lastOf
+nine-entries l = length-table _ 0 mostEntries

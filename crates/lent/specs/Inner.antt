@@ -1,0 +1,67 @@
+-- What only private functions' contracts speak of; nothing public rests on it. Assumes nothing.
+use mathlib.Core.Path.{_≡_}
+use mathlib.Core.List.{List}
+use mathlib.Core.Bool.{Bool, true, false}
+use Prim.Native.Nat.{ℕ, _+_, _≤_, _<_}
+use lib.ListN.{length, getD}
+use lib.Dec.{eqb}
+use Rattle.bits.specs.Field.{pick}
+use Rattle.arrays.specs.Limits.{word}
+use Rattle.nch.specs.CallNumbers.{callFrom}
+use Rattle.nch.specs.Inner.{CallFits, reducedFrom, ReducedFits}
+use Rattle.nch.specs.NotificationNumbers.{recordFrom}
+use Rattle.receiver.specs.declared.Record.{Record}
+use Rattle.receiver.specs.declared.Slot.{Slot}
+use Rattle.receiver.specs.declared.Cell.{Cell}
+use Rattle.receiver.specs.declared.Rule.{Rule}
+use Rattle.receiver.specs.declared.Met.{Met}
+use Rattle.receiver.specs.Model.{late, joinedOf, only, meetHalf, withSlots}
+use Rattle.receiver.specs.Entries.{callWith, reducedWith}
+use Rattle.receiver.specs.Step.{noTold, slotsAfter, toldOf, allAfter, allTold, acceptedWith}
+use Rattle.layout.specs.Layout.{isState, decodeOf, keysIn, toldNo, lastOf}
+use Rattle.lent.specs.Events.{tellOctets, allOctets, acceptedOctets, answered}
+
+-- ## The entries of an NCH message by its numbers
+
+-- the entry whose numbers stand at a place: a call, with the random entry and the mark at these places where it owns them, or a reduced reference
+abbrev pub entryFrom : List ℕ → Bool → ℕ → ℕ → ℕ → Record
+entryFrom ns full at random mark =
+    pick full (callWith (recordFrom ns) random mark (callFrom ns at)) (reducedWith (recordFrom ns) random (reducedFrom ns at))
+
+-- its numbers fit their fields
+pub record EntryFits (ns : List ℕ) (full : Bool) (at mark : ℕ) : Type 0 where
+  pub there : at ≤ 59
+  pub reference : getD ns at 0 ≤ word
+  pub service : getD ns (at + 1) 0 ≤ 1
+  pub call : full ≡ true → CallFits ns at × ((at ≤ 36) × (mark < 4))
+  pub reduced : full ≡ false → ReducedFits ns at
+
+-- ## An entry, and all of them, told in place
+
+-- a half that comes where one is held
+abbrev pub metHalf : ℕ → Slot → Record → Met
+metHalf half s e = meetHalf half s e (pick (eqb half 1) (joinedOf e (s .«record»)) (joinedOf (s .«record») e)) (only 4 s)
+
+-- what telling the j-th entry leaves, and what is read there
+pub record Telling (l : List ℕ) (ch now j : ℕ) (e : Record) (left : List ℕ) : Type 0 where
+  pub octets : left ≡ tellOctets l ch now j e
+  pub places : decodeOf left ≡ withSlots (decodeOf l) (slotsAfter (keysIn l) ch now (decodeOf l .slots) e)
+  pub told : toldNo left j ≡ toldOf (keysIn l) ch now (decodeOf l .slots) e
+
+-- what telling all of them leaves, and what is read there
+pub record AllTold (l : List ℕ) (ch now : ℕ) (es : List Record) (left : List ℕ) : Type 0 where
+  pub octets : left ≡ allOctets l ch now 0 es
+  pub places : decodeOf left ≡ withSlots (decodeOf l) (allAfter (keysIn l) ch now (decodeOf l .slots) es)
+  pub told : (j : ℕ) → j < length es → toldNo left j ≡ getD (allTold (keysIn l) ch now (decodeOf l .slots) es) j noTold
+
+-- ## An event
+
+-- what an accepted event leaves, and what is read there
+pub record Accepted (l : List ℕ) (now : ℕ) (rule : Rule) (cell : Cell) (ch : ℕ) (es : List Record) (left : List ℕ) : Type 0 where
+  pub octets : left ≡ acceptedOctets l now rule cell ch es
+  pub receiver : decodeOf left ≡ acceptedWith (decodeOf l) now rule cell ch es .receiver
+  pub answer : lastOf left ≡ answered (acceptedWith (decodeOf l) now rule cell ch es)
+
+-- the number that comes before the event's own: 13, then 9
+unfoldable pub earlyCode : List ℕ → ℕ → ℕ
+earlyCode l time = pick (isState l) (pick (late time (decodeOf l .tick)) 9 0) 13
