@@ -1,11 +1,13 @@
 /* A small control room: events come as lines on standard input, and the calls they tell of go to standard output.
  *
- *     setup TICK T3206 T3208 CALL..     the calls to follow; NAME=CALL gives one a name
- *     nch TICK HEX                      NT/N Rest Octets came
- *     facch TICK HEX                    NOTIFICATION/FACCH came
- *     joined TICK CALL                  the call was joined
- *     reselected TICK, handed_over TICK, reconfigured TICK, tick TICK
+ *     setup TICK T3206 T3208 T3210 CALL..   the calls to follow; NAME=CALL gives one a name
+ *     nch TICK HEX                          NT/N Rest Octets came
+ *     facch TICK HEX                        NOTIFICATION/FACCH came
+ *     pch TICK CALL PART..                  the paging channel told of the call
+ *     joined TICK CALL                      the call was joined
+ *     reselected TICK, handed_over TICK, reconfigured TICK, left_idle TICK, tick TICK
  *
+ * PART is ciphered, full=HEX (the 36 bits of the reference), channel=HEX with allocation=HEX or list=HEX where it hops, rand=HEX (VSTK_RAND) or count=HEX.
  * TICK and the timers are in ms. CALL is a reference and its service, 4711/VBS or 4711/VGCS, or the key itself: reference times 2, and 1 more for VGCS.
  * A word that begins with # begins a comment. A line that cannot be understood is named on standard error and skipped, and the status is then 1.
  *
@@ -206,20 +208,21 @@ static const char *set_up(char **words, size_t n)
 {
     static uint32_t keys[WORDS];
     static const char *names[WORDS];
-    uint32_t tick, t3206, t3208;
-    if (n < 4) return "a setup is TICK T3206 T3208 CALL..";
+    uint32_t tick, t3206, t3208, t3210;
+    if (n < 5) return "a setup is TICK T3206 T3208 T3210 CALL..";
     if (!number(words[1], UINT32_MAX, &tick)) return "TICK is no number of 32 bits";
     if (!number(words[2], UINT32_MAX, &t3206)) return "T3206 is no number of 32 bits";
     if (!number(words[3], UINT32_MAX, &t3208)) return "T3208 is no number of 32 bits";
-    for (size_t i = 4; i < n; i++) {
+    if (!number(words[4], UINT32_MAX, &t3210)) return "T3210 is no number of 32 bits";
+    for (size_t i = 5; i < n; i++) {
         char *is = strchr(words[i], '=');
         if (is) *is = 0;
         if (is && (size_t)(is - words[i]) > NAME) return "a name is too long";
-        names[i - 4] = is ? words[i] : "";
-        if (!call_key(is ? is + 1 : words[i], &keys[i - 4])) return "CALL is no key, REFERENCE/VBS or REFERENCE/VGCS";
+        names[i - 5] = is ? words[i] : "";
+        if (!call_key(is ? is + 1 : words[i], &keys[i - 5])) return "CALL is no key, REFERENCE/VBS or REFERENCE/VGCS";
     }
 
-    uint32_t result = asternhaken_setup(state, sizeof state, keys, n - 4, tick, t3206, t3208);
+    uint32_t result = asternhaken_setup(state, sizeof state, keys, n - 5, tick, t3206, t3208, t3210);
     if (ASTERNHAKEN_REFUSAL(result) != ASTERNHAKEN_ACCEPTED) {
         show_event(tick, "setup");
         show_refusal(ASTERNHAKEN_REFUSAL(result));
@@ -231,9 +234,9 @@ static const char *set_up(char **words, size_t n)
     }
     is_set_up = 1;
     memset(calls, 0, sizeof calls);
-    n_calls = n - 4; /* at most ASTERNHAKEN_KEYS, or it had been refused */
+    n_calls = n - 5; /* at most ASTERNHAKEN_KEYS, or it had been refused */
     show_event(tick, "setup");
-    printf("T3206 %lu ms, T3208 %lu ms", (unsigned long)t3206, (unsigned long)t3208);
+    printf("T3206 %lu ms, T3208 %lu ms, T3210 %lu ms", (unsigned long)t3206, (unsigned long)t3208, (unsigned long)t3210);
     for (size_t i = 0; i < n_calls; i++) {
         calls[i].key = keys[i];
         strcpy(calls[i].name, names[i]);
@@ -255,6 +258,43 @@ static const char *message(char **words, size_t n, uint32_t tick, int is_nch)
     return NULL;
 }
 
+/* A part of a PCH entry: NAME=HEX, whose digits make one number, or a mark. */
+static int pch_part(char *word, struct asternhaken_pch_entry *entry)
+{
+    char *is = strchr(word, '=');
+    size_t digits = is ? strlen(is + 1) : 0;
+    uint64_t value = 0;
+    if (!strcmp(word, "ciphered")) return entry->ciphered = 1;
+    if (digits < 1 || digits > 16) return 0;
+    *is = 0;
+    for (const char *at = is + 1; *at; at++) {
+        if (digit(*at) < 0) return 0;
+        value = 16 * value + (uint64_t)digit(*at);
+    }
+    if (!strcmp(word, "full")) entry->full = 1, entry->reference = value;
+    else if (!strcmp(word, "channel")) entry->described = 1, entry->channel = value;
+    else if (!strcmp(word, "allocation")) entry->hops = 1, entry->allocation_octets = (digits + 1) / 2, entry->frequencies = value;
+    else if (!strcmp(word, "list")) entry->hops = entry->short_list = 1, entry->frequencies = value;
+    else if (!strcmp(word, "rand")) entry->rand_given = 1, entry->vstk_rand = value;
+    else if (!strcmp(word, "count")) entry->counted = 1, entry->cell_global_count = value;
+    else return 0;
+    return 1;
+}
+
+static const char *paging_channel(char **words, size_t n, uint32_t tick)
+{
+    struct asternhaken_pch_entry entry;
+    uint32_t key;
+    memset(&entry, 0, sizeof entry);
+    if (n < 3) return "the words are TICK CALL PART..";
+    if (!call_key(words[2], &key)) return "CALL is no key, REFERENCE/VBS or REFERENCE/VGCS";
+    entry.key = key;
+    for (size_t i = 3; i < n; i++)
+        if (!pch_part(words[i], &entry)) return "PART is no ciphered, full=, channel=, allocation=, list=, rand= or count= with up to 16 digits";
+    show_answer(asternhaken_pch(state, sizeof state, tick, &entry.key, ASTERNHAKEN_PCH_NUMBERS), tick, words[0]);
+    return NULL;
+}
+
 static const char *joined(char **words, size_t n, uint32_t tick)
 {
     uint32_t key;
@@ -269,25 +309,29 @@ static const struct {
     const char *word;
     uint32_t (*event)(uint8_t *state, size_t state_length, uint32_t tick);
     uint32_t leaves;
-} plain[4] = {
+} plain[] = {
     { "reselected", asternhaken_reselected, 1 },
     { "handed_over", asternhaken_handed_over, 1 },
     { "reconfigured", asternhaken_reconfigured, 0 },
+    { "left_idle", asternhaken_left_idle, 0 },
     { "tick", asternhaken_tick, 0 }
 };
+
+enum { PLAIN = sizeof plain / sizeof *plain };
 
 static const char *event(char **words, size_t n)
 {
     uint32_t tick;
-    int is_nch = !strcmp(words[0], "nch"), is_joined = !strcmp(words[0], "joined");
+    int is_nch = !strcmp(words[0], "nch"), is_pch = !strcmp(words[0], "pch"), is_joined = !strcmp(words[0], "joined");
     size_t k = 0;
     if (!strcmp(words[0], "setup")) return set_up(words, n);
-    while (k < 4 && strcmp(words[0], plain[k].word)) k++;
-    if (k == 4 && !is_nch && !is_joined && strcmp(words[0], "facch")) return "no such event";
+    while (k < PLAIN && strcmp(words[0], plain[k].word)) k++;
+    if (k == PLAIN && !is_nch && !is_pch && !is_joined && strcmp(words[0], "facch")) return "no such event";
     if (!is_set_up) return "no setup was accepted yet";
     if (n < 2 || !number(words[1], UINT32_MAX, &tick)) return "TICK is no number of 32 bits";
+    if (is_pch) return paging_channel(words, n, tick);
     if (is_joined) return joined(words, n, tick);
-    if (k == 4) return message(words, n, tick, is_nch);
+    if (k == PLAIN) return message(words, n, tick, is_nch);
     if (n != 2) return "nothing stands behind the TICK";
     uint32_t result = plain[k].event(state, sizeof state, tick);
     if (ASTERNHAKEN_REFUSAL(result) == ASTERNHAKEN_ACCEPTED) cells += plain[k].leaves;

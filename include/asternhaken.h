@@ -4,7 +4,7 @@
  *
  *     uint8_t state[ASTERNHAKEN_STATE_LENGTH];
  *     uint32_t keys[2] = { ASTERNHAKEN_KEY(1234, 1), ASTERNHAKEN_KEY(1234, 0) };
- *     asternhaken_setup(state, sizeof state, keys, 2, tick, ASTERNHAKEN_T3206, ASTERNHAKEN_T3208);
+ *     asternhaken_setup(state, sizeof state, keys, 2, tick, ASTERNHAKEN_T3206, ASTERNHAKEN_T3208, ASTERNHAKEN_T3210);
  *     if (ASTERNHAKEN_REFUSAL(asternhaken_nch(state, sizeof state, tick, octets, 20)) == ASTERNHAKEN_ACCEPTED) {
  *         uint64_t count, told;
  *         asternhaken_read(state, sizeof state, 0, ASTERNHAKEN_COUNT, &count);
@@ -29,17 +29,19 @@ extern "C" {
 #endif
 
 /* Sizes and limits. */
-#define ASTERNHAKEN_STATE_LENGTH 6984 /* octets of the lent state */
-#define ASTERNHAKEN_KEYS 50           /* subscriptions at most */
-#define ASTERNHAKEN_ENTRIES 9         /* entries of one message at most */
-#define ASTERNHAKEN_PARTS 35          /* parts for asternhaken_read, from 0 */
-#define ASTERNHAKEN_LONGEST 60000     /* ms: the longest timer; the shortest is 1 */
-#define ASTERNHAKEN_T3206 5000        /* ms: how long an NCH half is kept, unless the setup says another time */
-#define ASTERNHAKEN_T3208 5000        /* ms: the same for a FACCH half */
+#define ASTERNHAKEN_STATE_LENGTH 10040 /* octets of the lent state */
+#define ASTERNHAKEN_KEYS 50            /* subscriptions at most */
+#define ASTERNHAKEN_ENTRIES 9          /* entries of one message at most */
+#define ASTERNHAKEN_PARTS 35           /* parts for asternhaken_read, from 0 */
+#define ASTERNHAKEN_LONGEST 60000      /* ms: the longest timer; the shortest is 1 */
+#define ASTERNHAKEN_T3206 5000         /* ms: how long an NCH half is kept, unless the setup says another time */
+#define ASTERNHAKEN_T3208 5000         /* ms: the same for a FACCH half */
+#define ASTERNHAKEN_T3210 5000         /* ms: the same for a PCH half */
 #define ASTERNHAKEN_LAST_KEY 199999999
-#define ASTERNHAKEN_NCH_LENGTH 20     /* octets of an NCH message */
-#define ASTERNHAKEN_FACCH_SHORTEST 2  /* octets of a FACCH message */
+#define ASTERNHAKEN_NCH_LENGTH 20      /* octets of an NCH message */
+#define ASTERNHAKEN_FACCH_SHORTEST 2   /* octets of a FACCH message */
 #define ASTERNHAKEN_FACCH_LONGEST 23
+#define ASTERNHAKEN_PCH_NUMBERS 14     /* numbers of a PCH entry */
 
 /* A subscription's key: the reference (at most 99,999,999) times 2 plus the service flag, 1 for VGCS and 0 for VBS. */
 #define ASTERNHAKEN_KEY(reference, vgcs) ((uint32_t)(reference) * 2u + (uint32_t)(vgcs))
@@ -52,7 +54,7 @@ enum asternhaken_refusal {
     ASTERNHAKEN_MESSAGE_LENGTH = 1,    /* an NCH message not of 20 octets, a FACCH message not of 2 to 23 */
     ASTERNHAKEN_RAN_OUT = 2,           /* the bits ran out inside a part */
     ASTERNHAKEN_ALLOCATION_LENGTH = 3, /* a mobile allocation's length is not 1 to 8 */
-    ASTERNHAKEN_REFERENCE = 4,         /* a reference above 99,999,999, in a message, a call reference element or a joined key */
+    ASTERNHAKEN_REFERENCE = 4,         /* a reference above 99,999,999, in a message or a call reference element; a key above 199,999,999, joined or on the PCH */
     ASTERNHAKEN_HOPPING = 5,           /* the hopping bit is unlike the hopping flag */
     ASTERNHAKEN_RANDOM_ENTRIES = 6,    /* NCH: more random entries than ciphered calls, reduced references included */
     ASTERNHAKEN_EMERGENCY_MARKS = 7,   /* NCH: more emergency marks than described calls */
@@ -60,8 +62,8 @@ enum asternhaken_refusal {
     ASTERNHAKEN_CLOCK = 9,             /* a clock step of 2^31 ms or more: after such a pause, set up anew */
     ASTERNHAKEN_SETUP = 10,            /* over 50 keys, a key above 199,999,999, a repeat, a timer outside 1 to 60,000 */
     ASTERNHAKEN_FORM_SIZE = 11,        /* a written form over 160 bits, or a write buffer not of the form's exact size */
-    ASTERNHAKEN_RANGE = 12,            /* a field out of its range, or anything but zero in an absent part or an unused place */
-    ASTERNHAKEN_LENGTH = 13            /* an element, an array to write or the lent state of a wrong length; a cause that never ends */
+    ASTERNHAKEN_RANGE = 12,            /* a field out of its range; to write, anything but zero in an absent part or an unused place; PCH: parts that do not fit each other */
+    ASTERNHAKEN_LENGTH = 13            /* an element, an array to write, a PCH entry or the lent state of a wrong length; a cause that never ends */
 };
 
 /* What an entry of a message is told. Only 1 to 3 carry a record. */
@@ -121,18 +123,46 @@ enum asternhaken_part {
     ASTERNHAKEN_HR_AMR_CONFIG = 34
 };
 
+/* The numbers of a PCH entry. What stands behind a flag of 0 is not looked at, nor is what the description does not use: behind a hopping flag of 0 the short list flag, the
+ * length and the frequencies, beside a short list the length. */
+enum asternhaken_pch_number {
+    ASTERNHAKEN_PCH_KEY = 0,               /* reference times 2 plus service flag */
+    ASTERNHAKEN_PCH_CIPHERED = 1,          /* flag; with a full reference, as its cipher key number says */
+    ASTERNHAKEN_PCH_FULL = 2,              /* a full reference is there: needed for a description */
+    ASTERNHAKEN_PCH_REFERENCE = 3,         /* its 36 bits as one number: reference 27, service flag 1 (both as in the key), acknowledgement flag 1, priority 3, cipher key number 4 */
+    ASTERNHAKEN_PCH_DESCRIBED = 4,         /* a channel description is there */
+    ASTERNHAKEN_PCH_CHANNEL = 5,           /* Channel Description, 24 bits; bit 11 as the hopping flag */
+    ASTERNHAKEN_PCH_HOPS = 6,              /* the hopping flag */
+    ASTERNHAKEN_PCH_SHORT_LIST = 7,        /* the frequencies are a short list, not a mobile allocation */
+    ASTERNHAKEN_PCH_ALLOCATION_OCTETS = 8, /* the octets of a Mobile Allocation, 1 to 8 */
+    ASTERNHAKEN_PCH_FREQUENCIES = 9,       /* the octets of a Mobile Allocation, the first the highest, or the 64 bits of a Frequency Short List, as one number */
+    ASTERNHAKEN_PCH_RAND_GIVEN = 10,       /* a VSTK_RAND is there */
+    ASTERNHAKEN_PCH_VSTK_RAND = 11,        /* 36 bits */
+    ASTERNHAKEN_PCH_COUNTED = 12,          /* a CELL_GLOBAL_COUNT is there */
+    ASTERNHAKEN_PCH_CELL_GLOBAL_COUNT = 13 /* 0 to 3 */
+};
+
+/* The same numbers by name. With such an entry, asternhaken_pch(state, sizeof state, tick, &entry.key, ASTERNHAKEN_PCH_NUMBERS) hands it in. */
+struct asternhaken_pch_entry {
+    uint64_t key, ciphered, full, reference;
+    uint64_t described, channel, hops, short_list, allocation_octets, frequencies;
+    uint64_t rand_given, vstk_rand, counted, cell_global_count;
+};
+
 /* ---- The receiver ---- */
 
 /* Makes the lent octets a receiver that holds nothing, whatever they held. The place of a subscription is its place among the keys. */
-uint32_t asternhaken_setup(uint8_t *state, size_t state_length, const uint32_t *keys, size_t n_keys, uint32_t tick, uint32_t t3206, uint32_t t3208);
+uint32_t asternhaken_setup(uint8_t *state, size_t state_length, const uint32_t *keys, size_t n_keys, uint32_t tick, uint32_t t3206, uint32_t t3208, uint32_t t3210);
 
 /* The events. tick is a millisecond counter of 32 bits that wraps. */
 uint32_t asternhaken_nch(uint8_t *state, size_t state_length, uint32_t tick, const uint8_t *octets, size_t n);   /* NT/N Rest Octets came */
 uint32_t asternhaken_facch(uint8_t *state, size_t state_length, uint32_t tick, const uint8_t *octets, size_t n); /* NOTIFICATION/FACCH came */
+uint32_t asternhaken_pch(uint8_t *state, size_t state_length, uint32_t tick, const uint64_t *entry, size_t n);   /* a notification came on the paging channel */
 uint32_t asternhaken_joined(uint8_t *state, size_t state_length, uint32_t tick, uint32_t key);                   /* the call of this key was joined */
 uint32_t asternhaken_reselected(uint8_t *state, size_t state_length, uint32_t tick);                             /* another cell was selected */
 uint32_t asternhaken_handed_over(uint8_t *state, size_t state_length, uint32_t tick);
 uint32_t asternhaken_reconfigured(uint8_t *state, size_t state_length, uint32_t tick);
+uint32_t asternhaken_left_idle(uint8_t *state, size_t state_length, uint32_t tick);                              /* idle mode was left */
 uint32_t asternhaken_tick(uint8_t *state, size_t state_length, uint32_t tick);                                   /* time passed */
 
 /* One number of the answer to the last accepted event; after a refused event that is still the answer to the one before. What is not there is 0, and so

@@ -11,13 +11,13 @@
 #include <stdlib.h>
 #include <string.h>
 
-enum { FUNCTIONS = 30, STATE = 255, GUARD = 16, SHOWN = 20 };
+enum { FUNCTIONS = 32, STATE = 255, GUARD = 16, SHOWN = 20 };
 
 /* In the order of src/ffi.rs. */
-enum { SETUP, NCH, FACCH, JOINED, RESELECTED, HANDED_OVER, RECONFIGURED, TICK, READ };
+enum { SETUP, NCH, FACCH, PCH, JOINED, RESELECTED, HANDED_OVER, RECONFIGURED, LEFT_IDLE, TICK, READ };
 
 static const char *const names[FUNCTIONS] = {
-    "setup", "nch", "facch", "joined", "reselected", "handed_over", "reconfigured", "tick", "read", "nch_read", "nch_write", "facch_read",
+    "setup", "nch", "facch", "pch", "joined", "reselected", "handed_over", "reconfigured", "left_idle", "tick", "read", "nch_read", "nch_write", "facch_read",
     "message_type_read", "message_type_write", "call_reference_read", "call_reference_write", "call_state_read", "call_state_write",
     "cause_read", "cause_write", "originator_read", "originator_write", "state_attributes_read", "state_attributes_write", "sms_read",
     "sms_write", "talker_read", "talker_write", "digits_read", "digits_write"
@@ -123,15 +123,17 @@ static void state_call(unsigned function)
 {
     state_is_untouched();
     struct lent octets = lend_record(small());
-    uint32_t tick = small(), a = function == SETUP || function == JOINED ? small() : 0, b = function == SETUP ? small() : 0, refusal = 0;
+    uint32_t tick = small(), a = function == SETUP || function == JOINED ? small() : 0, b = function == SETUP ? small() : 0, c = function == SETUP ? small() : 0, refusal = 0;
     switch (function) {
-    case SETUP: refusal = asternhaken_setup(state.at, state.size, (const uint32_t *)(const void *)octets.at, octets.size / 4, tick, a, b); break;
+    case SETUP: refusal = asternhaken_setup(state.at, state.size, (const uint32_t *)(const void *)octets.at, octets.size / 4, tick, a, b, c); break;
     case NCH: refusal = asternhaken_nch(state.at, state.size, tick, octets.at, octets.size); break;
     case FACCH: refusal = asternhaken_facch(state.at, state.size, tick, octets.at, octets.size); break;
+    case PCH: refusal = asternhaken_pch(state.at, state.size, tick, (const uint64_t *)(const void *)octets.at, octets.size / 8); break;
     case JOINED: refusal = asternhaken_joined(state.at, state.size, tick, a); break;
     case RESELECTED: refusal = asternhaken_reselected(state.at, state.size, tick); break;
     case HANDED_OVER: refusal = asternhaken_handed_over(state.at, state.size, tick); break;
     case RECONFIGURED: refusal = asternhaken_reconfigured(state.at, state.size, tick); break;
+    case LEFT_IDLE: refusal = asternhaken_left_idle(state.at, state.size, tick); break;
     default: refusal = asternhaken_tick(state.at, state.size, tick);
     }
     compare(function, refusal, &state, untouched(&octets));
@@ -190,27 +192,27 @@ static void octet_writer(unsigned function, uint32_t (*writer)(const uint64_t *,
 static void codec_call(unsigned f)
 {
     switch (f) {
-    case 9: octets_reader(f, asternhaken_nch_read); break;
-    case 10: octets_writer(f, asternhaken_nch_write); break;
-    case 11: octets_reader(f, asternhaken_facch_read); break;
-    case 12: octet_reader(f, asternhaken_message_type_read); break;
-    case 13: octet_writer(f, asternhaken_message_type_write); break;
-    case 14: octets_reader(f, asternhaken_call_reference_read); break;
-    case 15: octets_writer(f, asternhaken_call_reference_write); break;
-    case 16: octet_reader(f, asternhaken_call_state_read); break;
-    case 17: octet_writer(f, asternhaken_call_state_write); break;
-    case 18: octets_reader(f, asternhaken_cause_read); break;
-    case 19: octets_writer(f, asternhaken_cause_write); break;
-    case 20: octet_reader(f, asternhaken_originator_read); break;
-    case 21: octet_writer(f, asternhaken_originator_write); break;
-    case 22: octet_reader(f, asternhaken_state_attributes_read); break;
-    case 23: octet_writer(f, asternhaken_state_attributes_write); break;
-    case 24: octet_reader(f, asternhaken_sms_read); break;
-    case 25: octet_writer(f, asternhaken_sms_write); break;
-    case 26: octet_reader(f, asternhaken_talker_read); break;
-    case 27: octet_writer(f, asternhaken_talker_write); break;
-    case 28: octets_reader(f, asternhaken_digits_read); break;
-    case 29: octets_writer(f, asternhaken_digits_write); break;
+    case 11: octets_reader(f, asternhaken_nch_read); break;
+    case 12: octets_writer(f, asternhaken_nch_write); break;
+    case 13: octets_reader(f, asternhaken_facch_read); break;
+    case 14: octet_reader(f, asternhaken_message_type_read); break;
+    case 15: octet_writer(f, asternhaken_message_type_write); break;
+    case 16: octets_reader(f, asternhaken_call_reference_read); break;
+    case 17: octets_writer(f, asternhaken_call_reference_write); break;
+    case 18: octet_reader(f, asternhaken_call_state_read); break;
+    case 19: octet_writer(f, asternhaken_call_state_write); break;
+    case 20: octets_reader(f, asternhaken_cause_read); break;
+    case 21: octets_writer(f, asternhaken_cause_write); break;
+    case 22: octet_reader(f, asternhaken_originator_read); break;
+    case 23: octet_writer(f, asternhaken_originator_write); break;
+    case 24: octet_reader(f, asternhaken_state_attributes_read); break;
+    case 25: octet_writer(f, asternhaken_state_attributes_write); break;
+    case 26: octet_reader(f, asternhaken_sms_read); break;
+    case 27: octet_writer(f, asternhaken_sms_write); break;
+    case 28: octet_reader(f, asternhaken_talker_read); break;
+    case 29: octet_writer(f, asternhaken_talker_write); break;
+    case 30: octets_reader(f, asternhaken_digits_read); break;
+    case 31: octets_writer(f, asternhaken_digits_write); break;
     default: printf("there is no function %u\n0 passed, 1 failed\n", f); exit(1);
     }
 }

@@ -8,7 +8,7 @@
 #   seeded-errors.sh --list FILE   only that the list is long enough, of FILE
 set -u
 # How many errors must be listed, of either kind: those that give a wrong answer, and those that are met too seldom.
-least_wrong=107 least_seldom=4
+least_wrong=174 least_seldom=7
 here=$(cd "$(dirname "$0")" && pwd)
 case $(uname -m) in x86_64) lib=$here/../target/lib ;; *) lib=$here/../target/native ;; esac
 # What the environment names is meant from this folder, as build.rs means it.
@@ -17,7 +17,7 @@ case $lib in /*) ;; *) lib=$here/$lib ;; esac
 export ASTERNHAKEN_LIB=$lib
 workers=${WORKERS:-$(nproc)}
 if [ "$workers" -gt 8 ]; then workers=8; fi
-runs=(--random --messages 12000 --steps 6000)
+runs=(--random --messages 20000 --steps 8000)
 work=$here/target/seeded-errors
 list=$here/seeded-errors.txt
 if [ "${1:-}" = --list ]; then list=$2; fi
@@ -81,7 +81,7 @@ apply() {
 # Builds and runs the copy $1, with its output in $1/output.
 compare() {
     (cd "$1" && CARGO_TARGET_DIR=$1/target cargo build --offline --quiet --profile seeded) >"$1/output" 2>&1 || return 2
-    timeout 60 "$1/target/seeded/compare" --stop "${runs[@]}" >"$1/output" 2>&1
+    timeout 120 "$1/target/seeded/compare" --stop "${runs[@]}" >"$1/output" 2>&1
 }
 
 # Worker $1 of $workers takes every so many-th error. The first of its runs is the program as it is: where that differs, a difference

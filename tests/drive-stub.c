@@ -11,10 +11,10 @@ static int seeded(const char *name)
     return wanted && !strcmp(wanted, name);
 }
 
-uint32_t __real_asternhaken_setup(uint8_t *state, size_t state_length, const uint32_t *keys, size_t n_keys, uint32_t tick, uint32_t t3206, uint32_t t3208);
-uint32_t __wrap_asternhaken_setup(uint8_t *state, size_t state_length, const uint32_t *keys, size_t n_keys, uint32_t tick, uint32_t t3206, uint32_t t3208)
+uint32_t __real_asternhaken_setup(uint8_t *state, size_t state_length, const uint32_t *keys, size_t n_keys, uint32_t tick, uint32_t t3206, uint32_t t3208, uint32_t t3210);
+uint32_t __wrap_asternhaken_setup(uint8_t *state, size_t state_length, const uint32_t *keys, size_t n_keys, uint32_t tick, uint32_t t3206, uint32_t t3208, uint32_t t3210)
 {
-    uint32_t result = __real_asternhaken_setup(state, state_length, keys, n_keys, tick, t3206, t3208);
+    uint32_t result = __real_asternhaken_setup(state, state_length, keys, n_keys, tick, t3206, t3208, t3210);
     if (result && seeded("a refused setup writes")) state[4711] ^= 1;
     if (n_keys && seeded("a setup writes the keys")) ++*(uint32_t *)keys;
     if (result && seeded("a refused setup gives another number")) result++;
@@ -28,6 +28,23 @@ uint32_t __wrap_asternhaken_facch(uint8_t *state, size_t state_length, uint32_t 
     if (result && seeded("a refused event moves the clock")) memcpy(state, &tick, sizeof tick);
     if (seeded("an event has an upper bit")) result |= 256;
     return result;
+}
+
+uint32_t __real_asternhaken_pch(uint8_t *state, size_t state_length, uint32_t tick, const uint64_t *entry, size_t n);
+uint32_t __wrap_asternhaken_pch(uint8_t *state, size_t state_length, uint32_t tick, const uint64_t *entry, size_t n)
+{
+    uint32_t result = __real_asternhaken_pch(state, state_length, tick, entry, n);
+    if (result && seeded("a refused PCH entry drops a half")) memset(state + 224, 0, 150);
+    if (seeded("a PCH entry is written")) ++((uint64_t *)entry)[n - 1];
+    if (!result && seeded("a PCH entry is handed in twice")) result = __real_asternhaken_pch(state, state_length, tick, entry, n);
+    return result;
+}
+
+uint32_t __real_asternhaken_left_idle(uint8_t *state, size_t state_length, uint32_t tick);
+uint32_t __wrap_asternhaken_left_idle(uint8_t *state, size_t state_length, uint32_t tick)
+{
+    if (seeded("leaving idle mode is a tick alone")) return asternhaken_tick(state, state_length, tick);
+    return __real_asternhaken_left_idle(state, state_length, tick);
 }
 
 uint32_t __real_asternhaken_read(const uint8_t *state, size_t state_length, uint32_t entry, uint32_t part, uint64_t *value);

@@ -277,17 +277,22 @@ static void say_description(const uint64_t *d)
     say_number(d[2] ? d[4] : 0);
 }
 
-/* An octet that is not zero counts although it stands beyond the length, so that the number is then too large for the length. */
-static void take_description(uint64_t *d)
+/* Octets as one number. One that is not zero counts although it stands beyond the length, so that the number is then too large for the length. */
+static uint64_t take_allocation(uint64_t length)
 {
-    uint64_t so_far = 0, number = 0, list;
-    for (size_t i = 0; i < 4; i++) d[i] = take_number(UINT64_MAX);
+    uint64_t so_far = 0, number = 0;
     for (size_t i = 0; i < OCTETS; i++) {
         uint64_t octet = take_number(UINT8_MAX);
         so_far = so_far << 8 | octet;
-        if (i < d[3] || octet) number = so_far;
+        if (i < length || octet) number = so_far;
     }
-    list = take_number(UINT64_MAX);
+    return number;
+}
+
+static void take_description(uint64_t *d)
+{
+    for (size_t i = 0; i < 4; i++) d[i] = take_number(UINT64_MAX);
+    uint64_t number = take_allocation(d[3]), list = take_number(UINT64_MAX);
     if ((d[2] == 1 && number) || (d[2] == 0 && list)) is_wrong("octets beside the flag of a short list, or the other way round, are nothing that the library can be told");
     d[4] = number | list;
 }
@@ -537,11 +542,11 @@ static void setup(void)
 {
     size_t n;
     take(); /* VERSION */
-    uint32_t tick = take_u32(), t3206 = take_u32(), t3208 = take_u32();
+    uint32_t tick = take_u32(), t3206 = take_u32(), t3208 = take_u32(), t3210 = take_u32();
     take_slash();
     uint32_t *keys = take_keys(&n);
     if (!understood()) return;
-    say_number(WATCHED(asternhaken_setup(state, LENGTH, keys, n, tick, t3206, t3208), state, LEAVES));
+    say_number(WATCHED(asternhaken_setup(state, LENGTH, keys, n, tick, t3206, t3208, t3210), state, LEAVES));
 }
 
 /* A part that the library does not have by itself. */
@@ -610,6 +615,19 @@ static void plain(uint32_t (*event)(uint8_t *state, size_t state_length, uint32_
 
 static void ev_nch(void) { message(asternhaken_nch); }
 static void ev_facch(void) { message(asternhaken_facch); }
+/* The description is taken as its short list flag says: what the library is not told, it would not look at. */
+static void ev_pch(void)
+{
+    uint32_t tick = take_u32();
+    uint64_t *entry = lend_numbers(ASTERNHAKEN_PCH_NUMBERS);
+    for (size_t i = 0; i <= ASTERNHAKEN_PCH_ALLOCATION_OCTETS; i++) entry[i] = take_number(UINT64_MAX);
+    uint64_t octets = take_allocation(entry[ASTERNHAKEN_PCH_ALLOCATION_OCTETS]), list = take_number(UINT64_MAX);
+    entry[ASTERNHAKEN_PCH_FREQUENCIES] = entry[ASTERNHAKEN_PCH_SHORT_LIST] ? list : octets;
+    for (size_t i = ASTERNHAKEN_PCH_RAND_GIVEN; i < ASTERNHAKEN_PCH_NUMBERS; i++) entry[i] = take_number(UINT64_MAX);
+    if (understood()) say_answer(WATCHED(asternhaken_pch(state, LENGTH, tick, entry, ASTERNHAKEN_PCH_NUMBERS), state, LEAVES));
+}
+
+static void ev_idle(void) { plain(asternhaken_left_idle); }
 static void ev_reselected(void) { plain(asternhaken_reselected); }
 static void ev_handed_over(void) { plain(asternhaken_handed_over); }
 static void ev_reconfigured(void) { plain(asternhaken_reconfigured); }
@@ -640,10 +658,12 @@ static void run(const struct command *command)
 static const struct command events[] = {
     { "nch", ev_nch },
     { "facch", ev_facch },
+    { "pch", ev_pch },
     { "joined", ev_joined },
     { "reselected", ev_reselected },
     { "handed_over", ev_handed_over },
     { "reconfigured", ev_reconfigured },
+    { "idle", ev_idle },
     { "tick", ev_tick },
     { NULL, NULL }
 };

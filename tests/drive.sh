@@ -91,13 +91,17 @@ while IFS=: read -r seeded text; do
 done << 'END'
 a refused setup writes:^FAULT .*a refused call changed lent memory: state, octet 4711$
 a refused event moves the clock:^FAULT .*a refused call changed lent memory: state, octet [0-3]$
-a refused writing writes:^FAULT .*a refused call changed lent memory: octets, octet 19$
+a refused writing writes:^FAULT .*a refused call changed lent memory: octets, octet [0-9][0-9]*$
 a writing is an octet too long:^FAULT .*a write behind what was lent: octets, octet 20$
 a writing begins an octet before:^FAULT .*a write before what was lent, counted backwards: octets, octet 1$
 a reading is too long:^FAULT .*a write behind what was lent: numbers, octet 848$
 a refused reading leaves a number:^FAULT .*a refused reading is not all zeros: numbers, octet 840$
 a setup writes the keys:^FAULT .*a call changed what it may not write: keys, octet 0$
-reading a part writes the state:^FAULT .*a call changed what it may not write: state, octet 6983$
+reading a part writes the state:^FAULT .*a call changed what it may not write: state, octet 10039$
+a refused PCH entry drops a half:^FAULT .*a refused call changed lent memory: state, octet [23][0-9][0-9]$
+a PCH entry is written:^FAULT .*a call changed what it may not write: numbers, octet 104$
+a PCH entry is handed in twice:must answer: 0 0 
+leaving idle mode is a tick alone:must answer: 0 0 1 0$
 a refused setup gives another number:must answer: 10$
 an event has an upper bit:must answer: 0 0 
 a reading is another:must answer: 0 0 4 

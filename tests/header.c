@@ -60,17 +60,23 @@ static int all_zero(const uint64_t *numbers, size_t n)
 
 /* ---- One receiver, in octets that held anything before ---- */
 
+/* docs/STATE.md: where the blocks begin; places of a subscription, three for each. */
+enum { NLN = 16, KEYS = 24, KINDS = 224, TICKS = 376, RECORDS = 976, EXPIRED = 9376, COUNT = 9384, ENTRIES = 9392, RECORD = 56, ENTRY = 72 };
+enum { ON_NCH, ON_FACCH, ON_PCH, CHANNELS };
+#define PLACE(subscription, channel) (CHANNELS * (subscription) + (channel))
+#define KIND(subscription, channel) state[KINDS + PLACE(subscription, channel)]
+
 static uint8_t *state, *before;
 
 static const uint32_t two_keys[2] = { ASTERNHAKEN_KEY(4711, 0), ASTERNHAKEN_KEY(4711, 1) };
 
 enum { YARD = 9422, DISPATCHER = 9423 };
 
-static uint32_t set_up(const uint32_t *keys, size_t n, uint32_t tick, uint32_t t3206, uint32_t t3208)
+static uint32_t set_up(const uint32_t *keys, size_t n, uint32_t tick, uint32_t t3206, uint32_t t3208, uint32_t t3210)
 {
     uint32_t *copy = lent(n * sizeof *keys);
     memcpy(copy, keys, n * sizeof *keys);
-    uint32_t result = asternhaken_setup(state, LENGTH, copy, n, tick, t3206, t3208);
+    uint32_t result = asternhaken_setup(state, LENGTH, copy, n, tick, t3206, t3208, t3210);
     CHECK(!memcmp(copy, keys, n * sizeof *keys));
     free(copy);
     return result;
@@ -78,7 +84,7 @@ static uint32_t set_up(const uint32_t *keys, size_t n, uint32_t tick, uint32_t t
 
 static void fresh(uint32_t tick)
 {
-    CHECK(set_up(two_keys, 2, tick, ASTERNHAKEN_T3206, ASTERNHAKEN_T3208) == ASTERNHAKEN_ACCEPTED);
+    CHECK(set_up(two_keys, 2, tick, ASTERNHAKEN_T3206, ASTERNHAKEN_T3208, ASTERNHAKEN_T3210) == ASTERNHAKEN_ACCEPTED);
 }
 
 static uint32_t nch(uint32_t tick, const char *hex)
@@ -98,6 +104,16 @@ static uint32_t facch(uint32_t tick, const char *hex)
     uint32_t result = asternhaken_facch(state, LENGTH, tick, octets, n);
     CHECK(same(octets, hex));
     free(octets);
+    return result;
+}
+
+static uint32_t pch(uint32_t tick, const struct asternhaken_pch_entry *entry)
+{
+    uint64_t *numbers = lent(sizeof *entry);
+    memcpy(numbers, entry, sizeof *entry);
+    uint32_t result = asternhaken_pch(state, LENGTH, tick, numbers, ASTERNHAKEN_PCH_NUMBERS);
+    CHECK(!memcmp(numbers, entry, sizeof *entry));
+    free(numbers);
     return result;
 }
 
@@ -144,7 +160,14 @@ static int tells(uint32_t entry, uint64_t key, uint64_t told)
 #define FACCH_SECOND "040001267aa0aaaaaaaaab2b"                     /* the VGCS call, VSTK_RAND 555555555 */
 #define NOTHING "2b2b2b2b2b2b2b2b2b2b2b2b2b2b2b2b2b2b2b2b"
 
-/* 99999999 VGCS, acknowledged, priority 7, key number 15, in one piece, with every part its channel has. NCH: NLN 2, channel 71f3c5, allocation of
+/* On the PCH: the VBS call's halves, the second by its key alone and once more with another priority; the VGCS call, clear; one that nobody here follows. */
+static const struct asternhaken_pch_entry yard_first = { YARD, 1, 1, YARD << 8 | 0xa3, 1, 0x0a4123, 0, 0, 0, 0, 0, 0, 1, 1 };
+static const struct asternhaken_pch_entry yard_second = { YARD, 1, 0, 0, 0, 0, 0, 0, 0, 0, 1, 0x987654321, 1, 2 };
+static const struct asternhaken_pch_entry yard_other_second = { YARD, 1, 1, YARD << 8 | 0xb3, 0, 0, 0, 0, 0, 0, 1, 0x987654321, 0, 0 };
+static const struct asternhaken_pch_entry dispatcher_clear = { DISPATCHER, 0, 1, DISPATCHER << 8 | 0x50, 1, 0x8b1fff, 1, 0, 2, 0xa55a, 0, 0, 0, 0 };
+static const struct asternhaken_pch_entry strange = { 1630, 0, 0, 0, 0, 0, 0, 0, 0, 0, 0, 0, 0, 0 };
+
+/* 99999999 VGCS, acknowledged, priority 7, key number 15, in one piece, with every part its channel has. The PCH has a short list there. NCH: NLN 2, channel 71f3c5, allocation of
  * one octet 5a, count 3, VSTK_RAND fedcba987, emergency, uplink 1, AMR 5 and 11, both SMS bits. FACCH: channel 8b1fff, a short list, count 2
  * with B22, VSTK_RAND 123456789, uplink 1, emergency, and once more with a Paging Cause. */
 #define NCH_WHOLE "dbebc1ffffb8f9e2c02b475fedcba98777aefb2b"
@@ -160,6 +183,14 @@ static const uint64_t facch_parts[35] = {
     1, 1, 1, 1, 1, 1, 0, 0, 1, 1, 1, 1, 1, 1, 0, 0, 0, 0, 0, 0, 7, 15, 0, 2, 0, 0
 };
 
+static const struct asternhaken_pch_entry pch_whole = {
+    199999999, 1, 1, (uint64_t)199999999 << 8 | 0xff, 1, 0x8b1fff, 1, 1, 0, 0x8000000000000001, 1, 0x123456789, 1, 3
+};
+static const uint64_t pch_parts[35] = {
+    0, 0, 1, 199999999, ASTERNHAKEN_ONE_PIECE, 99999999, 0x8b1fff, 0x8000000000000001, 0x123456789,
+    1, 1, 1, 1, 1, 1, 0, 0, 1, 0, 1, 0, 0, 0, 0, 0, 0, 0, 0, 0, 7, 15, 0, 3, 0, 0
+};
+
 /* ---- Setup: limits and refusals ---- */
 
 static void setups(void)
@@ -168,22 +199,24 @@ static void setups(void)
     for (uint32_t i = 0; i <= ASTERNHAKEN_KEYS; i++) keys[i] = ASTERNHAKEN_LAST_KEY - i;
     CHECK(ASTERNHAKEN_KEY(99999999, 1) == ASTERNHAKEN_LAST_KEY);
     CHECK(ASTERNHAKEN_KEY(4711, 0) == YARD && ASTERNHAKEN_KEY(4711, 1) == DISPATCHER);
-    CHECK(ASTERNHAKEN_T3206 == 5000 && ASTERNHAKEN_T3208 == 5000);
+    CHECK(ASTERNHAKEN_T3206 == 5000 && ASTERNHAKEN_T3208 == 5000 && ASTERNHAKEN_T3210 == 5000);
 
     fresh(77);
-    REFUSED(set_up(keys, 51, 5, 5000, 5000), ASTERNHAKEN_SETUP);
-    REFUSED(set_up(two_keys, 2, 5, 0, 5000), ASTERNHAKEN_SETUP);
-    REFUSED(set_up(two_keys, 2, 5, ASTERNHAKEN_LONGEST + 1, 5000), ASTERNHAKEN_SETUP);
-    REFUSED(set_up(two_keys, 2, 5, 5000, 0), ASTERNHAKEN_SETUP);
-    REFUSED(set_up(two_keys, 2, 5, 5000, ASTERNHAKEN_LONGEST + 1), ASTERNHAKEN_SETUP);
+    REFUSED(set_up(keys, 51, 5, 5000, 5000, 5000), ASTERNHAKEN_SETUP);
+    REFUSED(set_up(two_keys, 2, 5, 0, 5000, 5000), ASTERNHAKEN_SETUP);
+    REFUSED(set_up(two_keys, 2, 5, ASTERNHAKEN_LONGEST + 1, 5000, 5000), ASTERNHAKEN_SETUP);
+    REFUSED(set_up(two_keys, 2, 5, 5000, 0, 5000), ASTERNHAKEN_SETUP);
+    REFUSED(set_up(two_keys, 2, 5, 5000, ASTERNHAKEN_LONGEST + 1, 5000), ASTERNHAKEN_SETUP);
+    REFUSED(set_up(two_keys, 2, 5, 5000, 5000, 0), ASTERNHAKEN_SETUP);
+    REFUSED(set_up(two_keys, 2, 5, 5000, 5000, ASTERNHAKEN_LONGEST + 1), ASTERNHAKEN_SETUP);
     keys[49] = keys[0];
-    REFUSED(set_up(keys, 50, 5, 5000, 5000), ASTERNHAKEN_SETUP);
+    REFUSED(set_up(keys, 50, 5, 5000, 5000, 5000), ASTERNHAKEN_SETUP);
     keys[49] = ASTERNHAKEN_LAST_KEY + 1;
-    REFUSED(set_up(keys, 50, 5, 5000, 5000), ASTERNHAKEN_SETUP);
+    REFUSED(set_up(keys, 50, 5, 5000, 5000, 5000), ASTERNHAKEN_SETUP);
     keys[49] = 0;
-    ACCEPTED(set_up(keys, ASTERNHAKEN_KEYS, 5, 1, ASTERNHAKEN_LONGEST));
-    ACCEPTED(set_up(keys, ASTERNHAKEN_KEYS, 5, ASTERNHAKEN_LONGEST, 1));
-    ACCEPTED(set_up(keys, 0, 5, 5000, 5000));
+    ACCEPTED(set_up(keys, ASTERNHAKEN_KEYS, 5, 1, ASTERNHAKEN_LONGEST, 1));
+    ACCEPTED(set_up(keys, ASTERNHAKEN_KEYS, 5, ASTERNHAKEN_LONGEST, 1, ASTERNHAKEN_LONGEST));
+    ACCEPTED(set_up(keys, 0, 5, 5000, 5000, 5000));
     CHECK(ASTERNHAKEN_KEYS == 50 && ASTERNHAKEN_LONGEST == 60000);
 }
 
@@ -199,13 +232,16 @@ static void wrong_length(size_t length)
     memcpy(copy, octets, length);
     *keys = UINT32_MAX;
     *message = 0;
-    CHECK(asternhaken_setup(octets, length, keys, 1, 0, 0, 0) == ASTERNHAKEN_LENGTH);
+    *value = UINT64_MAX;
+    CHECK(asternhaken_setup(octets, length, keys, 1, 0, 0, 0, 0) == ASTERNHAKEN_LENGTH);
     CHECK(asternhaken_nch(octets, length, 0, message, 1) == ASTERNHAKEN_LENGTH);
     CHECK(asternhaken_facch(octets, length, 0, message, 1) == ASTERNHAKEN_LENGTH);
+    CHECK(asternhaken_pch(octets, length, 0, value, 1) == ASTERNHAKEN_LENGTH);
     CHECK(asternhaken_joined(octets, length, 0, UINT32_MAX) == ASTERNHAKEN_LENGTH);
     CHECK(asternhaken_reselected(octets, length, 0) == ASTERNHAKEN_LENGTH);
     CHECK(asternhaken_handed_over(octets, length, 0) == ASTERNHAKEN_LENGTH);
     CHECK(asternhaken_reconfigured(octets, length, 0) == ASTERNHAKEN_LENGTH);
+    CHECK(asternhaken_left_idle(octets, length, 0) == ASTERNHAKEN_LENGTH);
     CHECK(asternhaken_tick(octets, length, 0) == ASTERNHAKEN_LENGTH);
     *value = 7;
     CHECK(asternhaken_read(octets, length, 0, ASTERNHAKEN_COUNT, value) == ASTERNHAKEN_LENGTH);
@@ -218,9 +254,9 @@ static void lengths(void)
 {
     fresh(1000);
     ACCEPTED(nch(1000, YARD_FIRST));
-    CHECK(ASTERNHAKEN_STATE_LENGTH == 6984);
-    wrong_length(6983);
-    wrong_length(6985);
+    CHECK(ASTERNHAKEN_STATE_LENGTH == 10040);
+    wrong_length(10039);
+    wrong_length(10041);
     wrong_length(0);
     CHECK(answers(0, 0, 1));
 }
@@ -270,23 +306,23 @@ static void three_halves(uint32_t tick)
     fresh(tick);
     ACCEPTED(nch(tick, BOTH_FIRST));
     ACCEPTED(facch(tick, FACCH_FIRST));
-    CHECK(state[216] == 1 && state[217] == 0 && state[218] == 1 && state[219] == 1);
+    CHECK(KIND(0, ON_NCH) == 1 && KIND(0, ON_FACCH) == 0 && KIND(1, ON_NCH) == 1 && KIND(1, ON_FACCH) == 1);
 }
 
 static void drops(void)
 {
     three_halves(1000);
     ACCEPTED(asternhaken_reselected(state, LENGTH, 1001));
-    CHECK(answers(0, 2, 0) && !state[216] && !state[218] && state[219] == 1);
+    CHECK(answers(0, 2, 0) && !KIND(0, ON_NCH) && !KIND(1, ON_NCH) && KIND(1, ON_FACCH) == 1);
     three_halves(1000);
     ACCEPTED(asternhaken_handed_over(state, LENGTH, 1001));
-    CHECK(answers(0, 1, 0) && state[216] == 1 && state[218] == 1 && !state[219]);
+    CHECK(answers(0, 1, 0) && KIND(0, ON_NCH) == 1 && KIND(1, ON_NCH) == 1 && !KIND(1, ON_FACCH));
     three_halves(1000);
     ACCEPTED(asternhaken_reconfigured(state, LENGTH, 1001));
-    CHECK(answers(0, 1, 0) && state[216] == 1 && state[218] == 1 && !state[219]);
+    CHECK(answers(0, 1, 0) && KIND(0, ON_NCH) == 1 && KIND(1, ON_NCH) == 1 && !KIND(1, ON_FACCH));
     three_halves(1000);
     ACCEPTED(asternhaken_joined(state, LENGTH, 1001, DISPATCHER));
-    CHECK(answers(0, 1, 0) && !state[216] && state[218] == 1 && state[219] == 1);
+    CHECK(answers(0, 1, 0) && !KIND(0, ON_NCH) && KIND(1, ON_NCH) == 1 && KIND(1, ON_FACCH) == 1);
     three_halves(1000);
     ACCEPTED(asternhaken_joined(state, LENGTH, 1001, ASTERNHAKEN_LAST_KEY));
     CHECK(answers(0, 3, 0));
@@ -294,23 +330,28 @@ static void drops(void)
     ACCEPTED(nch(1001, "cb2b2b2b2b2b2b2b2b2b2b2b2b2b2b2b2b2b2b2b")); /* NLN 2, the first one seen */
     CHECK(answers(0, 0, 0));
     ACCEPTED(nch(1002, YARD_FIRST)); /* NLN 1 */
-    CHECK(answers(0, 2, 1) && state[216] == 1 && !state[218] && state[219] == 1);
+    CHECK(answers(0, 2, 1) && KIND(0, ON_NCH) == 1 && !KIND(1, ON_NCH) && KIND(1, ON_FACCH) == 1);
 }
 
-/* T3206 is the NCH's timer and comes first, T3208 the FACCH's. */
+/* T3206 is the NCH's timer and comes first, then T3208, the FACCH's, and T3210, the PCH's. */
 static void timers(void)
 {
-    ACCEPTED(set_up(two_keys, 2, UINT32_MAX - 999, 2000, 1500)); /* 1,000 ms before the tick wraps */
+    ACCEPTED(set_up(two_keys, 2, UINT32_MAX - 999, 2000, 1500, 1000)); /* 1,000 ms before the tick wraps */
     ACCEPTED(nch(UINT32_MAX - 999, BOTH_FIRST));
     ACCEPTED(facch(UINT32_MAX - 999, FACCH_FIRST));
+    ACCEPTED(pch(UINT32_MAX - 999, &yard_first));
+    ACCEPTED(asternhaken_tick(state, LENGTH, UINT32_MAX));
+    CHECK(answers(0, 0, 0));
+    ACCEPTED(asternhaken_tick(state, LENGTH, 0));
+    CHECK(answers(1, 0, 0) && !KIND(0, ON_PCH));
     ACCEPTED(asternhaken_tick(state, LENGTH, 499));
     CHECK(answers(0, 0, 0));
     ACCEPTED(asternhaken_tick(state, LENGTH, 500));
-    CHECK(answers(1, 0, 0) && !state[219]);
+    CHECK(answers(1, 0, 0) && !KIND(1, ON_FACCH));
     ACCEPTED(asternhaken_tick(state, LENGTH, 999));
     CHECK(answers(0, 0, 0));
     ACCEPTED(asternhaken_tick(state, LENGTH, 1000));
-    CHECK(answers(2, 0, 0) && !state[216] && !state[218]);
+    CHECK(answers(2, 0, 0) && !KIND(0, ON_NCH) && !KIND(1, ON_NCH));
 }
 
 static void refusals(void)
@@ -343,6 +384,109 @@ static void refusals(void)
     CHECK(answers(3, 0, 0));
 }
 
+/* ---- The paging channel ---- */
+
+static void paging_channel(void)
+{
+    /* either half may come first, and the key alone is enough for a second one */
+    fresh(1000);
+    ACCEPTED(pch(1001, &yard_first));
+    CHECK(answers(0, 0, 1) && tells(0, YARD, ASTERNHAKEN_HALF_STORED) && KIND(0, ON_PCH) == 1);
+    ACCEPTED(pch(1002, &yard_first));
+    CHECK(tells(0, YARD, ASTERNHAKEN_HALF_HELD));
+    ACCEPTED(pch(1003, &yard_other_second));
+    CHECK(tells(0, YARD, ASTERNHAKEN_UNUSABLE) && KIND(0, ON_PCH) == 1);
+    ACCEPTED(pch(1004, &yard_second));
+    CHECK(tells(0, YARD, ASTERNHAKEN_JOINED) && part(0, ASTERNHAKEN_CHANNEL) == 0x0a4123 && part(0, ASTERNHAKEN_VSTK_RAND) == 0x987654321);
+    CHECK(part(0, ASTERNHAKEN_FULL) == 1 && part(0, ASTERNHAKEN_CELL_GLOBAL_COUNT) == 2 && KIND(0, ON_PCH) == 0);
+    ACCEPTED(pch(1005, &yard_second));
+    CHECK(tells(0, YARD, ASTERNHAKEN_HALF_STORED) && KIND(0, ON_PCH) == 2);
+    ACCEPTED(pch(1006, &yard_first));
+    CHECK(tells(0, YARD, ASTERNHAKEN_JOINED) && part(0, ASTERNHAKEN_CHANNEL) == 0x0a4123);
+    ACCEPTED(pch(1007, &dispatcher_clear));
+    CHECK(tells(0, DISPATCHER, ASTERNHAKEN_CLEAR) && part(0, ASTERNHAKEN_FREQUENCIES) == 0xa55a && part(0, ASTERNHAKEN_ALLOCATION_OCTETS) == 2);
+
+    /* what drops its half, and what does not */
+    ACCEPTED(pch(1008, &yard_first));
+    ACCEPTED(asternhaken_handed_over(state, LENGTH, 1009));
+    ACCEPTED(asternhaken_reconfigured(state, LENGTH, 1009));
+    ACCEPTED(asternhaken_joined(state, LENGTH, 1009, YARD));
+    CHECK(answers(0, 0, 0) && KIND(0, ON_PCH) == 1);
+    ACCEPTED(pch(1010, &dispatcher_clear));
+    CHECK(answers(0, 1, 1) && KIND(0, ON_PCH) == 0);
+    ACCEPTED(pch(1011, &yard_first));
+    ACCEPTED(pch(1012, &strange));
+    CHECK(answers(0, 1, 1) && tells(0, 1630, ASTERNHAKEN_NOT_OURS));
+    ACCEPTED(pch(1013, &yard_first));
+    ACCEPTED(asternhaken_left_idle(state, LENGTH, 1014));
+    CHECK(answers(0, 1, 0));
+    ACCEPTED(pch(1015, &yard_first));
+    ACCEPTED(asternhaken_reselected(state, LENGTH, 1016));
+    CHECK(answers(0, 1, 0));
+    ACCEPTED(pch(1017, &yard_first));
+    ACCEPTED(asternhaken_joined(state, LENGTH, 1018, DISPATCHER));
+    CHECK(answers(0, 1, 0));
+    ACCEPTED(pch(1019, &yard_first));
+    ACCEPTED(asternhaken_tick(state, LENGTH, 1019 + ASTERNHAKEN_T3210 - 1));
+    CHECK(answers(0, 0, 0));
+    ACCEPTED(asternhaken_tick(state, LENGTH, 1019 + ASTERNHAKEN_T3210));
+    CHECK(answers(1, 0, 0));
+}
+
+/* One number of a good entry is another one. */
+static void refuses_pch(size_t at, uint64_t number, uint32_t refusal)
+{
+    uint64_t *numbers = lent(sizeof dispatcher_clear);
+    memcpy(numbers, &dispatcher_clear, sizeof dispatcher_clear);
+    numbers[at] = number;
+    REFUSED(asternhaken_pch(state, LENGTH, 1001, numbers, ASTERNHAKEN_PCH_NUMBERS), refusal);
+    REFUSED(asternhaken_pch(state, LENGTH, 999, numbers, ASTERNHAKEN_PCH_NUMBERS), ASTERNHAKEN_CLOCK);
+    free(numbers);
+}
+
+static void pch_refusals(void)
+{
+    uint64_t numbers[ASTERNHAKEN_PCH_NUMBERS + 1] = { 0 };
+    fresh(1000);
+    ACCEPTED(pch(1000, &yard_first));
+    refuses_pch(ASTERNHAKEN_PCH_KEY, ASTERNHAKEN_LAST_KEY + 1, ASTERNHAKEN_REFERENCE);
+    refuses_pch(ASTERNHAKEN_PCH_KEY, YARD, ASTERNHAKEN_RANGE);
+    refuses_pch(ASTERNHAKEN_PCH_CIPHERED, 1, ASTERNHAKEN_RANGE);
+    refuses_pch(ASTERNHAKEN_PCH_CIPHERED, 2, ASTERNHAKEN_RANGE);
+    refuses_pch(ASTERNHAKEN_PCH_FULL, 0, ASTERNHAKEN_RANGE);
+    refuses_pch(ASTERNHAKEN_PCH_FULL, 2, ASTERNHAKEN_RANGE);
+    refuses_pch(ASTERNHAKEN_PCH_REFERENCE, (uint64_t)1 << 36 | DISPATCHER << 8, ASTERNHAKEN_RANGE);
+    refuses_pch(ASTERNHAKEN_PCH_DESCRIBED, 2, ASTERNHAKEN_RANGE);
+    refuses_pch(ASTERNHAKEN_PCH_CHANNEL, 0x18b1fff, ASTERNHAKEN_RANGE);
+    refuses_pch(ASTERNHAKEN_PCH_CHANNEL, 0x8b0fff, ASTERNHAKEN_HOPPING);
+    refuses_pch(ASTERNHAKEN_PCH_HOPS, 0, ASTERNHAKEN_HOPPING);
+    refuses_pch(ASTERNHAKEN_PCH_HOPS, 2, ASTERNHAKEN_RANGE);
+    refuses_pch(ASTERNHAKEN_PCH_SHORT_LIST, 2, ASTERNHAKEN_RANGE);
+    refuses_pch(ASTERNHAKEN_PCH_ALLOCATION_OCTETS, 0, ASTERNHAKEN_ALLOCATION_LENGTH);
+    refuses_pch(ASTERNHAKEN_PCH_ALLOCATION_OCTETS, 9, ASTERNHAKEN_ALLOCATION_LENGTH);
+    refuses_pch(ASTERNHAKEN_PCH_ALLOCATION_OCTETS, 1, ASTERNHAKEN_RANGE);
+    refuses_pch(ASTERNHAKEN_PCH_FREQUENCIES, 0x10000, ASTERNHAKEN_RANGE);
+    refuses_pch(ASTERNHAKEN_PCH_RAND_GIVEN, 2, ASTERNHAKEN_RANGE);
+    refuses_pch(ASTERNHAKEN_PCH_COUNTED, 2, ASTERNHAKEN_RANGE);
+    memcpy(numbers, &dispatcher_clear, sizeof dispatcher_clear);
+    REFUSED(asternhaken_pch(state, LENGTH, 1001, numbers, ASTERNHAKEN_PCH_NUMBERS - 1), ASTERNHAKEN_LENGTH);
+    REFUSED(asternhaken_pch(state, LENGTH, 1001, numbers, ASTERNHAKEN_PCH_NUMBERS + 1), ASTERNHAKEN_LENGTH);
+    REFUSED(asternhaken_pch(state, LENGTH, 1001, numbers, 0), ASTERNHAKEN_LENGTH);
+    /* the clock goes before the length of the entry, and behind that of the state */
+    REFUSED(asternhaken_pch(state, LENGTH, 999, numbers, 0), ASTERNHAKEN_CLOCK);
+    REFUSED(asternhaken_pch(state, LENGTH - 1, 999, numbers, 0), ASTERNHAKEN_LENGTH);
+    REFUSED(asternhaken_left_idle(state, LENGTH, 999), ASTERNHAKEN_CLOCK);
+    CHECK(sizeof(struct asternhaken_pch_entry) == ASTERNHAKEN_PCH_NUMBERS * sizeof(uint64_t) && ASTERNHAKEN_PCH_NUMBERS == 14);
+
+    /* what is not looked at */
+    numbers[ASTERNHAKEN_PCH_VSTK_RAND] = numbers[ASTERNHAKEN_PCH_CELL_GLOBAL_COUNT] = UINT64_MAX;
+    numbers[ASTERNHAKEN_PCH_SHORT_LIST] = 1;
+    numbers[ASTERNHAKEN_PCH_ALLOCATION_OCTETS] = UINT64_MAX;
+    ACCEPTED(asternhaken_pch(state, LENGTH, 1000, numbers, ASTERNHAKEN_PCH_NUMBERS));
+    CHECK(tells(0, DISPATCHER, ASTERNHAKEN_CLEAR) && part(0, ASTERNHAKEN_VSTK_RAND) == 0 && part(0, ASTERNHAKEN_CELL_GLOBAL_COUNT) == 0);
+    CHECK(part(0, ASTERNHAKEN_SHORT_LIST) == 1 && part(0, ASTERNHAKEN_ALLOCATION_OCTETS) == 0 && part(0, ASTERNHAKEN_FREQUENCIES) == 0xa55a);
+}
+
 /* ---- Parts of an answer ---- */
 
 static int no_parts(uint32_t entry, uint32_t from)
@@ -355,7 +499,7 @@ static int no_parts(uint32_t entry, uint32_t from)
 static void parts(void)
 {
     const uint32_t key = ASTERNHAKEN_LAST_KEY;
-    ACCEPTED(set_up(&key, 1, 5, 5000, 5000));
+    ACCEPTED(set_up(&key, 1, 5, 5000, 5000, 5000));
     CHECK(no_parts(0, 0));
     ACCEPTED(nch(6, NCH_WHOLE));
     for (uint32_t p = 0; p < 35; p++) CHECK(part(0, p) == nch_parts[p]);
@@ -363,6 +507,8 @@ static void parts(void)
     CHECK(part(9, ASTERNHAKEN_COUNT) == 1);
     ACCEPTED(facch(7, FACCH_WHOLE));
     for (uint32_t p = 0; p < 35; p++) CHECK(part(0, p) == facch_parts[p]);
+    ACCEPTED(pch(8, &pch_whole));
+    for (uint32_t p = 0; p < 35; p++) CHECK(part(0, p) == pch_parts[p]);
 }
 
 /* ---- The state octet by octet ---- */
@@ -383,7 +529,7 @@ static void clear(size_t at, size_t n)
 /* A record of 4711 VBS with channel 0a4123 and Segment Id 0: flags 24 full, 26 acknowledged, 27 described, 30 Segment Id there. */
 static void put_first(size_t at)
 {
-    clear(at, 56);
+    clear(at, RECORD);
     put(at, 4, 4711);
     put(at + 4, 4, 0x0a4123);
     layout[at + 24] = layout[at + 26] = layout[at + 27] = layout[at + 30] = 1;
@@ -394,15 +540,21 @@ static void put_first(size_t at)
 static void put_answer(uint32_t tick, uint32_t expired, uint32_t dropped, uint32_t count)
 {
     put(0, 4, tick);
-    put(6320, 4, expired);
-    put(6324, 4, dropped);
-    put(6328, 4, count);
+    put(EXPIRED, 4, expired);
+    put(EXPIRED + 4, 4, dropped);
+    put(COUNT, 4, count);
 }
 
 static void put_told(size_t entry, uint64_t key, uint8_t number)
 {
-    put(6336 + 72 * entry, 8, key);
-    layout[6336 + 72 * entry + 8] = number;
+    put(ENTRIES + ENTRY * entry, 8, key);
+    layout[ENTRIES + ENTRY * entry + 8] = number;
+}
+
+/* Octets that the next events leave as they are. */
+static void leave(size_t at, size_t n, int octet)
+{
+    memset(state + at, octet, n), memset(layout + at, octet, n);
 }
 
 #define LAID_OUT() CHECK(!memcmp(state, layout, LENGTH))
@@ -411,56 +563,82 @@ static void octets(void)
 {
     uint32_t keys[3] = { 5, YARD, DISPATCHER };
     memset(state, 0xee, LENGTH);
-    ACCEPTED(set_up(keys, 3, 0x01020304, 5000, 4000));
+    ACCEPTED(set_up(keys, 3, 0x01020304, 5000, 4000, 3000));
     clear(0, LENGTH);
     put(0, 4, 0x01020304);
     put(4, 4, 5000);
     put(8, 4, 4000);
-    layout[12] = 4;
-    for (size_t i = 0; i < 50; i++) put(16 + 4 * i, 4, i < 3 ? keys[i] : UINT32_MAX);
+    put(12, 4, 3000);
+    layout[NLN] = 4;
+    for (size_t i = 0; i < 50; i++) put(KEYS + 4 * i, 4, i < 3 ? keys[i] : UINT32_MAX);
     LAID_OUT();
 
     /* what no event looks at stays as it is: the unused octets, the answer's entries from the second on */
-    memset(state + 13, 0xa1, 3), memset(layout + 13, 0xa1, 3);
-    memset(state + 316, 0xa2, 4), memset(layout + 316, 0xa2, 4);
-    memset(state + 6332, 0xa3, 4), memset(layout + 6332, 0xa3, 4);
-    memset(state + 6345, 0xa4, 7), memset(layout + 6345, 0xa4, 7);
-    memset(state + 6408, 0xa5, 576), memset(layout + 6408, 0xa5, 576);
+    leave(NLN + 1, KEYS - NLN - 1, 0xa1);
+    leave(KINDS + 150, TICKS - KINDS - 150, 0xa2);
+    leave(COUNT + 4, ENTRIES - COUNT - 4, 0xa3);
+    leave(ENTRIES + 9, 7, 0xa4);
+    leave(ENTRIES + ENTRY, 8 * ENTRY, 0xa5);
 
-    /* the place of subscription 1 on the NCH is 2; flag 34 is the count's, octet 47 the count */
+    /* flag 34 is the count's, octet 47 the count */
+    const size_t on_nch = PLACE(1, ON_NCH), on_facch = PLACE(2, ON_FACCH), on_pch = PLACE(1, ON_PCH);
+    size_t at = RECORDS + RECORD * on_nch;
+    CHECK(on_nch == 3 && on_facch == 7 && on_pch == 5);
     ACCEPTED(nch(0x01020305, YARD_FIRST));
     put_answer(0x01020305, 0, 0, 1);
-    layout[12] = 1;
-    layout[216 + 2] = 1;
-    put(320 + 4 * 2, 4, 0x01020305);
-    put_first(720 + 56 * 2);
-    layout[720 + 56 * 2 + 34] = layout[720 + 56 * 2 + 47] = 1;
+    layout[NLN] = 1;
+    layout[KINDS + on_nch] = 1;
+    put(TICKS + 4 * on_nch, 4, 0x01020305);
+    put_first(at);
+    layout[at + 34] = layout[at + 47] = 1;
     put_told(0, YARD, 4);
     LAID_OUT();
 
-    /* the place of subscription 2 on the FACCH is 5 */
     ACCEPTED(facch(0x01020306, FACCH_FIRST));
     put_answer(0x01020306, 0, 0, 1);
-    layout[216 + 5] = 1;
-    put(320 + 4 * 5, 4, 0x01020306);
-    put(720 + 56 * 5, 4, 4711);
-    put(720 + 56 * 5 + 4, 4, 0x5b8456);
-    layout[720 + 56 * 5 + 24] = layout[720 + 56 * 5 + 25] = layout[720 + 56 * 5 + 27] = 1;
-    layout[720 + 56 * 5 + 44] = 5;
-    layout[720 + 56 * 5 + 45] = 4;
+    layout[KINDS + on_facch] = 1;
+    put(TICKS + 4 * on_facch, 4, 0x01020306);
+    at = RECORDS + RECORD * on_facch;
+    put(at, 4, 4711);
+    put(at + 4, 4, 0x5b8456);
+    layout[at + 24] = layout[at + 25] = layout[at + 27] = 1;
+    layout[at + 44] = 5;
+    layout[at + 45] = 4;
     put_told(0, DISPATCHER, 4);
+    LAID_OUT();
+
+    /* a second half by its key alone: flag 32 is the VSTK_RAND's, flag 34 the count's */
+    ACCEPTED(pch(0x01020306, &yard_second));
+    put_answer(0x01020306, 0, 0, 1);
+    layout[KINDS + on_pch] = 2;
+    put(TICKS + 4 * on_pch, 4, 0x01020306);
+    at = RECORDS + RECORD * on_pch;
+    put(at, 4, 4711);
+    put(at + 16, 8, 0x987654321);
+    layout[at + 32] = layout[at + 34] = 1;
+    layout[at + 47] = 2;
+    put_told(0, YARD, 4);
+    LAID_OUT();
+
+    /* dropped: all zero again */
+    ACCEPTED(asternhaken_left_idle(state, LENGTH, 0x01020306));
+    put_answer(0x01020306, 0, 1, 0);
+    layout[KINDS + on_pch] = 0;
+    clear(TICKS + 4 * on_pch, 4);
+    clear(at, RECORD);
     LAID_OUT();
 
     /* joined: the place is all zero, and the record in the answer has flag 32 and the VSTK_RAND */
     ACCEPTED(nch(0x01020307, YARD_SECOND));
     put_answer(0x01020307, 0, 0, 1);
     put_told(0, YARD, 3);
-    put_first(6336 + 16);
-    layout[6336 + 16 + 34] = layout[6336 + 16 + 47] = layout[6336 + 16 + 32] = 1;
-    put(6336 + 16 + 16, 8, 0x123456789);
-    layout[216 + 2] = 0;
-    clear(320 + 4 * 2, 4);
-    clear(720 + 56 * 2, 56);
+    at = ENTRIES + 16;
+    put_first(at);
+    layout[at + 34] = layout[at + 47] = layout[at + 32] = 1;
+    put(at + 16, 8, 0x123456789);
+    layout[KINDS + on_nch] = 0;
+    clear(TICKS + 4 * on_nch, 4);
+    clear(RECORDS + RECORD * on_nch, RECORD);
     LAID_OUT();
 
     /* not ours: the record of the last answer stays, and is not read */
@@ -473,9 +651,9 @@ static void octets(void)
     /* run out: all zero again */
     ACCEPTED(asternhaken_tick(state, LENGTH, 0x01020306 + 4000));
     put_answer(0x01020306 + 4000, 1, 0, 0);
-    layout[216 + 5] = 0;
-    clear(320 + 4 * 5, 4);
-    clear(720 + 56 * 5, 56);
+    layout[KINDS + on_facch] = 0;
+    clear(TICKS + 4 * on_facch, 4);
+    clear(RECORDS + RECORD * on_facch, RECORD);
     LAID_OUT();
     CHECK(no_parts(0, 3));
 }
@@ -484,37 +662,38 @@ static void octets(void)
 static void made_by_hand(void)
 {
     uint64_t parts_of[35] = { 7, 0x01020304, 1, 0x0102030405060708, 3, 0xfffffffe, 0x11223344, 0x1122334455667788, 0x99aabbccddeeff00 };
+    const size_t record = ENTRIES + 16;
     memset(layout, 0xee, LENGTH);
     put_answer(0, 7, 0x01020304, 1);
     put_told(0, 0x0102030405060708, 3);
-    put(6352, 4, 0xfffffffe);
-    put(6356, 4, 0x11223344);
-    put(6360, 8, 0x1122334455667788);
-    put(6368, 8, 0x99aabbccddeeff00);
-    for (size_t i = 0; i < 20; i++) layout[6376 + i] = (uint8_t)(200 + i), parts_of[9 + i] = 1;
-    for (size_t i = 0; i < 6; i++) layout[6396 + i] = (uint8_t)(100 + i), parts_of[29 + i] = 100 + i;
+    put(record, 4, 0xfffffffe);
+    put(record + 4, 4, 0x11223344);
+    put(record + 8, 8, 0x1122334455667788);
+    put(record + 16, 8, 0x99aabbccddeeff00);
+    for (size_t i = 0; i < 20; i++) layout[record + 24 + i] = (uint8_t)(200 + i), parts_of[9 + i] = 1;
+    for (size_t i = 0; i < 6; i++) layout[record + 44 + i] = (uint8_t)(100 + i), parts_of[29 + i] = 100 + i;
     memcpy(state, layout, LENGTH);
     for (uint32_t p = 0; p < 35; p++) CHECK(part(0, p) == parts_of[p]);
     for (uint32_t i = 0; i < 20; i++) { /* each flag alone is 0 */
-        state[6376 + i] = 0;
+        state[record + 24 + i] = 0;
         CHECK(part(0, 9 + i) == 0 && part(0, 9 + (i + 1) % 20) == 1 && part(0, 9 + (i + 19) % 20) == 1);
-        state[6376 + i] = 1;
+        state[record + 24 + i] = 1;
     }
-    state[6344] = 4; /* told 4 has no record */
+    state[ENTRIES + 8] = 4; /* told 4 has no record */
     CHECK(no_parts(0, 5) && tells(0, 0x0102030405060708, 4) && tells(1, 0, 0));
-    state[6328] = 200; /* any number is read as it stands, but there are nine entries */
+    state[COUNT] = 200; /* any number is read as it stands, but there are nine entries */
     CHECK(part(0, ASTERNHAKEN_COUNT) == 200);
     CHECK(tells(ASTERNHAKEN_ENTRIES - 1, 0xeeeeeeeeeeeeeeee, 0xee) && no_parts(ASTERNHAKEN_ENTRIES, 3));
 
     /* the key stands at the places 0 and 1, of which the first counts; a kind of 9 is a second half, which 0a4123's first half joins */
     memset(state, 0, LENGTH);
-    state[4] = state[8] = 100;
-    state[12] = 4;
-    for (size_t i = 0; i < 2; i++) state[16 + 4 * i] = YARD % 256, state[17 + 4 * i] = YARD / 256;
-    state[216] = state[218] = 9;
-    state[720 + 16] = 0x55;
+    state[4] = state[8] = state[12] = 100;
+    state[NLN] = 4;
+    for (size_t i = 0; i < 2; i++) state[KEYS + 4 * i] = YARD % 256, state[KEYS + 1 + 4 * i] = YARD / 256;
+    KIND(0, ON_NCH) = KIND(1, ON_NCH) = 9;
+    state[RECORDS + 16] = 0x55;
     ACCEPTED(nch(99, YARD_FIRST));
-    CHECK(answers(0, 0, 1) && tells(0, YARD, ASTERNHAKEN_JOINED) && part(0, ASTERNHAKEN_VSTK_RAND) == 0x55 && state[216] == 0 && state[218] == 9);
+    CHECK(answers(0, 0, 1) && tells(0, YARD, ASTERNHAKEN_JOINED) && part(0, ASTERNHAKEN_VSTK_RAND) == 0x55 && KIND(0, ON_NCH) == 0 && KIND(1, ON_NCH) == 9);
 }
 
 /* ---- The codecs ---- */
@@ -843,6 +1022,8 @@ int main(void)
     drops();
     timers();
     refusals();
+    paging_channel();
+    pch_refusals();
     parts();
     octets();
     made_by_hand();

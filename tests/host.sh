@@ -96,9 +96,10 @@ no_events() { (for expected in true few_events without_answers; do ! events > "$
 # The example names each line that is wrong and goes on.
 wrong_lines() {
     {
-        printf '%s\n' 'tick 5' 'setup 0 5000' 'setup x 5000 5000 9422' 'setup 0 5000 5000 4711/VXS' 'setup 0 5000 5000 thirteen_long=9422' \
-            'setup 0 5000 60001 9422' '  # a comment, then a setup' 'setup 0 5000 5000 yard=4711/VBS # the yard' '' 'nch 1 2b2' 'nch 1 2g' 'nch 1' \
-            'nch 4294967296 2b' 'nch 1 2b' 'joined 1 4711/' 'joined 1' 'tick 1 2' 'frob 1'
+        printf '%s\n' 'tick 5' 'setup 0 5000 5000' 'setup x 5000 5000 5000 9422' 'setup 0 5000 5000 5000 4711/VXS' 'setup 0 5000 5000 5000 thirteen_long=9422' \
+            'setup 0 5000 5000 60001 9422' '  # a comment, then a setup' 'setup 0 5000 5000 5000 yard=4711/VBS # the yard' '' 'nch 1 2b2' 'nch 1 2g' 'nch 1' \
+            'nch 4294967296 2b' 'nch 1 2b' 'joined 1 4711/' 'joined 1' 'tick 1 2' 'frob 1' 'setup 0 1 1 x' 'pch 1' 'pch 1 4711/' 'pch 1 9422 rand=' 'pch 1 9422 rand' \
+            'pch 1 9422 rand=0123456789abcdef0' 'pch 1 9422 rand=g' 'pch 1 9422 frob=1' 'pch 1 9422 count=4' 'pch 1 9422 ciphered rand=7' 'left_idle 1 2' 'left_idle 1'
         head -c 5000 /dev/zero | tr '\0' 1
         printf '\nti\0ck 1\ntick 1'
     } | $run "$tmp/control_room" > "$tmp/shown" 2> "$tmp/wrong"
@@ -106,7 +107,7 @@ wrong_lines() {
     [ $status = 1 ] || { echo "status $status"; cat "$tmp/wrong"; return 1; }
     diff - "$tmp/wrong" <<'END' || return 1
 line 1: no setup was accepted yet
-line 2: a setup is TICK T3206 T3208 CALL..
+line 2: a setup is TICK T3206 T3208 T3210 CALL..
 line 3: TICK is no number of 32 bits
 line 4: CALL is no key, REFERENCE/VBS or REFERENCE/VGCS
 line 5: a name is too long
@@ -118,15 +119,27 @@ line 15: CALL is no key, REFERENCE/VBS or REFERENCE/VGCS
 line 16: the words are TICK CALL
 line 17: nothing stands behind the TICK
 line 18: no such event
-line 19: the line is too long
-line 20: the line is no text
+line 19: T3210 is no number of 32 bits
+line 20: the words are TICK CALL PART..
+line 21: CALL is no key, REFERENCE/VBS or REFERENCE/VGCS
+line 22: PART is no ciphered, full=, channel=, allocation=, list=, rand= or count= with up to 16 digits
+line 23: PART is no ciphered, full=, channel=, allocation=, list=, rand= or count= with up to 16 digits
+line 24: PART is no ciphered, full=, channel=, allocation=, list=, rand= or count= with up to 16 digits
+line 25: PART is no ciphered, full=, channel=, allocation=, list=, rand= or count= with up to 16 digits
+line 26: PART is no ciphered, full=, channel=, allocation=, list=, rand= or count= with up to 16 digits
+line 29: nothing stands behind the TICK
+line 31: the line is too long
+line 32: the line is no text
 END
     diff - "$tmp/shown" <<'END'
       tick  event         name          call           told                   channel
          0  setup         refused 10: setup
-         0  setup         T3206 5000 ms, T3208 5000 ms
+         0  setup         T3206 5000 ms, T3208 5000 ms, T3210 5000 ms
                           yard          VBS      4711
          1  nch           refused 1: message length
+         1  pch           refused 12: range
+         1  pch           yard          VBS      4711  4 half stored
+         1  left_idle     1 half dropped
          1  tick          -
 
 Call list

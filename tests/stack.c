@@ -16,19 +16,21 @@ static unsigned char *stack;
 static ucontext_t here, there;
 static uint8_t state[ASTERNHAKEN_STATE_LENGTH], octets[256];
 static uint32_t keys[ASTERNHAKEN_KEYS];
-static uint64_t numbers[600], value;
+static uint64_t numbers[600], value, entry[ASTERNHAKEN_PCH_NUMBERS];
 static size_t n;
 static uint32_t tick;
 
 /* ---- The calls, with what they are lent in the variables above ---- */
 
-static uint32_t setup(void) { return asternhaken_setup(state, sizeof state, keys, ASTERNHAKEN_KEYS, tick, 5000, 5000); }
+static uint32_t setup(void) { return asternhaken_setup(state, sizeof state, keys, ASTERNHAKEN_KEYS, tick, 5000, 5000, 5000); }
 static uint32_t nch(void) { return asternhaken_nch(state, sizeof state, tick, octets, n); }
 static uint32_t facch(void) { return asternhaken_facch(state, sizeof state, tick, octets, n); }
+static uint32_t pch(void) { return asternhaken_pch(state, sizeof state, tick, entry, ASTERNHAKEN_PCH_NUMBERS); }
 static uint32_t joined(void) { return asternhaken_joined(state, sizeof state, tick, keys[49]); }
 static uint32_t reselected(void) { return asternhaken_reselected(state, sizeof state, tick); }
 static uint32_t handed_over(void) { return asternhaken_handed_over(state, sizeof state, tick); }
 static uint32_t reconfigured(void) { return asternhaken_reconfigured(state, sizeof state, tick); }
+static uint32_t left_idle(void) { return asternhaken_left_idle(state, sizeof state, tick); }
 static uint32_t ticked(void) { return asternhaken_tick(state, sizeof state, tick); }
 static uint32_t read_part(void) { return asternhaken_read(state, sizeof state, 0, ASTERNHAKEN_CHANNEL, &value); }
 static uint32_t nch_read(void) { return asternhaken_nch_read(octets, n, numbers, 106); }
@@ -126,6 +128,15 @@ static void message(uint32_t (*call)(void), const char *name, const char *hex, u
     measure(call, expected, name);
 }
 
+/* The PCH entry of 4711 VGCS, priority 5, key number 4: with a description, or with VSTK_RAND alone. */
+static void page(const char *name, uint64_t key, uint64_t described, uint64_t full, uint32_t expected)
+{
+    const uint64_t numbers_of_it[ASTERNHAKEN_PCH_NUMBERS] = { key, 1, full, 9423 << 8 | 0x54, described, 0x8b1fff, 1, 0, 8, UINT64_MAX, !described, 0x123456789, 1, 3 };
+    memcpy(entry, numbers_of_it, sizeof entry);
+    tick++;
+    measure(pch, expected, name);
+}
+
 /* ---- What is run: what fills the state and what is refused late, since both go deep ---- */
 
 static void receiver(void)
@@ -147,6 +158,13 @@ static void receiver(void)
     message(facch, "facch, its second joined", "040001267aa0aaaaaaaaab2b", 0);
     message(facch, "facch, every part", "045f5e0ffffe2c7fff8000000000000001ec48d159e257", 0);
     message(facch, "facch, refused", "0480", 8);
+    page("pch, a first half stored", 9423, 1, 1, 0);
+    page("pch, held already", 9423, 1, 1, 0);
+    page("pch, its second joined", 9423, 0, 0, 0);
+    page("pch, a second half stored", 9423, 0, 1, 0);
+    page("pch, refused", 9422, 1, 1, 12);
+    page("pch, another key", 9422, 0, 0, 0);
+    measure(left_idle, 0, "left_idle, a half dropped");
     message(nch, "nch, two first halves stored", "4000933a8e1482468001267aa56e1158922b2b2b", 0);
     measure(joined, 0, "joined, two halves dropped");
     measure(reselected, 0, "reselected");

@@ -101,10 +101,12 @@ static uint32_t hand_in(const struct side *s, uint8_t *state, const struct event
     switch (e->kind) {
     case 0: return s->nch(state, length, e->tick, e->message.octets, e->message.n);
     case 1: return s->facch(state, length, e->tick, e->message.octets, e->message.n);
-    case 2: return s->joined(state, length, e->tick, e->key);
-    case 3: return s->reselected(state, length, e->tick);
-    case 4: return s->handed_over(state, length, e->tick);
-    case 5: return s->reconfigured(state, length, e->tick);
+    case 2: return s->pch(state, length, e->tick, e->message.entry, 14);
+    case 3: return s->joined(state, length, e->tick, e->key);
+    case 4: return s->reselected(state, length, e->tick);
+    case 5: return s->handed_over(state, length, e->tick);
+    case 6: return s->reconfigured(state, length, e->tick);
+    case 7: return s->left_idle(state, length, e->tick);
     default: return s->tick(state, length, e->tick);
     }
 }
@@ -113,14 +115,16 @@ static uint32_t hand_in(const struct side *s, uint8_t *state, const struct event
 static struct event random_event(struct dice *d, uint32_t tick, const uint32_t *keys, uint32_t n_keys)
 {
     struct event e = { 0 };
-    unsigned which = below(d, 40);
-    e.kind = which < 18 ? 0 : which < 34 ? 1 : which - 32;
+    unsigned which = below(d, 56);
+    e.kind = which < 18 ? 0 : which < 34 ? 1 : which < 49 ? 2 : which - 46;
     e.tick = tick + (one_in(d, 50) ? (uint32_t)roll(d) : below(d, one_in(d, 4) ? 200 : 20));
     e.key = one_in(d, 10) ? below(d, 210000000) : keys[below(d, n_keys)];
     if (e.kind == 0)
         e.message = random_nch(d, keys, n_keys);
     if (e.kind == 1)
         e.message = random_facch(d, keys, n_keys);
+    if (e.kind == 2)
+        e.message = random_pch(d, keys, n_keys);
     return e;
 }
 
@@ -128,13 +132,13 @@ static int sequence_alike(const struct side *const *sides, uint8_t *const *state
 {
     static const uint32_t all[6] = { 2468, 2469, 199999998, 0, 77777777, 1 };
     uint32_t n_keys = 1 + below(d, 5), mine[50], tick = one_in(d, 3) ? (uint32_t)-below(d, 500) : (uint32_t)roll(d);
-    uint32_t n_mine = one_in(d, 8) ? 50 : n_keys, t3206 = 1 + below(d, 1000), t3208 = 1 + below(d, 1000);
+    uint32_t n_mine = one_in(d, 8) ? 50 : n_keys, t3206 = 1 + below(d, 1000), t3208 = 1 + below(d, 1000), t3210 = 1 + below(d, 1000);
     for (uint32_t i = 0; i < n_mine; i++) /* with 50 keys, those in use stand last */
         mine[i] = i < n_mine - n_keys ? 5000 + i : all[i - (n_mine - n_keys)];
     char where[80] = "setup";
     for (unsigned k = 0; k < n_sides; k++) {
         memset(states[k], 0xA5, sides[k]->state_length);
-        if (sides[k]->setup(states[k], sides[k]->state_length, mine, n_mine, tick, t3206, t3208) != 0)
+        if (sides[k]->setup(states[k], sides[k]->state_length, mine, n_mine, tick, t3206, t3208, t3210) != 0)
             return differ(where, "refusal", sides[k], 1, sides[k], 0);
     }
     if (!same_answers(sides, states, n_sides, where))

@@ -29,7 +29,7 @@
 extern const struct side *const library;
 
 enum { KEYS = 50, FOREIGN = 123456, FIRST_TICK = 1000, TIMER = 60000, RUN = 2000, COUNTED = 10, LIMIT = 10 };
-enum kind { TICK, NCH, FACCH, READ_NCH, READ_FACCH };
+enum kind { TICK, NCH, FACCH, PCH, READ_NCH, READ_FACCH };
 
 /* A row of the table: a receiver that holds so many halves, and one or two messages handed in by turns. */
 struct row {
@@ -67,7 +67,7 @@ static void add(const char *name, enum kind kind, unsigned halves, int spread, s
 static void make_rows(void)
 {
     static const struct { unsigned halves; int spread; } held[] = { { 0, 0 }, { 4, 0 }, { 10, 0 }, { 50, 0 }, { 98, 0 }, { 4, 1 }, { 10, 1 } };
-    struct message none = { { 0 }, 0 };
+    struct message none = { { 0 }, 0, { 0 } };
     uint32_t key = keys[KEYS - 1];
     for (unsigned i = 0; i < sizeof held / sizeof *held; i++)
         add("tick", TICK, held[i].halves, held[i].spread, none, none);
@@ -79,6 +79,10 @@ static void make_rows(void)
         add("FACCH, no entry of ours", FACCH, held[i].halves, 0, facch_clear_call(FOREIGN), facch_clear_call(FOREIGN));
     for (unsigned i = 0; i < 5; i++)
         add("FACCH, a half stored and joined in turn", FACCH, held[i].halves, 0, facch_first_half(key), facch_second_half(key));
+    for (unsigned i = 0; i < 5; i++)
+        add("PCH, no entry of ours", PCH, held[i].halves, 0, pch_clear_call(FOREIGN), pch_clear_call(FOREIGN));
+    for (unsigned i = 0; i < 5; i++)
+        add("PCH, a half stored and joined in turn", PCH, held[i].halves, 0, pch_first_half(key), pch_second_half(key));
     n_event_rows = n_rows;
     add("NCH: a clear call", READ_NCH, 0, 0, clear_call(key), clear_call(key));
     add("NCH: a first half", READ_NCH, 0, 0, first_half(key), first_half(key));
@@ -91,7 +95,7 @@ static void make_rows(void)
 /* A receiver of fifty keys that holds the row's halves: the first places of both channels, or places spread over all. */
 static int fill(const struct side *s, uint8_t *state, const struct row *r)
 {
-    if (s->setup(state, s->state_length, keys, KEYS, FIRST_TICK, TIMER, TIMER) != 0)
+    if (s->setup(state, s->state_length, keys, KEYS, FIRST_TICK, TIMER, TIMER, TIMER) != 0)
         return 0;
     for (unsigned i = 0; i < r->halves; i++) {
         unsigned place = r->spread ? i * 98 / r->halves : i;
@@ -128,6 +132,12 @@ static void run(const struct runner *w, const struct row *r, unsigned n)
         for (unsigned i = 0; i < n; i += 2) {
             s->facch(working, s->state_length, FIRST_TICK + i, a->octets, a->n);
             s->facch(working, s->state_length, FIRST_TICK + i + 1, b->octets, b->n);
+        }
+        break;
+    case PCH:
+        for (unsigned i = 0; i < n; i += 2) {
+            s->pch(working, s->state_length, FIRST_TICK + i, a->entry, 14);
+            s->pch(working, s->state_length, FIRST_TICK + i + 1, b->entry, 14);
         }
         break;
     case READ_NCH:
@@ -188,6 +198,7 @@ static void check_rows(const struct side *const *sides, unsigned n_sides)
             for (unsigned k = 0; k < n_sides; k++) {
                 const struct side *s = sides[k];
                 uint32_t refusal = r->kind == TICK ? s->tick(states[k], s->state_length, FIRST_TICK + j)
+                    : r->kind == PCH ? s->pch(states[k], s->state_length, FIRST_TICK + j, m->entry, 14)
                     : (r->kind == NCH ? s->nch : s->facch)(states[k], s->state_length, FIRST_TICK + j, m->octets, m->n);
                 good = good && refusal == 0;
             }
@@ -215,9 +226,9 @@ static int answers_agree(uint64_t seed, unsigned messages, unsigned sequences)
         return 0;
     printf("The answers agree: all rows, %u random messages, %u random sequences of 40 events (seed %" PRIu64 ").\n", messages, sequences, seed);
     printf("Refusals met in the sequences:");
-    for (unsigned i = 0; i < 14; i++)
+    for (unsigned i = 0, n = 0; i < 14; i++)
         if (refusals_seen[i])
-            printf(" %u: %lu%s", i, refusals_seen[i], i == 9 ? "" : ",");
+            printf("%s %u: %lu", n++ ? "," : "", i, refusals_seen[i]);
     printf(". Numbers told:");
     for (unsigned i = 0; i < 9; i++)
         printf(" %u: %lu%s", i, told_seen[i], i == 8 ? ".\n" : ",");

@@ -11,7 +11,7 @@ struct pen {
 /* A message of padding alone; the pen stands at its first bit. */
 static struct pen blank(size_t octets)
 {
-    struct pen p = { { { 0 }, octets }, 0, 8 * (unsigned)octets };
+    struct pen p = { { { 0 }, octets, { 0 } }, 0, 8 * (unsigned)octets };
     memset(p.to.octets, 0x2B, octets);
     return p;
 }
@@ -334,4 +334,65 @@ struct message random_facch(struct dice *d, const uint32_t *keys, uint32_t n_key
     if (one_in(d, 4))
         p.to.n = (p.at + 7) / 8;
     return spoilt(d, p.to, 23);
+}
+
+/* ---- PCH ---- */
+
+static struct message page(uint32_t key, uint64_t cipher)
+{
+    struct message m = { .entry = { key, cipher != 0, 1, (uint64_t)key << 8 | 0x50 | cipher } };
+    return m;
+}
+
+static struct message on_channel(struct message m)
+{
+    m.entry[4] = 1;
+    m.entry[5] = 0x0A4123;
+    return m;
+}
+
+struct message pch_clear_call(uint32_t key)
+{
+    return on_channel(page(key, 0));
+}
+
+struct message pch_first_half(uint32_t key)
+{
+    return on_channel(page(key, 3));
+}
+
+struct message pch_second_half(uint32_t key)
+{
+    struct message m = page(key, 3);
+    m.entry[10] = 1;
+    m.entry[11] = 0x123456789;
+    return m;
+}
+
+/* Mostly as it should be; now and then one number is another one. */
+struct message random_pch(struct dice *d, const uint32_t *keys, uint32_t n_keys)
+{
+    struct message m = page(keys[below(d, n_keys)], one_in(d, 4) ? 0 : 3 + (uint64_t)one_in(d, 20));
+    if (one_in(d, 2))
+        m = on_channel(m);
+    else if (one_in(d, 3))
+        m.entry[2] = 0;
+    if (m.entry[4] && one_in(d, 3)) {
+        m.entry[5] |= 0x1000;
+        m.entry[6] = 1;
+        m.entry[7] = (uint64_t)one_in(d, 2);
+        m.entry[8] = below(d, 10);
+        m.entry[9] = roll(d) >> (one_in(d, 2) ? 0 : 64 - 8 * (1 + below(d, 8)));
+    }
+    if (one_in(d, 2)) {
+        m.entry[10] = 1;
+        m.entry[11] = roll(d) >> 28;
+    }
+    if (one_in(d, 2)) {
+        m.entry[12] = 1;
+        m.entry[13] = below(d, 4);
+    }
+    if (one_in(d, 8))
+        m.entry[below(d, 14)] = one_in(d, 2) ? below(d, 6) : roll(d) >> below(d, 64);
+    return m;
 }

@@ -8,6 +8,7 @@
 struct message {
     uint8_t octets[23];
     size_t n;
+    uint64_t entry[14]; /* of the PCH, which has no octets here */
 };
 
 /* The NCH messages that are measured. */
@@ -21,6 +22,11 @@ struct message facch_clear_call(uint32_t key);
 struct message facch_first_half(uint32_t key);
 struct message facch_second_half(uint32_t key);
 
+/* The PCH entries that are measured. */
+struct message pch_clear_call(uint32_t key);
+struct message pch_first_half(uint32_t key);
+struct message pch_second_half(uint32_t key);
+
 /* Random numbers: below n, and 1 in n times true. */
 struct dice {
     uint64_t state;
@@ -32,5 +38,6 @@ int one_in(struct dice *d, uint32_t n);
 /* Random messages, mostly well-formed, over the lent keys. */
 struct message random_nch(struct dice *d, const uint32_t *keys, uint32_t n_keys);
 struct message random_facch(struct dice *d, const uint32_t *keys, uint32_t n_keys);
+struct message random_pch(struct dice *d, const uint32_t *keys, uint32_t n_keys);
 
 #endif

@@ -15,11 +15,11 @@
 
 enum {
     ACCEPTED, MESSAGE_LENGTH, RAN_OUT, ALLOCATION_LENGTH, REFERENCE, HOPPING, RANDOM_ENTRIES, EMERGENCY_MARKS, PAGING, CLOCK, SETUP,
-    STATE_LENGTH = 13
+    RANGE = 12, STATE_LENGTH = 13
 };
 enum { NOT_OURS, CLEAR, ONE_PIECE, JOINED, HALF_STORED, HALF_HELD, NO_CHANNEL, UNUSABLE, SECOND_BEFORE_FIRST };
-enum { NCH, FACCH, CHANNELS };
-enum { KEYS = 50, ENTRIES = 9, LONGEST = 60000, LAST_REFERENCE = 99999999, LAST_KEY = 199999999, NLN_UNKNOWN = 4 };
+enum { NCH, FACCH, PCH, CHANNELS };
+enum { KEYS = 50, ENTRIES = 9, PCH_NUMBERS = 14, LONGEST = 60000, LAST_REFERENCE = 99999999, LAST_KEY = 199999999, NLN_UNKNOWN = 4 };
 
 /* ---- Bits ---- */
 
@@ -504,7 +504,7 @@ static unsigned expire(struct receiver *r, unsigned channel)
 static void accept(struct receiver *r, uint32_t tick)
 {
     r->tick = tick;
-    r->expired = expire(r, NCH) + expire(r, FACCH);
+    r->expired = expire(r, NCH) + expire(r, FACCH) + expire(r, PCH);
     r->dropped = 0;
     r->count = 0;
 }
@@ -701,6 +701,80 @@ static uint32_t event_facch(uint8_t *state, size_t state_length, uint32_t tick, 
     return ACCEPTED;
 }
 
+/* The grounds of a PCH entry in their order: 0 key, 1 ciphered, 2 full, 3 its bits, 4 described, 5 channel, 6 hops, 7 short list, 8 length, 9 frequencies, 10 and 11 VSTK_RAND,
+ * 12 and 13 the count. A flag above 1 counts as set before it is refused. */
+static uint32_t pch_refusal(const uint64_t *e)
+{
+    unsigned described = e[4] != 0, hops = described && e[6], allocated = hops && !e[7];
+    if (e[0] > LAST_KEY)
+        return REFERENCE;
+    if (allocated && e[8] - 1 > 7)
+        return ALLOCATION_LENGTH;
+    if (described && (e[5] >> 12 & 1) != (e[6] != 0))
+        return HOPPING;
+    if ((e[1] | e[2] | e[4] | e[10] | e[12]) > 1 || (described && (!e[2] || e[5] >> 24 || e[6] > 1)) || (hops && e[7] > 1))
+        return RANGE;
+    if ((allocated && e[8] < 8 && e[9] >> 8 * e[8]) || (e[10] && e[11] >> 36) || (e[12] && e[13] > 3))
+        return RANGE;
+    return e[2] && (e[3] >> 8 != e[0] || ((e[3] & 15) != 0) != e[1]) ? RANGE : ACCEPTED;
+}
+
+static uint8_t tell_pch(struct receiver *r, unsigned place, struct record *x, const uint64_t *e)
+{
+    if (place == KEYS)
+        return NOT_OURS;
+    if (!e[4] && !(e[1] && e[10]))
+        return e[2] ? NO_CHANNEL : UNUSABLE;
+    memset(x, 0, sizeof *x);
+    x->reference = (uint32_t)(e[0] >> 1);
+    x->vgcs = e[0] & 1;
+    if (e[2]) {
+        x->full = 1;
+        x->acknowledged = e[3] >> 7 & 1;
+        x->priority = e[3] >> 4 & 7;
+        x->cipher_key_number = e[3] & 15;
+    }
+    if (e[4]) {
+        x->described = 1;
+        x->channel = (uint32_t)e[5];
+        x->hops = (uint8_t)e[6];
+        if (e[6]) {
+            x->short_list = (uint8_t)e[7];
+            x->allocation_octets = e[7] ? 0 : (uint8_t)e[8];
+            x->frequencies = e[9];
+        }
+    }
+    x->rand_given = (uint8_t)e[10];
+    x->vstk_rand = e[10] ? e[11] : 0;
+    x->counted = (uint8_t)e[12];
+    x->cell_global_count = e[12] ? (uint8_t)e[13] : 0;
+    if (!e[4])
+        return tell_half(r, PCH, place, x, 0);
+    if (!e[1])
+        return CLEAR;
+    return e[10] ? ONE_PIECE : tell_half(r, PCH, place, x, 1);
+}
+
+static uint32_t event_pch(uint8_t *state, size_t state_length, uint32_t tick, const uint64_t *entry, size_t n)
+{
+    struct receiver *r = (struct receiver *)(void *)state;
+    if (n != PCH_NUMBERS)
+        return STATE_LENGTH;
+    uint32_t refusal = clock_refusal(r, state_length, tick);
+    if (!refusal)
+        refusal = pch_refusal(entry);
+    if (refusal)
+        return refusal;
+    accept(r, tick);
+    struct told *t = r->entries;
+    t->key = (uint32_t)entry[0];
+    unsigned place = find(r, t->key);
+    r->dropped = drop(r, PCH, place == KEYS ? 0 : 1ull << place);
+    t->number = tell_pch(r, place, &t->record, entry);
+    r->count = 1;
+    return ACCEPTED;
+}
+
 static uint32_t event_joined(uint8_t *state, size_t state_length, uint32_t tick, uint32_t key)
 {
     struct receiver *r = (struct receiver *)(void *)state;
@@ -712,34 +786,40 @@ static uint32_t event_joined(uint8_t *state, size_t state_length, uint32_t tick,
     accept(r, tick);
     unsigned place = find(r, key);
     uint64_t but = place == KEYS ? 0 : 1ull << place;
-    r->dropped = drop(r, NCH, but) + drop(r, FACCH, but);
+    r->dropped = drop(r, NCH, but) + drop(r, FACCH, but) + drop(r, PCH, but);
     return ACCEPTED;
 }
 
-static uint32_t drop_channel(uint8_t *state, size_t state_length, uint32_t tick, unsigned channel)
+/* Drops all halves of a channel, and of another where there are two. */
+static uint32_t drop_channels(uint8_t *state, size_t state_length, uint32_t tick, unsigned channel, unsigned another)
 {
     struct receiver *r = (struct receiver *)(void *)state;
     uint32_t refusal = clock_refusal(r, state_length, tick);
     if (refusal)
         return refusal;
     accept(r, tick);
-    r->dropped = drop(r, channel, 0);
+    r->dropped = drop(r, channel, 0) + drop(r, another, 0);
     return ACCEPTED;
 }
 
 static uint32_t event_reselected(uint8_t *state, size_t state_length, uint32_t tick)
 {
-    return drop_channel(state, state_length, tick, NCH);
+    return drop_channels(state, state_length, tick, NCH, PCH);
 }
 
 static uint32_t event_handed_over(uint8_t *state, size_t state_length, uint32_t tick)
 {
-    return drop_channel(state, state_length, tick, FACCH);
+    return drop_channels(state, state_length, tick, FACCH, FACCH);
 }
 
 static uint32_t event_reconfigured(uint8_t *state, size_t state_length, uint32_t tick)
 {
-    return drop_channel(state, state_length, tick, FACCH);
+    return drop_channels(state, state_length, tick, FACCH, FACCH);
+}
+
+static uint32_t event_left_idle(uint8_t *state, size_t state_length, uint32_t tick)
+{
+    return drop_channels(state, state_length, tick, PCH, PCH);
 }
 
 static uint32_t event_tick(uint8_t *state, size_t state_length, uint32_t tick)
@@ -752,12 +832,12 @@ static uint32_t event_tick(uint8_t *state, size_t state_length, uint32_t tick)
     return ACCEPTED;
 }
 
-static uint32_t setup(uint8_t *state, size_t state_length, const uint32_t *keys, size_t n_keys, uint32_t tick, uint32_t t3206, uint32_t t3208)
+static uint32_t setup(uint8_t *state, size_t state_length, const uint32_t *keys, size_t n_keys, uint32_t tick, uint32_t t3206, uint32_t t3208, uint32_t t3210)
 {
     struct receiver *r = (struct receiver *)(void *)state;
     if (state_length != sizeof *r)
         return STATE_LENGTH;
-    if (n_keys > KEYS || t3206 < 1 || t3206 > LONGEST || t3208 < 1 || t3208 > LONGEST)
+    if (n_keys > KEYS || t3206 < 1 || t3206 > LONGEST || t3208 < 1 || t3208 > LONGEST || t3210 < 1 || t3210 > LONGEST)
         return SETUP;
     for (size_t i = 0; i < n_keys; i++) {
         if (keys[i] > LAST_KEY)
@@ -770,6 +850,7 @@ static uint32_t setup(uint8_t *state, size_t state_length, const uint32_t *keys,
     r->tick = tick;
     r->timer[NCH] = t3206;
     r->timer[FACCH] = t3208;
+    r->timer[PCH] = t3210;
     r->n_keys = (uint32_t)n_keys;
     memcpy(r->keys, keys, n_keys * sizeof *keys);
     r->nln = NLN_UNKNOWN;
@@ -841,7 +922,7 @@ static uint32_t read_part(const uint8_t *state, size_t state_length, uint32_t en
 #define STRING_(x) #x
 #define STRING(x) STRING_(x)
 const struct side PLAIN = {
-    STRING(PLAIN), sizeof(struct receiver), setup, event_nch, event_facch, event_joined, event_reselected, event_handed_over, event_reconfigured, event_tick, read_part,
-    read_nch_numbers, read_facch_numbers
+    STRING(PLAIN), sizeof(struct receiver), setup, event_nch, event_facch, event_pch, event_joined, event_reselected, event_handed_over, event_reconfigured, event_left_idle, event_tick,
+    read_part, read_nch_numbers, read_facch_numbers
 };
 const struct readers JOIN(PLAIN, _readers) = { read_nch, read_facch, nch_numbers, facch_numbers };

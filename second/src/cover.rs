@@ -1,6 +1,7 @@
 //! What the random event steps met from a setup on, and how often each must be met, or the comparison shows too little.
 
-use crate::receiver::Channel::{self, Facch, Nch};
+use crate::bits::Refusal;
+use crate::receiver::Channel::{self, Facch, Nch, Pch};
 use std::collections::BTreeMap;
 
 /// Why a half went, other than by being joined.
@@ -12,6 +13,10 @@ pub enum Cause {
     HandedOver,
     Reconfigured,
     OtherNln,
+    LeftIdle,
+    /// A PCH entry under another key that is subscribed, or that is not.
+    OtherKey,
+    StrangeKey,
 }
 
 #[derive(Clone, Copy, Debug, PartialEq, Eq, PartialOrd, Ord)]
@@ -21,45 +26,69 @@ pub enum Met {
     /// A half of this channel went.
     Lost(Cause, Channel),
     /// A join in which the second half had come first. On the FACCH it is not stored, so there is none.
-    SecondFirst,
+    SecondFirst(Channel),
     /// An entry was told 7 because its reference differs from that of the opposite half.
     Disagreed(Channel),
+    /// An event of this channel was refused with this number, from a setup on or not.
+    Refused(Channel, Refusal),
 }
 
 use Cause::*;
 use Met::*;
 
 /// How often each is met at least in 10,000 event steps: about a third to a half of what the usual seed gives. 7 on the FACCH is
-/// always a disagreement; 8 is not told on the NCH.
-const LEAST: [(Met, u64); 28] = [
-    (Told(Nch, 0), 400),
-    (Told(Nch, 1), 130),
-    (Told(Nch, 2), 45),
-    (Told(Nch, 3), 75),
-    (Told(Nch, 4), 400),
-    (Told(Nch, 5), 40),
-    (Told(Nch, 6), 850),
-    (Told(Nch, 7), 550),
-    (Told(Facch, 0), 220),
-    (Told(Facch, 1), 130),
-    (Told(Facch, 2), 100),
-    (Told(Facch, 3), 55),
-    (Told(Facch, 4), 320),
-    (Told(Facch, 5), 35),
-    (Told(Facch, 6), 440),
-    (Told(Facch, 7), 18),
-    (Told(Facch, 8), 135),
-    (Lost(RanOut, Nch), 230),
-    (Lost(RanOut, Facch), 200),
-    (Lost(Joined, Nch), 20),
-    (Lost(Joined, Facch), 15),
-    (Lost(Reselected, Nch), 15),
-    (Lost(HandedOver, Facch), 8),
-    (Lost(Reconfigured, Facch), 8),
-    (Lost(OtherNln, Nch), 12),
-    (SecondFirst, 40),
-    (Disagreed(Nch), 12),
-    (Disagreed(Facch), 15),
+/// always a disagreement; 8 is told there alone.
+const LEAST: [(Met, u64); 50] = [
+    (Told(Nch, 0), 270),
+    (Told(Nch, 1), 80),
+    (Told(Nch, 2), 25),
+    (Told(Nch, 3), 50),
+    (Told(Nch, 4), 250),
+    (Told(Nch, 5), 20),
+    (Told(Nch, 6), 560),
+    (Told(Nch, 7), 360),
+    (Told(Facch, 0), 140),
+    (Told(Facch, 1), 85),
+    (Told(Facch, 2), 65),
+    (Told(Facch, 3), 35),
+    (Told(Facch, 4), 200),
+    (Told(Facch, 5), 18),
+    (Told(Facch, 6), 290),
+    (Told(Facch, 7), 12),
+    (Told(Facch, 8), 85),
+    (Told(Pch, 0), 110),
+    (Told(Pch, 1), 70),
+    (Told(Pch, 2), 100),
+    (Told(Pch, 3), 40),
+    (Told(Pch, 4), 240),
+    (Told(Pch, 5), 16),
+    (Told(Pch, 6), 120),
+    (Told(Pch, 7), 65),
+    (Lost(RanOut, Nch), 150),
+    (Lost(RanOut, Facch), 120),
+    (Lost(Joined, Nch), 12),
+    (Lost(Joined, Facch), 10),
+    (Lost(Reselected, Nch), 11),
+    (Lost(HandedOver, Facch), 7),
+    (Lost(Reconfigured, Facch), 6),
+    (Lost(OtherNln, Nch), 7),
+    (Lost(RanOut, Pch), 130),
+    (Lost(Joined, Pch), 10),
+    (Lost(Reselected, Pch), 6),
+    (Lost(LeftIdle, Pch), 7),
+    (Lost(OtherKey, Pch), 20),
+    (Lost(StrangeKey, Pch), 6),
+    (SecondFirst(Nch), 25),
+    (SecondFirst(Pch), 20),
+    (Disagreed(Nch), 10),
+    (Disagreed(Facch), 12),
+    (Disagreed(Pch), 7),
+    (Refused(Pch, 3), 30),
+    (Refused(Pch, 4), 30),
+    (Refused(Pch, 5), 14),
+    (Refused(Pch, 9), 75),
+    (Refused(Pch, 12), 60),
+    (Refused(Pch, 13), 25),
 ];
 
 const STEPS: u64 = 10_000;

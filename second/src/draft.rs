@@ -347,6 +347,50 @@ impl FacchDraft {
     }
 }
 
+/// An entry of the paging channel. Without the full reference, only the key of the call is told.
+#[derive(Clone, Debug)]
+pub struct PchDraft {
+    pub call: CallDraft,
+    pub full: bool,
+    pub ciphered: bool,
+    pub vstk_rand: Option<u64>,
+    pub count: Option<u64>,
+}
+
+impl PchDraft {
+    pub fn of(call: CallDraft) -> PchDraft {
+        PchDraft { ciphered: call.cipher != 0, call, full: true, vstk_rand: None, count: None }
+    }
+
+    /// With its key alone, and marked as ciphered.
+    pub fn reduced(key: u32) -> PchDraft {
+        PchDraft { full: false, ..PchDraft::of(CallDraft::plain(key, 1)) }
+    }
+
+    pub fn rand(self, vstk_rand: u64) -> PchDraft {
+        PchDraft { vstk_rand: Some(vstk_rand), ..self }
+    }
+
+    pub fn count(self, count: u64) -> PchDraft {
+        PchDraft { count: Some(count), ..self }
+    }
+
+    /// The fourteen numbers in the header's order.
+    pub fn numbers(&self) -> Vec<u64> {
+        let call = &self.call;
+        let mut reference = Bits::default();
+        call.lay(&mut reference);
+        let reference = reference.0[..36].iter().fold(0, |number, bit| number << 1 | u64::from(*bit));
+        let pair = |value: Option<u64>| [u64::from(value.is_some()), value.unwrap_or(0)];
+        let mut numbers = vec![2 * call.reference + call.service, u64::from(self.ciphered)];
+        numbers.extend(pair(self.full.then_some(reference)));
+        numbers.extend(&call.numbers()[5..]);
+        numbers.extend(pair(self.vstk_rand));
+        numbers.extend(pair(self.count));
+        numbers
+    }
+}
+
 /// What drafts are made of: any calls, or few, so that halves meet.
 pub struct Pool {
     pub references: Vec<u64>,
@@ -478,6 +522,18 @@ impl Pool {
             }),
             seven: rng.one_in(2).then(|| (rng.below(2), rng.below(2), rng.one_in(3).then(|| rng.below(2)))),
             short: rng.one_in(2),
+        }
+    }
+
+    pub fn pch(&self, rng: &mut Rng) -> PchDraft {
+        let call = self.call(rng);
+        let full = call.description.is_some() || !rng.one_in(3);
+        PchDraft {
+            ciphered: if full { call.cipher != 0 } else { !rng.one_in(4) },
+            full,
+            vstk_rand: rng.one_in(2).then(|| rng.below(1 << 36)),
+            count: rng.one_in(2).then(|| rng.below(4)),
+            call,
         }
     }
 }

@@ -15,13 +15,15 @@ pub mod archive {
         };
     }
     exported! {
-        fn asternhaken_setup(state: *mut u8, state_length: usize, keys: *const u32, n_keys: usize, tick: u32, t3206: u32, t3208: u32);
+        fn asternhaken_setup(state: *mut u8, state_length: usize, keys: *const u32, n_keys: usize, tick: u32, t3206: u32, t3208: u32, t3210: u32);
         fn asternhaken_nch(state: *mut u8, state_length: usize, tick: u32, octets: *const u8, n: usize);
         fn asternhaken_facch(state: *mut u8, state_length: usize, tick: u32, octets: *const u8, n: usize);
+        fn asternhaken_pch(state: *mut u8, state_length: usize, tick: u32, entry: *const u64, n: usize);
         fn asternhaken_joined(state: *mut u8, state_length: usize, tick: u32, key: u32);
         fn asternhaken_reselected(state: *mut u8, state_length: usize, tick: u32);
         fn asternhaken_handed_over(state: *mut u8, state_length: usize, tick: u32);
         fn asternhaken_reconfigured(state: *mut u8, state_length: usize, tick: u32);
+        fn asternhaken_left_idle(state: *mut u8, state_length: usize, tick: u32);
         fn asternhaken_tick(state: *mut u8, state_length: usize, tick: u32);
         fn asternhaken_read(state: *const u8, state_length: usize, entry: u32, part: u32, value: *mut u64);
         fn asternhaken_nch_read(octets: *const u8, n: usize, numbers: *mut u64, n_numbers: usize);
@@ -219,11 +221,11 @@ impl State {
         refusal
     }
 
-    pub fn setup(&mut self, keys: &[u32], tick: u32, t3206: u32, t3208: u32) -> u32 {
+    pub fn setup(&mut self, keys: &[u32], tick: u32, [t3206, t3208, t3210]: [u32; 3]) -> u32 {
         let lent = Lent::new(keys, 0xA5A5_A5A5, 0);
         let octets: Vec<u8> = keys.iter().flat_map(|key| key.to_le_bytes()).collect();
-        let refusal = self.call(archive::asternhaken_setup as *const (), &[tick, t3206, t3208], &octets, |state, n| unsafe {
-            archive::asternhaken_setup(state, n, lent.pointer(), keys.len(), tick, t3206, t3208)
+        let refusal = self.call(archive::asternhaken_setup as *const (), &[tick, t3206, t3208, t3210], &octets, |state, n| unsafe {
+            archive::asternhaken_setup(state, n, lent.pointer(), keys.len(), tick, t3206, t3208, t3210)
         });
         lent.check_all(keys);
         refusal
@@ -244,6 +246,16 @@ impl State {
             archive::asternhaken_facch(state, n, tick, lent.pointer(), octets.len())
         });
         lent.check_all(octets);
+        refusal
+    }
+
+    pub fn pch(&mut self, tick: u32, entry: &[u64]) -> u32 {
+        let lent = Lent::new(entry, NUMBER_GUARD, 0);
+        let octets: Vec<u8> = entry.iter().flat_map(|number| number.to_le_bytes()).collect();
+        let refusal = self.call(archive::asternhaken_pch as *const (), &[tick], &octets, |state, n| unsafe {
+            archive::asternhaken_pch(state, n, tick, lent.pointer(), entry.len())
+        });
+        lent.check_all(entry);
         refusal
     }
 
@@ -268,6 +280,12 @@ impl State {
     pub fn reconfigured(&mut self, tick: u32) -> u32 {
         self.call(archive::asternhaken_reconfigured as *const (), &[tick], &[], |state, n| unsafe {
             archive::asternhaken_reconfigured(state, n, tick)
+        })
+    }
+
+    pub fn left_idle(&mut self, tick: u32) -> u32 {
+        self.call(archive::asternhaken_left_idle as *const (), &[tick], &[], |state, n| unsafe {
+            archive::asternhaken_left_idle(state, n, tick)
         })
     }
 

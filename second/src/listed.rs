@@ -4,10 +4,13 @@ use crate::elements::{CALL_REFERENCE, CAUSE, DIGITS};
 use crate::messages::{compare_facch, compare_nch, compare_nch_write};
 use crate::pair::Pair;
 use crate::receiver::Event;
+use crate::rows;
 use crate::state::{FIRST_RECORD_PART, RECORD_NUMBERS, STATE_LENGTH};
 use crate::tally::{hex, Tally};
 use std::path::{Path, PathBuf};
 
+/// events.tsv names two timers; the third is the default.
+const T3210: u32 = 5_000;
 const NCH_READING: usize = 106;
 const FACCH_READING: usize = 22;
 
@@ -57,7 +60,7 @@ pub fn listed(tally: &mut Tally) {
 }
 
 /// The vectors stand beside this folder; ASTERNHAKEN_VECTORS names another place.
-fn folder() -> PathBuf {
+pub fn folder() -> PathBuf {
     match std::env::var("ASTERNHAKEN_VECTORS") {
         Ok(folder) => PathBuf::from(folder),
         Err(_) => Path::new(env!("CARGO_MANIFEST_DIR")).join("../vectors"),
@@ -79,6 +82,7 @@ pub fn vectors(tally: &mut Tally) {
     nch_mixed(tally);
     facch_mixed(tally);
     events(tally);
+    rows::run(tally);
 }
 
 fn number(text: &str) -> u64 {
@@ -327,7 +331,7 @@ fn events(tally: &mut Tally) {
         let event = match words[0] {
             "setup" => {
                 let numbers: Vec<u32> = words[2..].iter().map(|word| word.parse().unwrap()).collect();
-                let archive = pair.setup(tally, &numbers[2..], tick, numbers[0], numbers[1]);
+                let archive = pair.setup(tally, &numbers[2..], tick, [numbers[0], numbers[1], T3210]);
                 tally.same("events.tsv: setup (second is the file)", || row[0].clone(), &u64::from(archive), &head[0]);
                 continue;
             }

@@ -1,16 +1,17 @@
-//! The second program: an implementation of document 01 (the scope) that shares nothing with the proved one, and a comparison of the two.
+//! The second program: an implementation of document 01 (the scope) and of the requests of document 02 that have landed (§8) that shares nothing
+//! with the proved one, and a comparison of the two.
 //!
-//! It was written from documents, without sight of the proved code: 01, the readings of its open places, the sources 000 to 004,
+//! It was written from documents, without sight of the proved code: 01, 02, the readings of their open places, the sources 000 to 004,
 //! include/asternhaken.h and docs/STATE.md; docs/DECISIONS.md and docs/PROMISES.md had been seen as well. Three places that these leave open,
 //! all in states that no setup left, were taken over from the archive once the comparison had shown them: a half at the later place of a key
 //! that stands twice is under another key; a joined record has a VSTK_RAND even where the second half held says it has none; and where no
 //! half has a count, a joined record keeps the numbers that the first half has behind that flag. Nothing of this is linked into the
 //! library. The files:
 //!
-//! - bits, call, nch, facch, gcc, numbers: readers and writers; receiver, state: the receiver and the octets of its lent state;
+//! - bits, call, nch, facch, pch, gcc, numbers: readers and writers; receiver, state: the receiver and the octets of its lent state;
 //!   one: the receiver of one call on one channel, which knows of nothing else;
 //! - ffi: the archive's functions, with guards around everything that is lent; pair: both sides over one state;
-//! - listed, scenes: the listed inputs, the vector files, and hand-written scenes for each sentence on the store and on what is told;
+//! - listed, rows, scenes: the listed inputs, the vector files, and hand-written scenes for each sentence on the store and on what is told;
 //! - draft, messages, elements, steps: messages laid out from the grammar, and random messages, records, elements and event sequences;
 //!   cover: what these must have met; record: the calls of the archive, written down.
 //!
@@ -25,7 +26,7 @@
 //! the archive was asked and what it answered: replay.c asks the same of another build of it, one for another processor too.
 //!
 //! Compared are: refusal, record and bits used of every reading; refusal and all lent octets after every writing; refusal, every number of
-//! the answer (through asternhaken_read, parts and entries beyond the last too) and all 6,984 octets of the state after every setup and
+//! the answer (through asternhaken_read, parts and entries beyond the last too) and all 10,040 octets of the state after every setup and
 //! event, also from states that no setup left; that nothing beside lent memory was written; and, from a setup on, what each subscribed call
 //! is told on each channel with what the one-call receiver tells it. The run fails where a refusal or a told number was met fewer than a
 //! hundred times, or where the event steps met something too seldom that cover.rs lists. The last line is `N passed, M failed`.
@@ -46,9 +47,11 @@ mod nch;
 mod numbers;
 mod one;
 mod pair;
+mod pch;
 mod receiver;
 mod record;
 mod rng;
+mod rows;
 mod scenes;
 mod state;
 mod steps;

@@ -5,16 +5,20 @@
 
 use crate::facch::Facch;
 use crate::nch::Nch;
-use crate::receiver::{facch_entry, nch_entries, Channel, Record};
+use crate::pch::Pch;
+use crate::receiver::{facch_entry, nch_entries, pch_entry, Channel, Record};
 
 /// What a call sees of an accepted event.
 pub enum Seen<'a> {
     Nch(&'a Nch),
     Facch(&'a Facch),
+    /// Of an entry under another key it looks at the key alone.
+    Pch(&'a Pch),
     Joined(u32),
     Reselected,
     HandedOver,
     Reconfigured,
+    LeftIdle,
     Nothing,
 }
 
@@ -79,6 +83,7 @@ impl One {
                     outcome.told.push(self.on_facch(entry));
                 }
             }
+            (Channel::Pch, Seen::Pch(given)) if given.key == self.key => outcome.told.push(self.on_pch(given.ciphered, pch_entry(given))),
             _ => {}
         }
         outcome.second_first = std::mem::take(&mut self.second_first);
@@ -90,8 +95,10 @@ impl One {
     fn leaves(&self, seen: &Seen) -> bool {
         match seen {
             Seen::Joined(key) => *key != self.key,
-            Seen::Reselected => self.channel == Channel::Nch,
+            Seen::Reselected => matches!(self.channel, Channel::Nch | Channel::Pch),
             Seen::HandedOver | Seen::Reconfigured => self.channel == Channel::Facch,
+            Seen::LeftIdle => self.channel == Channel::Pch,
+            Seen::Pch(given) => self.channel == Channel::Pch && given.key != self.key,
             Seen::Nch(message) => self.channel == Channel::Nch && self.nln.is_some() && message.nln.is_some() && message.nln != self.nln,
             Seen::Facch(_) | Seen::Nothing => false,
         }
@@ -124,6 +131,17 @@ impl One {
             (false, true, true) if self.held.is_none() => (8, None),
             (false, true, true) => self.half(true, entry),
             (false, _, _) => (6, None),
+        }
+    }
+
+    /// Either half may come first. What has no full reference has no description either: a second half, or of no use.
+    fn on_pch(&mut self, ciphered: bool, entry: Record) -> (u64, Option<Record>) {
+        match (ciphered, entry.described, entry.rand_given) {
+            (false, true, _) => (1, Some(entry)),
+            (true, true, true) => (2, Some(entry)),
+            (true, true, false) => self.half(false, entry),
+            (true, false, true) => self.half(true, entry),
+            (_, false, _) => (if entry.full { 6 } else { 7 }, None),
         }
     }
 

@@ -7,7 +7,7 @@ use crate::one::{One, Outcome, Seen};
 use crate::receiver::*;
 use crate::state::*;
 use crate::tally::{hex, Tally};
-use crate::{facch, nch};
+use crate::{facch, nch, pch};
 
 /// Entries and parts that are asked for after each event: all there can be, and some beyond.
 const ENTRIES_ASKED: u32 = 11;
@@ -48,10 +48,12 @@ pub fn event_line(tick: u32, event: &Event) -> String {
     match event {
         Event::Nch(octets) => format!("nch {tick} {}", hex(octets)),
         Event::Facch(octets) => format!("facch {tick} {}", hex(octets)),
+        Event::Pch(numbers) => format!("pch {tick} {numbers:?}"),
         Event::Joined(key) => format!("joined {tick} {key}"),
         Event::Reselected => format!("reselected {tick}"),
         Event::HandedOver => format!("handed_over {tick}"),
         Event::Reconfigured => format!("reconfigured {tick}"),
+        Event::LeftIdle => format!("left_idle {tick}"),
         Event::Tick => format!("tick {tick}"),
     }
 }
@@ -60,10 +62,12 @@ pub fn feed(state: &mut ffi::State, tick: u32, event: &Event) -> Refusal {
     match event {
         Event::Nch(octets) => state.nch(tick, octets),
         Event::Facch(octets) => state.facch(tick, octets),
+        Event::Pch(numbers) => state.pch(tick, numbers),
         Event::Joined(key) => state.joined(tick, *key),
         Event::Reselected => state.reselected(tick),
         Event::HandedOver => state.handed_over(tick),
         Event::Reconfigured => state.reconfigured(tick),
+        Event::LeftIdle => state.left_idle(tick),
         Event::Tick => state.tick(tick),
     }
 }
@@ -103,16 +107,15 @@ impl Pair {
         tally.check(archive == second, || format!("  {what}: the state afterwards\n{}\n  {}", self.tell(), differing(archive, second)));
     }
 
-    pub fn setup(&mut self, tally: &mut Tally, keys: &[u32], tick: u32, t3206: u32, t3208: u32) -> Refusal {
-        let words: Vec<String> = keys.iter().map(u32::to_string).collect();
-        let line = format!("setup {tick} {t3206} {t3208} {}", words.join(" "));
-        let archive = self.archive.setup(keys, tick, t3206, t3208);
-        let second = self.mirror.setup(keys, tick, t3206, t3208).err().unwrap_or(0);
+    pub fn setup(&mut self, tally: &mut Tally, keys: &[u32], tick: u32, timers: Timers) -> Refusal {
+        let line = format!("setup {tick} {timers:?} {keys:?}");
+        let archive = self.archive.setup(keys, tick, timers);
+        let second = self.mirror.setup(keys, tick, timers).err().unwrap_or(0);
         if second == 0 {
             self.log.clear();
             self.from_setup = true;
-            let both = |&key| [One::new(key, Channel::Nch, t3206), One::new(key, Channel::Facch, t3208)];
-            self.ones = keys.iter().flat_map(both).collect();
+            let each = |&key| CHANNELS.map(|channel| One::new(key, channel, timers[channel as usize]));
+            self.ones = keys.iter().flat_map(each).collect();
         }
         self.log.push(line);
         tally.count_refusal(archive);
@@ -129,6 +132,9 @@ impl Pair {
         let archive = feed(&mut self.archive, tick, event);
         let second = self.mirror.event(tick, event);
         tally.count_refusal(archive);
+        if let (Event::Pch(_), true) = (event, archive != 0) {
+            tally.cover.count(Met::Refused(Channel::Pch, archive), 1);
+        }
         tally.same("event: refusal", || self.story(), &archive, &second.as_ref().err().copied().unwrap_or(0));
         self.check_state(tally, "event");
         self.check_parts(tally);
@@ -189,7 +195,7 @@ impl Pair {
         if !self.from_setup {
             return;
         }
-        let (read_nch, read_facch);
+        let (read_nch, read_facch, read_pch);
         let seen = match event {
             Event::Nch(octets) => {
                 let Ok((message, _)) = nch::read(octets) else { return };
@@ -201,20 +207,29 @@ impl Pair {
                 read_facch = message;
                 Seen::Facch(&read_facch)
             }
+            Event::Pch(numbers) => {
+                let Ok(entry) = pch::read(numbers) else { return };
+                read_pch = entry;
+                Seen::Pch(&read_pch)
+            }
             Event::Joined(key) => Seen::Joined(*key),
             Event::Reselected => Seen::Reselected,
             Event::HandedOver => Seen::HandedOver,
             Event::Reconfigured => Seen::Reconfigured,
+            Event::LeftIdle => Seen::LeftIdle,
             Event::Tick => Seen::Nothing,
         };
         // A tick and a FACCH message drop nothing, which the counts below show.
         let (channel, cause) = match event {
             Event::Nch(_) => (Some(Channel::Nch), Cause::OtherNln),
             Event::Facch(_) => (Some(Channel::Facch), Cause::RanOut),
+            Event::Pch(numbers) if self.ones.iter().any(|one| u64::from(one.key) == numbers[0]) => (Some(Channel::Pch), Cause::OtherKey),
+            Event::Pch(_) => (Some(Channel::Pch), Cause::StrangeKey),
             Event::Joined(_) => (None, Cause::Joined),
             Event::Reselected => (None, Cause::Reselected),
             Event::HandedOver => (None, Cause::HandedOver),
             Event::Reconfigured => (None, Cause::Reconfigured),
+            Event::LeftIdle => (None, Cause::LeftIdle),
             Event::Tick => (None, Cause::RanOut),
         };
         if let Some(channel) = channel {
@@ -228,7 +243,7 @@ impl Pair {
             dropped += left;
             tally.cover.count(Met::Lost(Cause::RanOut, one.channel), ran_out);
             tally.cover.count(Met::Lost(cause, one.channel), left);
-            tally.cover.count(Met::SecondFirst, second_first);
+            tally.cover.count(Met::SecondFirst(one.channel), second_first);
             tally.cover.count(Met::Disagreed(one.channel), disagreed);
             let here = channel == Some(one.channel);
             let own: Vec<_> = own.into_iter().map(|(number, record)| (number, record.as_ref().map(numbers_of))).collect();

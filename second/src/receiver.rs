@@ -1,9 +1,10 @@
-//! The receiver (document 01, "Setup, clock and store" and "What each notified call is told").
+//! The receiver (document 01, "Setup, clock and store" and "What each notified call is told"; document 02, §8, the paging channel).
 
 use crate::bits::*;
 use crate::call::{Call, Frequencies};
 use crate::facch::{self, Facch};
 use crate::nch::{self, Nch};
+use crate::pch::{self, Pch};
 use std::collections::BTreeMap;
 
 pub const LAST_KEY: u32 = 199_999_999;
@@ -14,7 +15,13 @@ pub const LONGEST_TIMER: u32 = 60_000;
 pub enum Channel {
     Nch,
     Facch,
+    Pch,
 }
+
+pub const CHANNELS: [Channel; 3] = [Channel::Nch, Channel::Facch, Channel::Pch];
+
+/// T3206, T3208 and T3210: one for each channel, in the channels' order.
+pub type Timers = [u32; CHANNELS.len()];
 
 /// What an entry brings: its own parts, and its message's count, uplink, AMR and SMS parts.
 #[derive(Clone, Copy, Debug, Default, PartialEq)]
@@ -86,7 +93,7 @@ impl Record {
         2 * self.reference + u64::from(self.vgcs)
     }
 
-    /// Every reduced reference counts as ciphered.
+    /// Every reduced reference of the NCH counts as ciphered; the PCH marks what is.
     fn is_ciphered(&self) -> bool {
         !self.full || self.cipher_key_number != 0
     }
@@ -161,6 +168,19 @@ pub fn facch_entry(message: &Facch) -> Record {
     entry
 }
 
+/// The one entry of a PCH event. Without the full reference it is a reduced one.
+pub fn pch_entry(given: &Pch) -> Record {
+    let mut entry = match &given.call {
+        Some(call) => Record::of_call(call),
+        None => Record { reference: u64::from(given.key / 2), vgcs: given.key % 2 == 1, ..Record::default() },
+    };
+    entry.rand_given = given.vstk_rand.is_some();
+    entry.vstk_rand = given.vstk_rand.unwrap_or(0);
+    entry.counted = given.cell_global_count.is_some();
+    entry.cell_global_count = given.cell_global_count.unwrap_or(0);
+    entry
+}
+
 #[derive(Clone, Copy, Debug, PartialEq)]
 pub enum Segment {
     First,
@@ -178,16 +198,16 @@ enum Class {
     Unusable,
 }
 
-fn class(channel: Channel, entry: &Record) -> Class {
-    // On the FACCH there is no Segment Id to look at.
-    let says = |id: bool| channel == Channel::Facch || (entry.segmented && entry.segment_id == id);
-    if !entry.is_ciphered() && entry.described {
+fn class(channel: Channel, ciphered: bool, entry: &Record) -> Class {
+    // Only the NCH has a Segment Id to look at.
+    let says = |id: bool| channel != Channel::Nch || (entry.segmented && entry.segment_id == id);
+    if !ciphered && entry.described {
         Class::Clear
-    } else if entry.is_ciphered() && entry.described && entry.rand_given && says(false) {
+    } else if ciphered && entry.described && entry.rand_given && says(false) {
         Class::OnePiece
-    } else if entry.is_ciphered() && entry.described && !entry.rand_given && says(false) {
+    } else if ciphered && entry.described && !entry.rand_given && says(false) {
         Class::Half(Segment::First)
-    } else if entry.is_ciphered() && !entry.described && entry.rand_given && says(true) {
+    } else if ciphered && !entry.described && entry.rand_given && says(true) {
         Class::Half(Segment::Second)
     } else if entry.full && !entry.described {
         Class::NoChannel
@@ -226,10 +246,12 @@ fn agree(one: &Record, other: &Record) -> bool {
 pub enum Event {
     Nch(Vec<u8>),
     Facch(Vec<u8>),
+    Pch(Vec<u64>),
     Joined(u32),
     Reselected,
     HandedOver,
     Reconfigured,
+    LeftIdle,
     Tick,
 }
 
@@ -254,8 +276,7 @@ pub type Place = (usize, Channel);
 #[derive(Clone, Debug, PartialEq)]
 pub struct Receiver {
     pub tick: u32,
-    pub t3206: u32,
-    pub t3208: u32,
+    pub timers: Timers,
     pub nln: Option<u8>,
     pub keys: Vec<u32>,
     pub halves: BTreeMap<Place, Half>,
@@ -267,10 +288,12 @@ pub struct Receiver {
 enum Read {
     Nch(Nch),
     Facch(Facch),
+    Pch(Pch),
     Joined(u32),
     Reselected,
     HandedOver,
     Reconfigured,
+    LeftIdle,
     Tick,
 }
 
@@ -278,25 +301,27 @@ fn read(event: &Event) -> Result<Read, Refusal> {
     Ok(match event {
         Event::Nch(octets) => Read::Nch(nch::read(octets)?.0),
         Event::Facch(octets) => Read::Facch(facch::read(octets)?.0),
+        Event::Pch(numbers) => Read::Pch(pch::read(numbers)?),
         Event::Joined(key) if *key > LAST_KEY => return Err(REFERENCE),
         Event::Joined(key) => Read::Joined(*key),
         Event::Reselected => Read::Reselected,
         Event::HandedOver => Read::HandedOver,
         Event::Reconfigured => Read::Reconfigured,
+        Event::LeftIdle => Read::LeftIdle,
         Event::Tick => Read::Tick,
     })
 }
 
 impl Receiver {
-    pub fn setup(keys: &[u32], tick: u32, t3206: u32, t3208: u32) -> Result<Receiver, Refusal> {
+    pub fn setup(keys: &[u32], tick: u32, timers: Timers) -> Result<Receiver, Refusal> {
         let mut sorted = keys.to_vec();
         sorted.sort_unstable();
         let repeated = sorted.windows(2).any(|pair| pair[0] == pair[1]);
-        let timers = [t3206, t3208].iter().all(|timer| (1..=LONGEST_TIMER).contains(timer));
-        if keys.len() > MOST_KEYS || keys.iter().any(|&key| key > LAST_KEY) || repeated || !timers {
+        let in_range = timers.iter().all(|timer| (1..=LONGEST_TIMER).contains(timer));
+        if keys.len() > MOST_KEYS || keys.iter().any(|&key| key > LAST_KEY) || repeated || !in_range {
             return Err(SETUP);
         }
-        Ok(Receiver { tick, t3206, t3208, nln: None, keys: keys.to_vec(), halves: BTreeMap::new(), touched: Vec::new() })
+        Ok(Receiver { tick, timers, nln: None, keys: keys.to_vec(), halves: BTreeMap::new(), touched: Vec::new() })
     }
 
     /// A setup's keys are all different. In octets that no setup left a key may stand twice: its first place counts, and what is held at a
@@ -305,11 +330,8 @@ impl Receiver {
         self.keys.iter().position(|&subscribed| u64::from(subscribed) == key)
     }
 
-    fn timer(&self, channel: Channel) -> u32 {
-        match channel {
-            Channel::Nch => self.t3206,
-            Channel::Facch => self.t3208,
-        }
+    pub fn timer(&self, channel: Channel) -> u32 {
+        self.timers[channel as usize]
     }
 
     /// Frees the places of the halves that `leaves` names and says how many there were.
@@ -332,20 +354,26 @@ impl Receiver {
         let expired = self.discard(|me, place, half| tick.wrapping_sub(half.tick) >= me.timer(place.1));
         let dropped = match &event {
             Read::Joined(key) => self.discard(|me, place, _| me.place_of(u64::from(*key)) != Some(place.0)),
-            Read::Reselected => self.discard(|_, place, _| place.1 == Channel::Nch),
+            Read::Reselected => self.discard(|_, place, _| place.1 != Channel::Facch),
             Read::HandedOver | Read::Reconfigured => self.discard(|_, place, _| place.1 == Channel::Facch),
+            Read::LeftIdle => self.discard(|_, place, _| place.1 == Channel::Pch),
             Read::Nch(message) => self.see_nln(message.nln),
+            Read::Pch(entry) => self.see_key(entry.key),
             Read::Facch(_) | Read::Tick => 0,
         };
         let mut answer = Answer { expired, dropped, entries: Vec::new() };
         match &event {
             Read::Nch(message) => {
                 for entry in nch_entries(message) {
-                    let told = self.tell(Channel::Nch, entry);
+                    let told = self.tell(Channel::Nch, entry.is_ciphered(), entry);
                     answer.entries.push(told);
                 }
             }
-            Read::Facch(message) => answer.entries.push(self.tell(Channel::Facch, facch_entry(message))),
+            Read::Facch(message) => {
+                let entry = facch_entry(message);
+                answer.entries.push(self.tell(Channel::Facch, entry.is_ciphered(), entry));
+            }
+            Read::Pch(entry) => answer.entries.push(self.tell(Channel::Pch, entry.ciphered, pch_entry(entry))),
             _ => {}
         }
         Ok(answer)
@@ -363,10 +391,16 @@ impl Receiver {
         }
     }
 
-    fn tell(&mut self, channel: Channel, entry: Record) -> Told {
+    /// A PCH entry says that the PCH is now used for its key, whoever subscribed it: halves under any other are dropped there.
+    fn see_key(&mut self, key: u32) -> u64 {
+        let own = self.place_of(u64::from(key));
+        self.discard(|_, place, _| place.1 == Channel::Pch && own != Some(place.0))
+    }
+
+    fn tell(&mut self, channel: Channel, ciphered: bool, entry: Record) -> Told {
         let key = entry.key();
         let place = self.place_of(key);
-        let (number, record) = match (place, class(channel, &entry)) {
+        let (number, record) = match (place, class(channel, ciphered, &entry)) {
             (None, _) => (0, None),
             (Some(_), Class::Clear) => (1, Some(entry)),
             (Some(_), Class::OnePiece) => (2, Some(entry)),

@@ -1,11 +1,11 @@
-//! Hand-written scenes: each sentence of document 01's "Setup, clock and store" and "What each notified call is told", with the outcome
-//! that it asks for. The outcome is asked of both sides.
+//! Hand-written scenes: each sentence of document 01's "Setup, clock and store" and "What each notified call is told", and of document 02's §8,
+//! with the outcome that it asks for. The outcome is asked of both sides.
 
-use crate::draft::{CallDraft, FacchDraft, NchDraft, SevenDraft, SixDraft};
+use crate::draft::{CallDraft, FacchDraft, Hops, NchDraft, PchDraft, SevenDraft, SixDraft};
 use crate::ffi;
 use crate::pair::{Pair, Said};
-use crate::receiver::Event;
-use crate::state::STATE_LENGTH;
+use crate::receiver::{Channel, Event, Timers};
+use crate::state::*;
 use crate::tally::Tally;
 
 /// Reference 4711 as VBS and as VGCS, another call, the last key, and one that nobody subscribed.
@@ -14,7 +14,7 @@ const VGCS: u32 = 9_423;
 const OTHER: u32 = 24_691_357;
 const LAST: u32 = 199_999_999;
 const STRANGER: u32 = 77_777;
-const KEYS: [u32; 4] = [VBS, VGCS, OTHER, LAST];
+const SUBSCRIBED: [u32; 4] = [VBS, VGCS, OTHER, LAST];
 
 /// Parts of the header that scenes ask for.
 const CHANNEL: u32 = 6;
@@ -52,14 +52,14 @@ struct Scene<'a> {
 }
 
 impl<'a> Scene<'a> {
-    /// A receiver with the four keys at tick 1,000; T3206 is 5,000 ms and T3208 4,000 ms.
+    /// A receiver with the four keys at tick 1,000; T3206 is 5,000 ms, T3208 4,000 ms and T3210 3,000 ms.
     fn new(tally: &'a mut Tally, name: &'static str) -> Scene<'a> {
-        Scene::with(tally, name, &KEYS, 1_000, 5_000, 4_000)
+        Scene::with(tally, name, &SUBSCRIBED, 1_000, [5_000, 4_000, 3_000])
     }
 
-    fn with(tally: &'a mut Tally, name: &'static str, keys: &[u32], tick: u32, t3206: u32, t3208: u32) -> Scene<'a> {
+    fn with(tally: &'a mut Tally, name: &'static str, keys: &[u32], tick: u32, timers: Timers) -> Scene<'a> {
         let mut pair = Pair::of(&[0x5A; STATE_LENGTH], 0);
-        let refusal = pair.setup(tally, keys, tick, t3206, t3208);
+        let refusal = pair.setup(tally, keys, tick, timers);
         tally.same("scene: setup", || name.to_string(), &refusal, &0);
         Scene { tally, name, pair, said: None, line: 0 }
     }
@@ -86,6 +86,10 @@ impl<'a> Scene<'a> {
 
     fn facch(&mut self, tick: u32, draft: FacchDraft) -> &mut Self {
         self.event(tick, Event::Facch(draft.octets()))
+    }
+
+    fn pch(&mut self, tick: u32, draft: PchDraft) -> &mut Self {
+        self.event(tick, Event::Pch(draft.numbers()))
     }
 
     /// What both sides must have said: expired, dropped, and the numbers told.
@@ -175,6 +179,18 @@ fn facch_second(key: u32, vstk_rand: u64) -> FacchDraft {
     FacchDraft::of(call(key)).rand(vstk_rand)
 }
 
+fn pch_first(key: u32) -> PchDraft {
+    PchDraft::of(call(key).on(HERE))
+}
+
+fn pch_second(key: u32, vstk_rand: u64) -> PchDraft {
+    PchDraft::of(call(key)).rand(vstk_rand)
+}
+
+fn pch_reduced(key: u32, vstk_rand: u64) -> PchDraft {
+    PchDraft::reduced(key).rand(vstk_rand)
+}
+
 pub fn run(tally: &mut Tally) {
     setups(tally);
     clock(tally);
@@ -188,35 +204,40 @@ pub fn run(tally: &mut Tally) {
     records(tally);
     reading(tally);
     strange_octets(tally);
+    pch(tally);
+    pch_drops(tally);
+    pch_refusals(tally);
 }
 
 fn setups(tally: &mut Tally) {
     let fifty: Vec<u32> = (0..50).map(|i| LAST - 3 * i).collect();
-    let setups: &[(&str, Vec<u32>, u32, u32, u32)] = &[
-        ("no key at all", vec![], 5_000, 5_000, 0),
-        ("fifty keys", fifty.clone(), 5_000, 5_000, 0),
-        ("fifty-one keys", [fifty.clone(), vec![5]].concat(), 5_000, 5_000, 10),
-        ("65,541 keys", (0..65_541).collect(), 5_000, 5_000, 10),
-        ("the lowest and the highest key", vec![0, LAST], 5_000, 5_000, 0),
-        ("a key above the highest", vec![0, LAST + 1], 5_000, 5_000, 10),
-        ("the largest number as a key", vec![u32::MAX], 5_000, 5_000, 10),
-        ("both services of one reference", vec![VBS, VGCS], 5_000, 5_000, 0),
-        ("a repeat side by side", vec![VBS, VBS], 5_000, 5_000, 10),
-        ("a repeat from first to last", [fifty[..49].to_vec(), vec![fifty[0]]].concat(), 5_000, 5_000, 10),
-        ("shortest timers", vec![VBS], 1, 1, 0),
-        ("longest timers", vec![VBS], 60_000, 60_000, 0),
-        ("T3206 of 0", vec![VBS], 0, 5_000, 10),
-        ("T3208 of 0", vec![VBS], 5_000, 0, 10),
-        ("T3206 too long", vec![VBS], 60_001, 5_000, 10),
-        ("T3208 too long", vec![VBS], 5_000, 60_001, 10),
+    let setups: &[(&str, Vec<u32>, Timers, u32)] = &[
+        ("no key at all", vec![], [5_000, 5_000, 5_000], 0),
+        ("fifty keys", fifty.clone(), [5_000, 5_000, 5_000], 0),
+        ("fifty-one keys", [fifty.clone(), vec![5]].concat(), [5_000, 5_000, 5_000], 10),
+        ("65,541 keys", (0..65_541).collect(), [5_000, 5_000, 5_000], 10),
+        ("the lowest and the highest key", vec![0, LAST], [5_000, 5_000, 5_000], 0),
+        ("a key above the highest", vec![0, LAST + 1], [5_000, 5_000, 5_000], 10),
+        ("the largest number as a key", vec![u32::MAX], [5_000, 5_000, 5_000], 10),
+        ("both services of one reference", vec![VBS, VGCS], [5_000, 5_000, 5_000], 0),
+        ("a repeat side by side", vec![VBS, VBS], [5_000, 5_000, 5_000], 10),
+        ("a repeat from first to last", [fifty[..49].to_vec(), vec![fifty[0]]].concat(), [5_000, 5_000, 5_000], 10),
+        ("shortest timers", vec![VBS], [1, 1, 1], 0),
+        ("longest timers", vec![VBS], [60_000, 60_000, 60_000], 0),
+        ("T3206 of 0", vec![VBS], [0, 5_000, 5_000], 10),
+        ("T3208 of 0", vec![VBS], [5_000, 0, 5_000], 10),
+        ("T3206 too long", vec![VBS], [60_001, 5_000, 5_000], 10),
+        ("T3208 too long", vec![VBS], [5_000, 60_001, 5_000], 10),
+        ("T3210 of 0", vec![VBS], [5_000, 5_000, 0], 10),
+        ("T3210 too long", vec![VBS], [5_000, 5_000, 60_001], 10),
     ];
-    for (name, keys, t3206, t3208, expected) in setups {
+    for (name, keys, timers, expected) in setups {
         // Whatever the state held: a receiver with a half, or octets that no setup left.
         let mut used = Pair::of(&[0x5A; STATE_LENGTH], 0);
-        used.setup(tally, &KEYS, 1_000, 5_000, 4_000);
+        used.setup(tally, &SUBSCRIBED, 1_000, [5_000, 4_000, 3_000]);
         used.event(tally, 1_000, &Event::Nch(first(VGCS).octets()));
         for mut pair in [Pair::of(&[0xFF; STATE_LENGTH], 1), used] {
-            let refusal = pair.setup(tally, keys, 7, *t3206, *t3208);
+            let refusal = pair.setup(tally, keys, 7, *timers);
             tally.same("scene: setup (archive, document)", || name.to_string(), &refusal, expected);
         }
     }
@@ -224,43 +245,46 @@ fn setups(tally: &mut Tally) {
     for length in [0, STATE_LENGTH - 1, STATE_LENGTH + 1] {
         let mut state = ffi::State::new(&vec![0x5A; length], 3);
         let refusals = [
-            state.setup(&[0, 0], 1, 0, 0),
+            state.setup(&[0, 0], 1, [0; 3]),
             state.nch(1 << 31, &[]),
             state.facch(1 << 31, &[]),
+            state.pch(1 << 31, &[u64::MAX; 14]),
+            state.pch(1 << 31, &[]),
             state.joined(1 << 31, u32::MAX),
             state.reselected(1 << 31),
             state.handed_over(1 << 31),
             state.reconfigured(1 << 31),
+            state.left_idle(1 << 31),
             state.tick(1 << 31),
             state.read(0, 0).0,
         ];
         refusals.iter().for_each(|&refusal| tally.count_refusal(refusal));
         let untouched = state.octets().iter().all(|&octet| octet == 0x5A);
-        tally.same("scene: a state of a wrong length", || format!("{length} octets"), &(refusals, untouched), &([13; 9], true));
+        tally.same("scene: a state of a wrong length", || format!("{length} octets"), &(refusals, untouched), &([13; 12], true));
     }
 }
 
 fn clock(tally: &mut Tally) {
-    let mut s = Scene::with(tally, "a half just before its timer", &KEYS, 1_000, 5_000, 5_000);
+    let mut s = Scene::with(tally, "a half just before its timer", &SUBSCRIBED, 1_000, [5_000, 5_000, 3_000]);
     s.nch(1_000, first(VGCS)).told(&[4]);
     s.nch(5_999, second(VGCS, 7)).told(&[3]);
 
-    let mut s = Scene::with(tally, "a half at its timer", &KEYS, 1_000, 5_000, 5_000);
+    let mut s = Scene::with(tally, "a half at its timer", &SUBSCRIBED, 1_000, [5_000, 5_000, 3_000]);
     s.nch(1_000, first(VGCS)).told(&[4]);
     s.nch(6_000, second(VGCS, 7)).says(1, 0, &[4]);
 
-    let mut s = Scene::with(tally, "the tick wraps", &KEYS, 4_294_967_290, 5_000, 5_000);
+    let mut s = Scene::with(tally, "the tick wraps", &SUBSCRIBED, 4_294_967_290, [5_000, 5_000, 3_000]);
     s.event(10, Event::Tick).told(&[]);
     s.event(4_294_967_290, Event::Tick).refuses(9);
 
-    let mut s = Scene::with(tally, "a step of 2^31, and one less", &KEYS, 100, 5_000, 5_000);
+    let mut s = Scene::with(tally, "a step of 2^31, and one less", &SUBSCRIBED, 100, [5_000, 5_000, 3_000]);
     s.event(100 + 2_147_483_648, Event::Tick).refuses(9);
     s.event(99, Event::Tick).refuses(9);
     s.event(100 + 2_147_483_647, Event::Tick).told(&[]);
     s.event(100, Event::Tick).refuses(9);
     s.event(98, Event::Tick).told(&[]);
 
-    let mut s = Scene::with(tally, "a half over the wrap", &KEYS, u32::MAX - 99, 5_000, 4_000);
+    let mut s = Scene::with(tally, "a half over the wrap", &SUBSCRIBED, u32::MAX - 99, [5_000, 4_000, 3_000]);
     s.nch(u32::MAX - 99, first(VGCS)).told(&[4]);
     s.facch(u32::MAX - 99, facch_first(VGCS)).told(&[4]);
     s.event(3_899, Event::Tick).told(&[]);
@@ -286,18 +310,21 @@ fn clock(tally: &mut Tally) {
     let events = [
         Event::Nch(empty().octets()),
         Event::Facch(FacchDraft::of(clear(STRANGER)).octets()),
+        Event::Pch(PchDraft::of(clear(STRANGER)).numbers()),
         Event::Joined(VGCS),
         Event::Reselected,
         Event::HandedOver,
         Event::Reconfigured,
+        Event::LeftIdle,
         Event::Tick,
     ];
     for event in events {
         let mut s = Scene::new(tally, "every event drops what has run out");
         s.nch(1_000, first(VGCS)).told(&[4]);
         s.facch(2_000, facch_first(VGCS)).told(&[4]);
-        let entries: &[u64] = if matches!(event, Event::Facch(_)) { &[0] } else { &[] };
-        s.event(6_000, event).says(2, 0, entries);
+        s.pch(3_000, pch_first(VGCS)).told(&[4]);
+        let entries: &[u64] = if matches!(event, Event::Facch(_) | Event::Pch(_)) { &[0] } else { &[] };
+        s.event(6_000, event).says(3, 0, entries);
     }
 
     let mut s = Scene::new(tally, "each channel has its own timer");
@@ -390,10 +417,11 @@ fn nln(tally: &mut Tally) {
 
     let mut s = Scene::new(tally, "other events leave the NLN");
     s.nch(1_000, with_nln(1, empty())).told(&[]);
-    for event in [Event::Reselected, Event::HandedOver, Event::Reconfigured, Event::Tick, Event::Joined(LAST)] {
+    for event in [Event::Reselected, Event::HandedOver, Event::Reconfigured, Event::LeftIdle, Event::Tick, Event::Joined(LAST)] {
         s.event(1_000, event).told(&[]);
     }
     s.facch(1_000, FacchDraft::of(clear(STRANGER))).told(&[0]);
+    s.pch(1_000, PchDraft::of(clear(STRANGER))).told(&[0]);
     s.nch(1_000, first(VGCS)).told(&[4]);
     s.nch(1_000, with_nln(1, empty())).told(&[]);
     s.nch(1_000, with_nln(2, empty())).says(0, 1, &[]);
@@ -410,7 +438,7 @@ fn nln(tally: &mut Tally) {
 
 fn places(tally: &mut Tally) {
     let keys: Vec<u32> = (0..50).map(|i| 2 * i + 1).collect();
-    let mut s = Scene::with(tally, "a place for each subscription and channel, used again", &keys, 0, 5_000, 5_000);
+    let mut s = Scene::with(tally, "a place for each subscription and channel, used again", &keys, 0, [5_000, 5_000, 3_000]);
     for _ in 0..2 {
         for &key in &keys {
             s.nch(0, first(key)).told(&[4]);
@@ -699,32 +727,33 @@ fn reading(tally: &mut Tally) {
 
 /// docs/STATE.md on octets that no setup left: each row of its table that reads more than one number alike.
 fn strange_octets(tally: &mut Tally) {
-    // VGCS is the second of the keys: its place on the NCH is 2. Kinds stand from 216, records from 720.
-    const KIND: usize = 216 + 2;
-    const RECORD: usize = 720 + 56 * 2;
+    // VGCS is the second of the keys.
+    let place = place_number((1, Channel::Nch));
+    let (kind_octet, record_octet) = (KINDS + place, RECORDS + RECORD_OCTETS * place);
+    let facch_kind = KINDS + place_number((1, Channel::Facch));
     for kind in [3, 127, 128, 255] {
         let mut s = Scene::new(tally, "a kind above 2 is the opposite of whatever half comes");
-        s.nch(1_000, second(VGCS, 7)).told(&[4]).with_octets(&[(KIND, kind)]);
+        s.nch(1_000, second(VGCS, 7)).told(&[4]).with_octets(&[(kind_octet, kind)]);
         s.nch(1_001, first(VGCS)).told(&[3]).has(&[(0, CHANNEL, HERE), (0, VSTK_RAND, 7)]);
-        s.nch(1_002, first(VGCS)).told(&[4]).with_octets(&[(KIND, kind)]);
+        s.nch(1_002, first(VGCS)).told(&[4]).with_octets(&[(kind_octet, kind)]);
         s.nch(1_003, second(VGCS, 8)).told(&[3]).has(&[(0, CHANNEL, HERE), (0, VSTK_RAND, 8)]);
-        s.nch(1_004, first(VGCS)).told(&[4]).with_octets(&[(KIND, kind)]);
+        s.nch(1_004, first(VGCS)).told(&[4]).with_octets(&[(kind_octet, kind)]);
         s.nch(1_005, nch(vec![call(VGCS).on(THERE)], &[(0, None)])).told(&[3]).has(&[(0, CHANNEL, THERE)]);
-        s.nch(1_006, second(VGCS, 9)).told(&[4]).with_octets(&[(KIND, kind)]);
+        s.nch(1_006, second(VGCS, 9)).told(&[4]).with_octets(&[(kind_octet, kind)]);
         s.nch(1_007, nch(vec![CallDraft { priority: 6, ..call(VGCS) }], &[(1, Some(7))])).told(&[7]);
         s.event(6_006, Event::Tick).says(1, 0, &[]);
-        s.nch(6_007, second(VGCS, 9)).told(&[4]).with_octets(&[(KIND, kind)]);
+        s.nch(6_007, second(VGCS, 9)).told(&[4]).with_octets(&[(kind_octet, kind)]);
         s.event(6_008, Event::Reselected).says(0, 1, &[]);
-        s.facch(6_009, facch_first(VGCS)).told(&[4]).with_octets(&[(KIND + 1, kind)]);
+        s.facch(6_009, facch_first(VGCS)).told(&[4]).with_octets(&[(facch_kind, kind)]);
         s.facch(6_010, facch_first(VGCS)).told(&[3]);
     }
     let mut s = Scene::new(tally, "a second half held on the FACCH, as no event leaves it");
-    s.facch(1_000, facch_first(VGCS)).told(&[4]).with_octets(&[(KIND + 1, 2)]);
+    s.facch(1_000, facch_first(VGCS)).told(&[4]).with_octets(&[(facch_kind, 2)]);
     s.facch(1_001, facch_second(VGCS, 9)).told(&[5]);
     s.facch(1_002, FacchDraft::of(call(VGCS).on(THERE))).told(&[3]).has(&[(0, CHANNEL, THERE)]);
 
     let mut s = Scene::new(tally, "kind 0 is an empty place, whatever stands there");
-    s.nch(1_000, first(VGCS)).told(&[4]).with_octets(&[(KIND, 0)]);
+    s.nch(1_000, first(VGCS)).told(&[4]).with_octets(&[(kind_octet, 0)]);
     s.event(1_001, Event::Reselected).told(&[]);
     s.nch(1_002, second(VGCS, 7)).told(&[4]);
 
@@ -732,22 +761,22 @@ fn strange_octets(tally: &mut Tally) {
         let mut s = Scene::new(tally, "a flag is yes unless it is 0");
         s.nch(1_000, first(VGCS)).told(&[4]);
         // Full reference, VGCS, described; emergency; a count of 2 with B22.
-        let flags = [24, 25, 27, 33, 34, 35].map(|place| (RECORD + place, flag));
-        s.with_octets(&flags).with_octets(&[(RECORD + 47, 2)]);
+        let flags = [24, 25, 27, 33, 34, 35].map(|place| (record_octet + place, flag));
+        s.with_octets(&flags).with_octets(&[(record_octet + 47, 2)]);
         s.nch(1_001, second(VGCS, 7)).told(&[3]);
         s.has(&[(0, FULL, 1), (0, 10, 1), (0, 12, 1), (0, EMERGENCY, 1), (0, COUNTED, 1), (0, B22_COUNT, 1), (0, CELL_GLOBAL_COUNT, 2)]);
-        s.with_octets(&[(6_336 + 16 + 24, flag), (6_336 + 16 + 33, 0)]).has(&[(0, FULL, 1), (0, EMERGENCY, 0)]);
+        s.with_octets(&[(ENTRIES + 16 + 24, flag), (ENTRIES + 16 + 33, 0)]).has(&[(0, FULL, 1), (0, EMERGENCY, 0)]);
     }
 
     for (octet, nln, dropped) in [(4, 3, 0), (5, 3, 1), (255, 0, 1), (3, 3, 0)] {
         let mut s = Scene::new(tally, "NLN 4 is none; a number above 4 is one that no message has");
-        s.nch(1_000, first(VGCS)).told(&[4]).with_octets(&[(12, octet)]);
+        s.nch(1_000, first(VGCS)).told(&[4]).with_octets(&[(NLN, octet)]);
         s.nch(1_001, with_nln(nln, empty())).says(0, dropped, &[]);
     }
 
     let mut s = Scene::new(tally, "a key that stands twice counts at its first place");
     let key = VGCS.to_le_bytes();
-    let octets: Vec<(usize, u8)> = (0..4).map(|i| (16 + 4 * 3 + i, key[i])).collect();
+    let octets: Vec<(usize, u8)> = (0..4).map(|i| (KEYS + 4 * 3 + i, key[i])).collect();
     s.nch(1_000, first(LAST)).told(&[4]).with_octets(&octets);
     s.nch(1_001, second(VGCS, 7)).told(&[4]);
     s.nch(1_002, first(LAST)).told(&[0]);
@@ -758,12 +787,12 @@ fn strange_octets(tally: &mut Tally) {
     let mut s = Scene::new(tally, "any count is read as it stands, of nine entries at most; a record only where 1 to 3 was told");
     s.nch(1_000, nch(vec![clear(VGCS).on(HERE)], &[])).told(&[1]);
     for count in [9, 10, 256, u32::MAX] {
-        let octets: Vec<(usize, u8)> = (0..4).map(|i| (6_328 + i, count.to_le_bytes()[i])).collect();
-        s.with_octets(&octets).with_octets(&[(6_336 + 72 * 8, 5), (6_336 + 72 * 8 + 8, 200)]);
+        let octets: Vec<(usize, u8)> = (0..4).map(|i| (COUNT + i, count.to_le_bytes()[i])).collect();
+        s.with_octets(&octets).with_octets(&[(ENTRIES + ENTRY_OCTETS * 8, 5), (ENTRIES + ENTRY_OCTETS * 8 + 8, 200)]);
         s.has(&[(0, 2, u64::from(count)), (0, CHANNEL, HERE), (8, 3, 5), (8, 4, 200), (9, 3, 0), (9, 4, 0)]);
     }
     for told in [0, 4, 8, 9, 255] {
-        s.with_octets(&[(6_336 + 8, told)]).has(&[(0, 4, u64::from(told)), (0, CHANNEL, 0), (0, FULL, 0)]);
+        s.with_octets(&[(ENTRIES + 8, told)]).has(&[(0, 4, u64::from(told)), (0, CHANNEL, 0), (0, FULL, 0)]);
     }
 
     let mut s = Scene::new(tally, "times of any number are times");
@@ -775,11 +804,278 @@ fn strange_octets(tally: &mut Tally) {
     s.event(1_000, Event::Tick).says(1, 0, &[]);
 
     let mut s = Scene::new(tally, "unused octets are not looked at and stay");
-    let unused = (13..16).chain(316..320).chain(6_332..6_336).chain(6_345..6_352);
+    let unused = (NLN + 1..KEYS).chain(KINDS + PLACES..TICKS).chain(COUNT + 4..ENTRIES).chain(ENTRIES + 9..ENTRIES + 16);
     let octets: Vec<(usize, u8)> = unused.map(|place| (place, 0xEE)).collect();
     s.with_octets(&octets);
     s.nch(1_000, first(VGCS)).told(&[4]);
     s.nch(1_001, second(VGCS, 7)).told(&[3]);
     let stay = octets.iter().all(|&(place, octet)| s.pair.mirror.octets[place] == octet);
     s.tally.check(stay, || "  scene: the second program wrote an unused octet".to_string());
+}
+
+/// Document 02, §8: what a PCH entry is told.
+fn pch(tally: &mut Tally) {
+    let mut s = Scene::new(tally, "PCH: either half may come first, with a full reference or without");
+    s.pch(1_000, pch_first(VGCS)).told(&[4]);
+    s.pch(1_001, pch_second(VGCS, 7)).told(&[3]);
+    s.has(&[(0, CHANNEL, HERE), (0, VSTK_RAND, 7), (0, RAND_GIVEN, 1), (0, FULL, 1), (0, SEGMENTED, 0)]);
+    s.pch(1_002, pch_second(VGCS, 8)).told(&[4]);
+    s.pch(1_003, pch_first(VGCS)).told(&[3]).has(&[(0, CHANNEL, HERE), (0, VSTK_RAND, 8)]);
+    s.pch(1_004, pch_reduced(VGCS, 9)).told(&[4]);
+    s.pch(1_005, pch_first(VGCS)).told(&[3]).has(&[(0, CHANNEL, HERE), (0, VSTK_RAND, 9), (0, FULL, 1), (0, 30, 3)]);
+    s.pch(1_006, pch_first(VGCS)).told(&[4]);
+    s.pch(1_007, pch_reduced(VGCS, 10)).told(&[3]).has(&[(0, VSTK_RAND, 10), (0, FULL, 1)]);
+    s.event(1_008, Event::Joined(LAST)).told(&[]);
+
+    let mut s = Scene::new(tally, "PCH: 5, the same half again; store and timer stay");
+    s.pch(1_000, pch_first(VGCS)).told(&[4]);
+    s.pch(2_000, PchDraft::of(CallDraft { priority: 6, ..call(VGCS).on(THERE) })).told(&[5]);
+    s.pch(3_999, pch_second(VGCS, 7)).told(&[3]).has(&[(0, CHANNEL, HERE)]);
+    s.pch(4_000, pch_second(VGCS, 8)).told(&[4]);
+    s.pch(5_000, pch_reduced(VGCS, 9)).told(&[5]);
+    s.event(6_999, Event::Tick).told(&[]);
+    s.event(7_000, Event::Tick).says(1, 0, &[]);
+
+    let mut s = Scene::new(tally, "PCH: T3210 is its timer, over the wrap of the tick too");
+    s.nch(1_000, first(VGCS)).told(&[4]);
+    s.facch(1_000, facch_first(VGCS)).told(&[4]);
+    s.pch(1_000, pch_first(VGCS)).told(&[4]);
+    s.event(3_999, Event::Tick).told(&[]);
+    s.event(4_000, Event::Tick).says(1, 0, &[]);
+    s.pch(4_000, pch_second(VGCS, 7)).told(&[4]);
+    s.event(5_000, Event::Tick).says(1, 0, &[]);
+    s.event(6_000, Event::Tick).says(1, 0, &[]);
+    s.pch(6_999, pch_first(VGCS)).told(&[3]);
+    let mut s = Scene::with(tally, "PCH: a half over the wrap", &SUBSCRIBED, u32::MAX - 99, [1, 1, 3_000]);
+    s.pch(u32::MAX - 99, pch_first(VGCS)).told(&[4]);
+    s.event(2_899, Event::Tick).told(&[]);
+    s.event(2_900, Event::Tick).says(1, 0, &[]);
+
+    let mut s = Scene::new(tally, "PCH: 0, 1, 2, 6 and 7");
+    for draft in [pch_first(STRANGER), pch_second(STRANGER, 7), pch_reduced(STRANGER, 7), PchDraft::of(clear(STRANGER).on(HERE))] {
+        s.pch(1_000, draft).told(&[0]).has(&[(0, 3, u64::from(STRANGER)), (0, CHANNEL, 0), (0, FULL, 0)]);
+    }
+    s.pch(1_000, PchDraft::of(clear(VGCS).on(HERE))).told(&[1]).has(&[(0, CHANNEL, HERE), (0, RAND_GIVEN, 0), (0, COUNTED, 0)]);
+    s.pch(1_000, PchDraft::of(clear(VGCS).on(HERE)).rand(5)).told(&[1]).has(&[(0, RAND_GIVEN, 1), (0, VSTK_RAND, 5)]);
+    s.pch(1_000, pch_first(VGCS).rand(5).count(3)).told(&[2]);
+    s.has(&[(0, VSTK_RAND, 5), (0, COUNTED, 1), (0, CELL_GLOBAL_COUNT, 3), (0, B22_COUNT, 0), (0, SEGMENTED, 0), (0, UPLINK_GIVEN, 0)]);
+    s.pch(1_000, PchDraft::of(call(VGCS))).told(&[6]);
+    s.pch(1_000, PchDraft::of(clear(VGCS))).told(&[6]);
+    s.pch(1_000, PchDraft::of(clear(VGCS)).rand(7)).told(&[6]);
+    s.pch(1_000, PchDraft::reduced(VGCS)).told(&[7]);
+    s.pch(1_000, PchDraft { ciphered: false, ..PchDraft::reduced(VGCS) }).told(&[7]);
+    s.pch(1_000, PchDraft { ciphered: false, ..pch_reduced(VGCS, 7) }).told(&[7]);
+    s.event(1_000, Event::LeftIdle).told(&[]);
+
+    let mut s = Scene::new(tally, "PCH: 1 and 2 do not touch the store, nor do other channels");
+    s.pch(1_000, pch_first(VGCS)).told(&[4]);
+    s.pch(1_001, PchDraft::of(clear(VGCS).on(THERE))).told(&[1]);
+    s.pch(1_001, PchDraft::of(call(VGCS).on(THERE)).rand(5)).told(&[2]);
+    s.nch(1_002, second(VGCS, 7)).told(&[4]);
+    s.facch(1_002, facch_second(VGCS, 7)).told(&[8]);
+    s.facch(1_002, facch_first(VGCS)).told(&[4]);
+    s.pch(1_003, pch_second(VGCS, 8)).told(&[3]).has(&[(0, CHANNEL, HERE), (0, VSTK_RAND, 8)]);
+    s.nch(1_004, first(VGCS)).told(&[3]).has(&[(0, VSTK_RAND, 7)]);
+    s.facch(1_005, facch_second(VGCS, 9)).told(&[3]);
+
+    for other in
+        [CallDraft { acknowledged: 1, ..call(VGCS) }, CallDraft { priority: 3, ..call(VGCS) }, CallDraft { cipher: 2, ..call(VGCS) }]
+    {
+        let mut s =
+            Scene::new(tally, "PCH: all 36 bits must agree where both halves have them, or the newcomer gets 7 and the store stays");
+        s.pch(1_000, pch_first(VGCS)).told(&[4]);
+        s.pch(3_000, PchDraft::of(other.clone()).rand(7)).told(&[7]);
+        s.pch(3_999, pch_second(VGCS, 8)).told(&[3]);
+        s.pch(4_000, pch_second(VGCS, 9)).told(&[4]);
+        s.pch(4_001, PchDraft::of(other.clone().on(THERE))).told(&[7]);
+        s.event(6_999, Event::Tick).told(&[]);
+        s.event(7_000, Event::Tick).says(1, 0, &[]);
+        s.pch(7_000, pch_reduced(VGCS, 8)).told(&[4]);
+        s.pch(7_001, PchDraft::of(other.clone().on(THERE))).told(&[3]).has(&[(0, CHANNEL, THERE), (0, VSTK_RAND, 8)]);
+    }
+
+    // The count: (first's, second's, joined).
+    for (of_first, of_second, joined) in
+        [(None, None, None), (Some(1), None, Some(1)), (None, Some(2), Some(2)), (Some(1), Some(2), Some(2)), (Some(3), Some(0), Some(0))]
+    {
+        for second_comes_first in [false, true] {
+            let mut s = Scene::new(tally, "PCH: the count from the second if there, else the first, else none");
+            let halves = [PchDraft { count: of_first, ..pch_first(VGCS) }, PchDraft { count: of_second, ..pch_second(VGCS, 7) }];
+            let [one, two] = if second_comes_first { [halves[1].clone(), halves[0].clone()] } else { halves };
+            s.pch(1_000, one).told(&[4]);
+            s.pch(1_001, two).told(&[3]);
+            s.has(&[(0, COUNTED, u64::from(joined.is_some())), (0, CELL_GLOBAL_COUNT, joined.unwrap_or(0)), (0, B22_COUNT, 0)]);
+        }
+    }
+
+    let mut s = Scene::new(tally, "PCH: descriptions of each kind");
+    let on = |channel, hops| PchDraft::of(CallDraft { description: Some((channel, hops)), ..clear(VGCS) });
+    s.pch(1_000, on(HOPPING, Hops::Allocation(8, u64::MAX))).told(&[1]);
+    s.has(&[(0, CHANNEL, HOPPING), (0, 13, 1), (0, SHORT_LIST, 0), (0, 31, 8), (0, FREQUENCIES, u64::MAX)]);
+    s.pch(1_000, on(HOPPING, Hops::Allocation(1, 0xA5))).told(&[1]).has(&[(0, 13, 1), (0, 31, 1), (0, FREQUENCIES, 0xA5)]);
+    s.pch(1_000, on(HOPPING, Hops::List(1 << 63))).told(&[1]).has(&[(0, 13, 1), (0, SHORT_LIST, 1), (0, 31, 0), (0, FREQUENCIES, 1 << 63)]);
+}
+
+/// Document 02, §8: what drops PCH halves, and what does not.
+fn pch_drops(tally: &mut Tally) {
+    /// A half on each channel under one key.
+    fn three<'a>(tally: &'a mut Tally, name: &'static str) -> Scene<'a> {
+        let mut s = Scene::new(tally, name);
+        s.nch(1_000, first(VGCS)).told(&[4]);
+        s.facch(1_000, facch_first(VGCS)).told(&[4]);
+        s.pch(1_000, pch_first(VGCS)).told(&[4]);
+        s
+    }
+    for (key, told) in [(VBS, 4), (OTHER, 4), (STRANGER, 0)] {
+        let mut s = three(tally, "PCH: an entry under another key drops the half, subscribed or not, and no other channel's");
+        s.pch(1_001, pch_first(key)).says(0, 1, &[told]);
+        s.pch(1_002, pch_second(VGCS, 7)).says(0, u64::from(told == 4), &[4]);
+        s.nch(1_002, second(VGCS, 7)).told(&[3]);
+        s.facch(1_002, facch_second(VGCS, 7)).told(&[3]);
+    }
+    let mut s = three(tally, "PCH: whatever the other entry is told");
+    s.pch(1_001, PchDraft::of(clear(VBS))).says(0, 1, &[6]);
+    s.pch(1_002, PchDraft::of(clear(VBS))).says(0, 0, &[6]);
+    s.pch(1_003, pch_second(LAST, 7)).told(&[4]);
+    s.pch(1_004, PchDraft { ciphered: false, ..PchDraft::reduced(STRANGER) }).says(0, 1, &[0]);
+
+    let mut s = three(tally, "PCH: a half that ran out is not dropped by the other key too");
+    s.pch(4_000, pch_first(VBS)).says(1, 0, &[4]);
+
+    let mut s = three(tally, "PCH: left idle drops PCH halves alone");
+    s.event(1_001, Event::LeftIdle).says(0, 1, &[]);
+    s.nch(1_002, second(VGCS, 7)).told(&[3]);
+    s.facch(1_002, facch_second(VGCS, 7)).told(&[3]);
+    s.pch(1_002, pch_second(VGCS, 7)).told(&[4]);
+
+    let mut s = three(tally, "PCH: joined keeps its own half and drops those under another key");
+    s.event(1_001, Event::Joined(VGCS)).told(&[]);
+    s.pch(1_002, pch_second(VGCS, 7)).told(&[3]);
+    let mut s = three(tally, "PCH: joined with another key");
+    s.event(1_001, Event::Joined(VBS)).says(0, 3, &[]);
+    let mut s = three(tally, "PCH: joined with a key that is not subscribed");
+    s.event(1_001, Event::Joined(STRANGER)).says(0, 3, &[]);
+
+    let mut s = three(tally, "PCH: reselected drops all PCH halves");
+    s.event(1_001, Event::Reselected).says(0, 2, &[]);
+    s.facch(1_002, facch_second(VGCS, 7)).told(&[3]);
+    s.pch(1_002, pch_second(VGCS, 7)).told(&[4]);
+
+    for (event, dropped) in [(Event::HandedOver, 1), (Event::Reconfigured, 1), (Event::Tick, 0)] {
+        let mut s = three(tally, "PCH: handover, reconfiguration and a tick leave PCH halves");
+        s.event(1_001, event).says(0, dropped, &[]);
+        s.pch(1_002, pch_second(VGCS, 7)).told(&[3]);
+    }
+    let mut s = three(tally, "PCH: NLN changes and messages on other channels leave PCH halves");
+    s.nch(1_001, with_nln(1, empty())).told(&[]);
+    s.nch(1_001, with_nln(2, first(OTHER))).says(0, 1, &[4]);
+    s.facch(1_001, facch_first(OTHER)).told(&[4]);
+    s.pch(1_002, pch_second(VGCS, 7)).told(&[3]);
+
+    let keys: Vec<u32> = (0..50).map(|i| 2 * i + 1).collect();
+    let mut s = Scene::with(tally, "PCH: the last subscription has a place too", &keys, 0, [5_000; 3]);
+    for &key in &keys {
+        s.nch(0, first(key)).told(&[4]);
+        s.facch(0, facch_first(key)).told(&[4]);
+        s.pch(0, pch_first(key)).says(0, u64::from(key != 1), &[4]);
+    }
+    s.pch(0, pch_second(99, 7)).told(&[3]);
+    s.event(0, Event::Joined(STRANGER)).says(0, 100, &[]);
+}
+
+/// Document 02, §8: refusals of a PCH event, and their order.
+fn pch_refusals(tally: &mut Tally) {
+    const KEY: usize = 0;
+    const CIPHERED: usize = 1;
+    const FULL_GIVEN: usize = 2;
+    const REFERENCE: usize = 3;
+    const DESCRIBED: usize = 4;
+    const BITS: usize = 5;
+    const HOPS: usize = 6;
+    const LIST: usize = 7;
+    const OCTETS: usize = 8;
+    const NUMBER: usize = 9;
+    let rows: &[(&[(usize, u64)], u32)] = &[
+        (&[(KEY, 200_000_000)], 4),
+        (&[(KEY, u64::from(VGCS) + (1 << 32))], 4),
+        (&[(KEY, 200_000_000), (HOPS, 1), (BITS, HOPPING), (OCTETS, 0)], 4),
+        (&[(KEY, 200_000_000), (BITS, HOPPING)], 4),
+        (&[(KEY, 200_000_000), (CIPHERED, 2)], 4),
+        (&[(HOPS, 1), (BITS, HOPPING), (OCTETS, 0)], 3),
+        (&[(HOPS, 1), (BITS, HOPPING), (OCTETS, 9)], 3),
+        (&[(HOPS, 1), (BITS, HOPPING), (OCTETS, 256 + 1)], 3),
+        (&[(HOPS, 1), (BITS, 0), (OCTETS, 9)], 3),
+        (&[(HOPS, 2), (BITS, HOPPING), (OCTETS, 9)], 3),
+        (&[(DESCRIBED, 2), (HOPS, 1), (BITS, HOPPING), (OCTETS, 9)], 3),
+        (&[(FULL_GIVEN, 0), (HOPS, 1), (BITS, HOPPING), (OCTETS, 9), (13, 9)], 3),
+        (&[(BITS, HOPPING)], 5),
+        (&[(HOPS, 1), (OCTETS, 1)], 5),
+        (&[(HOPS, 1), (LIST, 1)], 5),
+        (&[(HOPS, 1), (LIST, 2), (OCTETS, 9)], 5),
+        (&[(BITS, HOPPING), (CIPHERED, 2)], 5),
+        (&[(BITS, HOPPING), (FULL_GIVEN, 0)], 5),
+        (&[(DESCRIBED, 2), (BITS, HOPPING)], 5),
+        (&[(HOPS, 2), (OCTETS, 1)], 5),
+        (&[(CIPHERED, 2)], 12),
+        (&[(FULL_GIVEN, 2)], 12),
+        (&[(DESCRIBED, 2)], 12),
+        (&[(HOPS, 2), (BITS, HOPPING), (OCTETS, 1)], 12),
+        (&[(HOPS, 1), (BITS, HOPPING), (LIST, 2)], 12),
+        (&[(10, 2)], 12),
+        (&[(12, 2)], 12),
+        (&[(BITS, HERE + (1 << 24))], 12),
+        (&[(HOPS, 1), (BITS, HOPPING), (OCTETS, 1), (NUMBER, 256)], 12),
+        (&[(HOPS, 1), (BITS, HOPPING), (OCTETS, 7), (NUMBER, 1 << 56)], 12),
+        (&[(10, 1), (11, 1 << 36)], 12),
+        (&[(12, 1), (13, 4)], 12),
+        (&[(FULL_GIVEN, 0)], 12),
+        (&[(KEY, u64::from(VBS))], 12),
+        (&[(KEY, u64::from(OTHER))], 12),
+        (&[(CIPHERED, 0)], 12),
+    ];
+    let set = |numbers: &mut Vec<u64>, changes: &[(usize, u64)]| changes.iter().for_each(|&(place, number)| numbers[place] = number);
+    let mut s = Scene::new(tally, "PCH: refusals");
+    s.pch(1_000, pch_first(VGCS)).told(&[4]);
+    for (changes, refusal) in rows {
+        let mut numbers = pch_first(VGCS).numbers();
+        set(&mut numbers, changes);
+        s.event(1_001, Event::Pch(numbers.clone())).refuses(*refusal);
+        s.event(999, Event::Pch(numbers)).refuses(9);
+    }
+    // Each bit of the reference and of the service flag; a bit beyond the 36; the cipher key number against the mark.
+    for bit in (8..37).chain([63]) {
+        let mut numbers = pch_first(VGCS).numbers();
+        numbers[REFERENCE] ^= 1 << bit;
+        s.event(1_001, Event::Pch(numbers)).refuses(12);
+    }
+    let mut numbers = PchDraft::of(clear(VGCS).on(HERE)).numbers();
+    numbers[CIPHERED] = 1;
+    s.event(1_001, Event::Pch(numbers)).refuses(12);
+    for length in [0, 13, 15] {
+        s.event(1_001, Event::Pch(vec![u64::MAX; length])).refuses(13);
+        // 01: 9 before the rest of an event; only the state's own length goes before it.
+        s.event(999, Event::Pch(vec![u64::MAX; length])).refuses(9);
+    }
+    // None of these took time, dropped a half or was told.
+    s.pch(3_999, pch_second(VGCS, 7)).told(&[3]);
+
+    let mut s = Scene::new(tally, "PCH: what stands behind a flag of 0, or what the branch does not use, is not looked at");
+    let most = u64::MAX;
+    let behind_nothing: [(PchDraft, &[(usize, u64)], u64); 4] = [
+        (pch_reduced(VGCS, 7), &[(3, most), (5, most), (6, most), (7, most), (8, most), (9, most), (13, most)], 4),
+        (pch_first(VGCS), &[(7, most), (8, most), (9, most), (11, most), (13, most)], 3),
+        (PchDraft::of(clear(VGCS).on(HOPPING)), &[(8, most), (11, most), (13, most)], 1),
+        (PchDraft::of(clear(VGCS)), &[(5, HOPPING), (6, 1), (8, 9), (11, most), (13, most)], 6),
+    ];
+    for (draft, changes, told) in behind_nothing {
+        let mut numbers = draft.numbers();
+        set(&mut numbers, changes);
+        s.event(1_000, Event::Pch(numbers)).told(&[told]);
+        if told == 1 {
+            s.has(&[(0, 31, 0), (0, SHORT_LIST, 1), (0, RAND_GIVEN, 0), (0, VSTK_RAND, 0), (0, COUNTED, 0), (0, CELL_GLOBAL_COUNT, 0)]);
+        }
+        if told == 3 {
+            s.has(&[(0, 13, 0), (0, SHORT_LIST, 0), (0, 31, 0), (0, FREQUENCIES, 0), (0, VSTK_RAND, 7), (0, COUNTED, 0)]);
+        }
+    }
 }

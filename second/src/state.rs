@@ -4,20 +4,34 @@ use crate::bits::*;
 use crate::receiver::*;
 use std::collections::BTreeMap;
 
-pub const STATE_LENGTH: usize = 6984;
-const NLN: usize = 12;
-const KEYS: usize = 16;
-const KINDS: usize = 216;
-const TICKS: usize = 320;
-const RECORDS: usize = 720;
-const EXPIRED: usize = 6320;
-const DROPPED: usize = 6324;
-const COUNT: usize = 6328;
-const ENTRIES: usize = 6336;
+/// One for each subscription and channel.
+pub const PLACES: usize = CHANNELS.len() * MOST_KEYS;
+pub const MOST_ENTRIES: usize = 9;
+pub const ENTRY_OCTETS: usize = 72;
+pub const RECORD_OCTETS: usize = 56;
 
-pub const MOST_ENTRIES: u64 = 9;
-const ENTRY_OCTETS: usize = 72;
-const RECORD_OCTETS: usize = 56;
+/// Where a block begins that comes behind `end` octets: at a multiple of eight.
+const fn behind(end: usize) -> usize {
+    end.next_multiple_of(8)
+}
+
+/// Where everything stands: the tick, the timers, then one block behind the other.
+pub const TIMERS: usize = 4;
+pub const NLN: usize = TIMERS + 4 * CHANNELS.len();
+pub const KEYS: usize = behind(NLN + 1);
+pub const KINDS: usize = behind(KEYS + 4 * MOST_KEYS);
+pub const TICKS: usize = behind(KINDS + PLACES);
+pub const RECORDS: usize = behind(TICKS + 4 * PLACES);
+pub const EXPIRED: usize = behind(RECORDS + RECORD_OCTETS * PLACES);
+pub const DROPPED: usize = EXPIRED + 4;
+pub const COUNT: usize = DROPPED + 4;
+pub const ENTRIES: usize = behind(COUNT + 4);
+pub const STATE_LENGTH: usize = ENTRIES + ENTRY_OCTETS * MOST_ENTRIES;
+
+/// These are the numbers of docs/STATE.md.
+const _: () = assert!(NLN == 16 && KEYS == 24 && KINDS == 224 && TICKS == 376 && RECORDS == 976);
+const _: () = assert!(EXPIRED == 9_376 && COUNT == 9_384 && ENTRIES == 9_392 && STATE_LENGTH == 10_040);
+
 const UNUSED_KEY: u32 = u32::MAX;
 const NO_NLN: u8 = 4;
 
@@ -152,15 +166,15 @@ fn put_record(octets: &mut [u8], at: usize, record: &Record) {
     }
 }
 
-fn place_number(place: Place) -> usize {
-    2 * place.0 + usize::from(place.1 == Channel::Facch)
+pub fn place_number(place: Place) -> usize {
+    CHANNELS.len() * place.0 + place.1 as usize
 }
 
 /// Decoding is total: any octets are a receiver.
 pub fn decode(octets: &[u8]) -> Receiver {
     let mut halves = BTreeMap::new();
     for subscription in 0..MOST_KEYS {
-        for channel in [Channel::Nch, Channel::Facch] {
+        for channel in CHANNELS {
             let place = place_number((subscription, channel));
             let segment = match octets[KINDS + place] {
                 0 => continue,
@@ -175,8 +189,7 @@ pub fn decode(octets: &[u8]) -> Receiver {
     }
     Receiver {
         tick: get_u32(octets, 0),
-        t3206: get_u32(octets, 4),
-        t3208: get_u32(octets, 8),
+        timers: CHANNELS.map(|channel| get_u32(octets, TIMERS + 4 * channel as usize)),
         nln: Some(octets[NLN]).filter(|&nln| nln != NO_NLN),
         keys: (0..MOST_KEYS).map(|i| get_u32(octets, KEYS + 4 * i)).collect(),
         halves,
@@ -196,12 +209,13 @@ impl Mirror {
     }
 
     /// An accepted setup writes every octet; a refused one none.
-    pub fn setup(&mut self, keys: &[u32], tick: u32, t3206: u32, t3208: u32) -> Result<(), Refusal> {
-        self.receiver = Receiver::setup(keys, tick, t3206, t3208)?;
+    pub fn setup(&mut self, keys: &[u32], tick: u32, timers: Timers) -> Result<(), Refusal> {
+        self.receiver = Receiver::setup(keys, tick, timers)?;
         self.octets.fill(0);
         put(&mut self.octets, 0, 4, u64::from(tick));
-        put(&mut self.octets, 4, 4, u64::from(t3206));
-        put(&mut self.octets, 8, 4, u64::from(t3208));
+        for (i, timer) in timers.into_iter().enumerate() {
+            put(&mut self.octets, TIMERS + 4 * i, 4, u64::from(timer));
+        }
         self.octets[NLN] = NO_NLN;
         for i in 0..MOST_KEYS {
             let key = keys.get(i).copied().unwrap_or(UNUSED_KEY);
@@ -260,7 +274,7 @@ pub fn read(octets: &[u8], entry: u32, part: u32) -> u64 {
         2 => return count,
         _ => {}
     }
-    if u64::from(entry) >= count.min(MOST_ENTRIES) {
+    if u64::from(entry) >= count.min(MOST_ENTRIES as u64) {
         return 0;
     }
     let at = ENTRIES + ENTRY_OCTETS * entry as usize;

@@ -1,11 +1,11 @@
 //! Event sequences at random: few keys, so that halves meet; ticks near expiry and around the wrap; states that no setup left.
 
-use crate::draft::{CallDraft, FacchDraft, NchDraft, Pool, SevenDraft, SixDraft};
+use crate::draft::{CallDraft, FacchDraft, NchDraft, PchDraft, Pool, SevenDraft, SixDraft};
 use crate::ffi;
 use crate::pair::{event_line, feed, Pair};
 use crate::receiver::*;
 use crate::rng::Rng;
-use crate::state::STATE_LENGTH;
+use crate::state::*;
 use crate::tally::{hex, Tally};
 
 const STEPS_OF_A_SEQUENCE: u64 = 40;
@@ -58,7 +58,7 @@ fn keys(rng: &mut Rng, pool: &Pool) -> Vec<u32> {
     keys
 }
 
-const TIMERS: [u32; 9] = [1, 2, 3, 10, 100, 5_000, 5_000, 59_999, 60_000];
+const TIMES: [u32; 9] = [1, 2, 3, 10, 100, 5_000, 5_000, 59_999, 60_000];
 
 fn first_tick(rng: &mut Rng) -> u32 {
     match rng.below(4) {
@@ -72,10 +72,9 @@ fn first_tick(rng: &mut Rng) -> u32 {
 /// A setup that must be refused, or may be.
 fn doubtful_setup(tally: &mut Tally, rng: &mut Rng, pair: &mut Pair, good: &[u32]) {
     let mut keys = good.to_vec();
-    let (mut t3206, mut t3208) = (5_000, 5_000);
+    let mut timers = [5_000; CHANNELS.len()];
     match rng.below(7) {
-        0 => t3206 = rng.pick(&[0, 60_001, u32::MAX]),
-        1 => t3208 = rng.pick(&[0, 60_001, u32::MAX]),
+        0 | 1 => timers[rng.below(3) as usize] = rng.pick(&[0, 60_001, u32::MAX]),
         2 => {
             let key = rng.pick(&[200_000_000, 200_000_001, 199_999_999, u32::MAX, u32::MAX - 1]);
             keys.insert(rng.below(keys.len() as u64 + 1) as usize, key);
@@ -86,13 +85,10 @@ fn doubtful_setup(tally: &mut Tally, rng: &mut Rng, pair: &mut Pair, good: &[u32
         }
         4 => keys = (0..49 + rng.below(4) as u32).map(|i| 7 * i).collect(),
         5 => keys = (0..rng.pick(&[51, 100, 255, 256, 257, 306])).collect(),
-        _ => {
-            t3206 = rng.pick(&[1, 60_000]);
-            t3208 = rng.pick(&[1, 60_000]);
-        }
+        _ => timers = timers.map(|_| rng.pick(&[1, 60_000])),
     }
     let tick = rng.next() as u32;
-    pair.setup(tally, &keys, tick, t3206, t3208);
+    pair.setup(tally, &keys, tick, timers);
 }
 
 fn from_setup(tally: &mut Tally, rng: &mut Rng) -> u64 {
@@ -103,8 +99,8 @@ fn from_setup(tally: &mut Tally, rng: &mut Rng) -> u64 {
     for _ in 0..rng.below(3) {
         doubtful_setup(tally, rng, &mut pair, &keys);
     }
-    let (t3206, t3208) = (rng.pick(&TIMERS), rng.pick(&TIMERS));
-    pair.setup(tally, &keys, first_tick(rng), t3206, t3208);
+    let timers = CHANNELS.map(|_| rng.pick(&TIMES));
+    pair.setup(tally, &keys, first_tick(rng), timers);
     events(tally, rng, &mut pair, &pool, STEPS_OF_A_SEQUENCE);
     if rng.one_in(3) {
         doubtful_setup(tally, rng, &mut pair, &keys);
@@ -130,15 +126,17 @@ fn tick(rng: &mut Rng, receiver: &Receiver) -> u32 {
         20..=29 if !halves.is_empty() => {
             // A millisecond before, at and after the timer of a half that is held.
             let (place, half) = halves[rng.below(halves.len() as u64) as usize];
-            let timer = if place.1 == Channel::Nch { receiver.t3206 } else { receiver.t3208 };
-            let tick = half.tick.wrapping_add(timer).wrapping_add(rng.below(3) as u32).wrapping_sub(1);
+            let tick = half.tick.wrapping_add(receiver.timer(place.1)).wrapping_add(rng.below(3) as u32).wrapping_sub(1);
             if tick.wrapping_sub(last) < 1 << 31 {
                 tick
             } else {
                 last
             }
         }
-        30..=33 => last.wrapping_add(rng.below(u64::from(receiver.t3206.max(1))) as u32),
+        30..=33 => {
+            let timer = u64::from(rng.pick(&receiver.timers));
+            last.wrapping_add(rng.below(timer.max(1)) as u32)
+        }
         34 => last.wrapping_add(rng.pick(&[(1 << 31) - 1, (1 << 31) - 2, 1 << 30])),
         35 => last.wrapping_add(1 << 31),
         36 => last.wrapping_add((1 << 31) + rng.below(1 << 31) as u32),
@@ -155,7 +153,7 @@ fn event(rng: &mut Rng, pair: &Pair, pool: &Pool) -> Event {
     if !receiver.halves.is_empty() && rng.one_in(12) {
         return losing(rng, receiver);
     }
-    match rng.below(40) {
+    match rng.below(54) {
         0..=17 => {
             let mut draft = pool.nch(rng);
             // Once there was an NLN, most messages repeat it or have none, or no NCH half would live long.
@@ -190,8 +188,76 @@ fn event(rng: &mut Rng, pair: &Pair, pool: &Pool) -> Event {
         36 => Event::Reselected,
         37 if rng.one_in(2) => Event::HandedOver,
         37 => Event::Reconfigured,
+        38..=50 => {
+            let numbers = pool.pch(rng).numbers();
+            Event::Pch(if rng.below(13) < 3 { doubtful_pch(rng, numbers) } else { with_leftovers(rng, numbers) })
+        }
+        51 => Event::LeftIdle,
         _ => Event::Tick,
     }
+}
+
+/// Numbers at the limits of what fields hold, and of all.
+const LARGE: [u64; 10] = [0, 1, 2, 255, 1 << 12, 1 << 24, 1 << 32, 1 << 36, 1 << 63, u64::MAX];
+
+/// The places of a PCH entry that are not looked at, by the flags in it. A flag above 1 counts as set.
+fn not_looked_at(n: &[u64]) -> Vec<usize> {
+    let mut places = Vec::new();
+    let mut behind = |there: bool, of_it: &[usize]| {
+        if !there {
+            places.extend(of_it);
+        }
+    };
+    behind(n[2] != 0, &[3]);
+    behind(n[4] != 0, &[5, 6]);
+    behind(n[4] != 0 && n[6] != 0, &[7, 9]);
+    behind(n[4] != 0 && n[6] != 0 && n[7] == 0, &[8]);
+    behind(n[10] != 0, &[11]);
+    behind(n[12] != 0, &[13]);
+    places
+}
+
+/// Often with something in places that are not looked at.
+fn with_leftovers(rng: &mut Rng, mut numbers: Vec<u64>) -> Vec<u64> {
+    if rng.one_in(2) {
+        for place in not_looked_at(&numbers) {
+            numbers[place] = if rng.one_in(2) { rng.pick(&LARGE) } else { rng.next() };
+        }
+    }
+    numbers
+}
+
+/// An entry with one or two things in it that are mostly refused; two of them show which goes first.
+fn doubtful_pch(rng: &mut Rng, mut n: Vec<u64>) -> Vec<u64> {
+    for _ in 0..1 + rng.below(2) {
+        match rng.below(19) {
+            0 | 1 => n[0] = rng.pick(&[200_000_000, 200_000_001, u64::from(u32::MAX), 1 << 32, n[0] | 1 << 32, u64::MAX]),
+            // A mobile allocation of any length; one that is right may hold its octets or not.
+            2..=5 => {
+                n[4] = rng.pick(&[1, 1, 1, 2]);
+                n[5] = rng.below(1 << 24) | u64::from(!rng.one_in(4)) << 12;
+                n[6] = rng.pick(&[1, 1, 1, 3]);
+                n[7] = if rng.one_in(8) { rng.pick(&LARGE) } else { 0 };
+                n[8] = rng.pick(&[0, 9, 255, 256, 257, u64::MAX, 1, 2, 7, 8]);
+                n[9] = rng.next() >> rng.pick(&[0, 7, 8, 40, 47, 48, 55, 56, 63]);
+            }
+            6 | 7 => n[5] ^= 1 << 12,
+            8..=10 => n[rng.pick(&[1, 2, 4, 6, 7, 10, 12])] = rng.pick(&[2, 3, 256, 1 << 32, u64::MAX]),
+            11 => n[rng.pick(&[1, 1, 1, 2, 4, 6, 7, 10, 12])] ^= 1,
+            12 | 13 => n[3] ^= 1 << rng.pick(&[0, 1, 2, 3, 8, 8, 9, 34, 35, 36]),
+            14 => n[0] ^= 1,
+            15 => n[11] = (1 << 36) + rng.below(2) - 1,
+            16 => n[13] = 3 + rng.below(2),
+            17 => n[2] = 0,
+            _ => n[5] |= 1 << (24 + rng.below(40)),
+        }
+    }
+    if rng.one_in(16) {
+        n.resize(rng.pick(&[0, 1, 13, 15, 28]), 0);
+    } else {
+        n = with_leftovers(rng, n);
+    }
+    n
 }
 
 /// A message with a half that meets one that is held: mostly the opposite half, mostly with a reference that agrees.
@@ -213,7 +279,7 @@ fn meeting(rng: &mut Rng, receiver: &Receiver) -> Event {
         _ => {}
     }
     let second = (held.segment == Segment::First) != rng.one_in(4);
-    let reduced = second && rng.one_in(3) && *channel == Channel::Nch;
+    let reduced = second && rng.one_in(3);
     let (reference, service) = (call.reference, call.service);
     let call = if second { call } else { call.on(rng.below(1 << 24)) };
     let vstk_rand = second.then(|| rng.below(1 << 36));
@@ -243,6 +309,10 @@ fn meeting(rng: &mut Rng, receiver: &Receiver) -> Event {
             draft.seven = rng.one_in(2).then(|| (rng.below(2), rng.below(2), None));
             Event::Facch(draft.octets())
         }
+        Channel::Pch => {
+            let draft = PchDraft { full: !reduced, vstk_rand, count, ..PchDraft::of(call) };
+            Event::Pch(with_leftovers(rng, draft.numbers()))
+        }
     }
 }
 
@@ -250,9 +320,15 @@ fn meeting(rng: &mut Rng, receiver: &Receiver) -> Event {
 fn losing(rng: &mut Rng, receiver: &Receiver) -> Event {
     let which = rng.below(receiver.halves.len() as u64) as usize;
     let (subscription, channel) = receiver.halves.keys().nth(which).unwrap();
-    match (channel, rng.below(3)) {
-        (_, 0) => Event::Joined(receiver.keys[*subscription] ^ 1),
-        (Channel::Nch, 1) => Event::Reselected,
+    let other = receiver.keys[*subscription] ^ 1;
+    match (channel, rng.below(if *channel == Channel::Pch { 4 } else { 3 })) {
+        (_, 0) => Event::Joined(other),
+        (Channel::Nch | Channel::Pch, 1) => Event::Reselected,
+        (Channel::Pch, 2) => Event::LeftIdle,
+        (Channel::Pch, _) => {
+            let key = if rng.one_in(2) { other } else { rng.below(200_000_000) as u32 };
+            Event::Pch(PchDraft::reduced(key % 200_000_000).numbers())
+        }
         (Channel::Nch, _) => {
             // Where none was seen yet, it is the first.
             let last = receiver.nln.map_or(0, u64::from);
@@ -287,25 +363,25 @@ fn from_any_octets(tally: &mut Tally, rng: &mut Rng) -> u64 {
 fn strange_state(rng: &mut Rng, pool: &Pool, octets: &mut [u8]) {
     let tick = first_tick(rng);
     put(octets, 0, tick);
-    for timer in [4, 8] {
-        put(octets, timer, rng.pick(&[0, 1, 100, 5_000, 100_000, 1 << 31, u32::MAX]));
+    for channel in 0..CHANNELS.len() {
+        put(octets, TIMERS + 4 * channel, rng.pick(&[0, 1, 100, 5_000, 100_000, 1 << 31, u32::MAX]));
     }
-    octets[12] = rng.pick(&[0, 1, 2, 3, 4, 4, 5, 6, 255]);
-    for place in 0..100 {
-        let subscription = place / 2;
+    octets[NLN] = rng.pick(&[0, 1, 2, 3, 4, 4, 5, 6, 255]);
+    for place in 0..PLACES {
+        let subscription = place / CHANNELS.len();
         let key = match rng.below(4) {
             0 => u32::MAX,
             1 => rng.next() as u32,
             _ => (2 * pool.reference(rng) + rng.below(2)) as u32,
         };
-        if place % 2 == 0 {
-            put(octets, 16 + 4 * subscription, key);
+        if place % CHANNELS.len() == 0 {
+            put(octets, KEYS + 4 * subscription, key);
         }
-        octets[216 + place] = rng.pick(&[0, 0, 1, 1, 2, 2, 3, 255]);
+        octets[KINDS + place] = rng.pick(&[0, 0, 1, 1, 2, 2, 3, 255]);
         let age = rng.pick(&[0, 1, 50, 4_999, 1 << 31, u32::MAX]);
-        put(octets, 320 + 4 * place, tick.wrapping_sub(age));
-        let at = 720 + 56 * place;
-        let key = u32::from_le_bytes(octets[16 + 4 * subscription..][..4].try_into().unwrap());
+        put(octets, TICKS + 4 * place, tick.wrapping_sub(age));
+        let at = RECORDS + RECORD_OCTETS * place;
+        let key = u32::from_le_bytes(octets[KEYS + 4 * subscription..][..4].try_into().unwrap());
         put(octets, at, if rng.one_in(8) { rng.next() as u32 } else { key / 2 });
         for flag in &mut octets[at + 24..at + 44] {
             *flag = rng.pick(&[0, 0, 0, 1, 1, 2, 255]);
@@ -318,9 +394,9 @@ fn strange_state(rng: &mut Rng, pool: &Pool, octets: &mut [u8]) {
             octets[at + 45] = 3;
         }
     }
-    put(octets, 6328, rng.pick(&[0, 1, 2, 8, 9, 10, 255, 256, 1 << 31, u32::MAX]));
-    for entry in 0..9 {
-        octets[6336 + 72 * entry + 8] = rng.pick(&[0, 1, 2, 3, 3, 4, 8, 9, 255]);
+    put(octets, COUNT, rng.pick(&[0, 1, 2, 8, 9, 10, 255, 256, 1 << 31, u32::MAX]));
+    for entry in 0..MOST_ENTRIES {
+        octets[ENTRIES + ENTRY_OCTETS * entry + 8] = rng.pick(&[0, 1, 2, 3, 3, 4, 8, 9, 255]);
     }
 }
 
@@ -347,11 +423,16 @@ fn wrong_lengths(tally: &mut Tally, rng: &mut Rng) -> u64 {
     if rng.one_in(2) {
         keys.resize(51, 7);
     }
-    let refusal = state.setup(&keys, tick, rng.pick(&[0, 5_000]), 5_000);
+    let refusal = state.setup(&keys, tick, [rng.pick(&[0, 5_000]), 5_000, 5_000]);
     tally.count_refusal(refusal);
     let untouched = state.octets() == octets;
     let input = || format!("setup with a state of {length} octets");
     tally.same("setup with a state of a wrong length (refusal, untouched)", input, &(refusal, untouched), &(13, true));
+
+    // An entry of another length is 13 too, where the clock does not refuse the event.
+    let mut pair = pair;
+    let length = rng.pick(&[0, 1, 13, 15, 28]);
+    pair.event(tally, rng.pick(&[0, 1 << 31]), &Event::Pch(vec![rng.next(); length]));
 
     let (entry, part) = (rng.below(12) as u32, rng.below(40) as u32);
     let reading = state.read(entry, part);

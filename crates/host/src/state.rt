@@ -1,7 +1,7 @@
-// The receiver on a lent state: setup, the seven events, and reading the answer.
+// The receiver on a lent state: setup, the events, and reading the answer.
 ghost use mathlib.Core.Path.{_≡_};
 ghost use Rattle.bits.specs.Field.{pick};
-ghost use Rattle.receiver.specs.Step.{nch, facch, joined, reselected, handedOver, reconfigured, tick};
+ghost use Rattle.receiver.specs.Step.{nch, facch, pch, joined, reselected, handedOver, reconfigured, leftIdle, tick};
 ghost use Rattle.layout.specs.Layout.{isState, lastOf};
 ghost use Rattle.layout.specs.Setup.{SetUp};
 ghost use Rattle.layout.specs.Parts.{partOf};
@@ -15,8 +15,9 @@ pub extern "C" fn asternhaken_setup(
     first: u32,
     t3206: u32,
     t3208: u32,
+    t3210: u32,
 ) -> u32
-    ensures { λ r. ⌜ SetUp (now (state .entry)) (record { tick = first; t3206 = t3206; t3208 = t3208 }) (now (keys .entry)) (now (state .exit)) r ⌝ }
+    ensures { λ r. ⌜ SetUp (now (state .entry)) (record { tick = first; t3206 = t3206; t3208 = t3208; t3210 = t3210 }) (now (keys .entry)) (now (state .exit)) r ⌝ }
 {
     layout::setup::setup(
         state,
@@ -24,6 +25,7 @@ pub extern "C" fn asternhaken_setup(
             tick: first,
             t3206,
             t3208,
+            t3210,
         },
         keys,
     ) as u32
@@ -41,6 +43,13 @@ pub extern "C" fn asternhaken_facch(state: &mut [u8], time: u32, octets: &[u8]) 
     ensures { λ r. ⌜ Fed (now (state .entry)) (facch time (now (octets .entry))) (now (state .exit)) r ⌝ }
 {
     lent::events::facch(state, time, octets) as u32
+}
+
+#[no_mangle]
+pub extern "C" fn asternhaken_pch(state: &mut [u8], time: u32, entry: &[u64]) -> u32
+    ensures { λ r. ⌜ Fed (now (state .entry)) (pch time (now (entry .entry))) (now (state .exit)) r ⌝ }
+{
+    lent::events::pch(state, time, entry) as u32
 }
 
 #[no_mangle]
@@ -69,6 +78,13 @@ pub extern "C" fn asternhaken_reconfigured(state: &mut [u8], time: u32) -> u32
     ensures { λ r. ⌜ Fed (now (state .entry)) (reconfigured time) (now (state .exit)) r ⌝ }
 {
     lent::events::reconfigured(state, time) as u32
+}
+
+#[no_mangle]
+pub extern "C" fn asternhaken_left_idle(state: &mut [u8], time: u32) -> u32
+    ensures { λ r. ⌜ Fed (now (state .entry)) (leftIdle time) (now (state .exit)) r ⌝ }
+{
+    lent::events::left_idle(state, time) as u32
 }
 
 #[no_mangle]

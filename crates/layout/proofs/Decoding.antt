@@ -221,8 +221,8 @@ pub cell-same : (l l′ : List ℕ) → ((j : ℕ) → cellFrom ≤ j → j < ke
 cell-same l l′ e = λ i. record { nln = e cellFrom (omega arith) (omega arith) i }
 
 pub same-receiver : (a b : Receiver) → a .slots ≡ b .slots → a .keys ≡ b .keys → a .tick ≡ b .tick → a .t3206 ≡ b .t3206 → a .t3208 ≡ b .t3208
-    → a .cell ≡ b .cell → a ≡ b
-same-receiver a b p q r t u v = λ i. record { slots = p i; keys = q i; tick = r i; t3206 = t i; t3208 = u i; cell = v i }
+    → a .t3210 ≡ b .t3210 → a .cell ≡ b .cell → a ≡ b
+same-receiver a b p q r t u v w = λ i. record { slots = p i; keys = q i; tick = r i; t3206 = t i; t3208 = u i; t3210 = v i; cell = w i }
 
 -- the same slots and keys, and the same octets before the keys
 like-receiver : (l l′ : List ℕ) (ss : List Slot) → tabulate (slotNo l′) 0 places ≡ ss → ((j : ℕ) → j < kindsFrom → getD l′ j 0 ≡ getD l j 0)
@@ -231,7 +231,7 @@ unfolding decodeOf
 like-receiver l l′ ss p e =
     let b : (n : ℕ) → n + 4 ≤ cellFrom → leAt 4 l′ n ≡ leAt 4 l n = λ n h. le-ext 4 l′ l n n (λ m x. e (n + m) (omega arith)) in
     same-receiver (decodeOf l′) (withSlots (decodeOf l) ss) p (keys-same l l′ (λ j x y. e j y)) (b tickFrom (omega arith)) (b timersFrom (omega arith))
-    (b (timersFrom + 4) (omega arith)) (cell-same l l′ (λ j x y. e j (omega arith)))
+    (b (timersFrom + 4) (omega arith)) (b (timersFrom + 8) (omega arith)) (cell-same l l′ (λ j x y. e j (omega arith)))
 
 -- all octets but those of place i
 Elsewhere : ℕ → List ℕ → List ℕ → Type 0
@@ -535,7 +535,8 @@ module _ (l : List ℕ) (tick : ℕ) (cell : Cell) (x d n : ℕ) where
       same-receiver (decodeOf k) (remade (decodeOf l) (decodeOf l .slots) tick cell)
       (slots-same l k (λ j a b. head-elsewhere j (omega arith) (λ q. omega arith) (λ q. omega arith)))
       (keys-same l k (λ j a b. head-elsewhere j (omega arith) (λ q. omega arith) (λ q. omega arith)))
-      (head-tick m lt) (timer timersFrom (omega arith) (omega arith)) (timer (timersFrom + 4) (omega arith) (omega arith)) (head-cell m)
+      (head-tick m lt) (timer timersFrom (omega arith) (omega arith)) (timer (timersFrom + 4) (omega arith) (omega arith)) (timer (timersFrom + 8) (omega arith) (omega arith))
+      (head-cell m)
 
   head-expired : length l ≡ stateLength → x < 4294967296 → leAt 4 (putHead l tick cell x d n) answerFrom ≡ x
   unfolding putHead

@@ -64,7 +64,7 @@ zeros (suc n) (suc j) = zeros n j
 
 module _ (z : List ℕ) (s : Setup) (keys : List ℕ) where
   abbrev times : List ℕ
-  times = lowOctets 4 (s .tick) ++ (lowOctets 4 (s .t3206) ++ lowOctets 4 (s .t3208))
+  times = lowOctets 4 (s .tick) ++ (lowOctets 4 (s .t3206) ++ (lowOctets 4 (s .t3208) ++ lowOctets 4 (s .t3210)))
 
   abbrev timed : List ℕ
   timed = stored z tickFrom times
@@ -129,15 +129,20 @@ module _ (z : List ℕ) (s : Setup) (keys : List ℕ) where
           cell-same celled fresh (λ j x y. stored-before celled keysFrom written j (omega arith))
           ∙ cell-back timed noCell (rw (length-stored z tickFrom times) (omega arith))
 
-      decode-on : s .tick < 4294967296 → s .t3206 < 4294967296 → s .t3208 < 4294967296 → decodeOf fresh ≡ newReceiver s (keyPlaces keyCount keys)
+      decode-on : s .tick < 4294967296 → s .t3206 < 4294967296 → s .t3208 < 4294967296 → s .t3210 < 4294967296
+          → decodeOf fresh ≡ newReceiver s (keyPlaces keyCount keys)
       unfolding decodeOf
-      decode-on u v w =
+      decode-on u v w x =
           same-receiver (decodeOf fresh) (newReceiver s (keyPlaces keyCount keys))
-          (table-same (slotNo fresh) emptySlot 0 places (λ i x y. slot-empty fresh i (behind (kindPlace i) (omega arith))))
+          (table-same (slotNo fresh) emptySlot 0 places (λ i a b. slot-empty fresh i (behind (kindPlace i) (omega arith))))
           keys-on
-          (time-on (s .tick) [] (lowOctets 4 (s .t3206) ++ lowOctets 4 (s .t3208)) 0 8 refl refl (simp (length-append, length-octets)) refl u)
-          (time-on (s .t3206) (lowOctets 4 (s .tick)) (lowOctets 4 (s .t3208)) 4 4 (simp append-assoc) (length-octets 4 _) (length-octets 4 _) refl v)
-          (time-on (s .t3208) (lowOctets 4 (s .tick) ++ lowOctets 4 (s .t3206)) [] 8 0 (simp (append-assoc, append-nil)) (simp (length-append, length-octets)) refl refl w)
+          (time-on (s .tick) [] (lowOctets 4 (s .t3206) ++ (lowOctets 4 (s .t3208) ++ lowOctets 4 (s .t3210))) 0 12 refl refl (simp (length-append, length-octets)) refl u)
+          (time-on (s .t3206) (lowOctets 4 (s .tick)) (lowOctets 4 (s .t3208) ++ lowOctets 4 (s .t3210)) 4 8 (simp append-assoc) (length-octets 4 _)
+          (simp (length-append, length-octets)) refl v)
+          (time-on (s .t3208) (lowOctets 4 (s .tick) ++ lowOctets 4 (s .t3206)) (lowOctets 4 (s .t3210)) 8 4 (simp append-assoc)
+          (simp (length-append, length-octets)) (length-octets 4 _) refl w)
+          (time-on (s .t3210) (lowOctets 4 (s .tick) ++ (lowOctets 4 (s .t3206) ++ lowOctets 4 (s .t3208))) [] 12 0 (simp (append-assoc, append-nil))
+          (simp (length-append, length-octets)) refl refl x)
           cell-on
 
 -- ## A setup's octets
@@ -151,7 +156,7 @@ module _ (s : Setup) (keys : List ℕ) where
   unfolding freshOctets
   last-fresh = last-on (replicate stateLength 0) s keys (zeros stateLength)
 
-  pub decode-fresh : s .tick < 4294967296 → s .t3206 < 4294967296 → s .t3208 < 4294967296 → ((j : ℕ) → getD keys j 0 < 4294967296)
+  pub decode-fresh : s .tick < 4294967296 → s .t3206 < 4294967296 → s .t3208 < 4294967296 → s .t3210 < 4294967296 → ((j : ℕ) → getD keys j 0 < 4294967296)
       → decodeOf (freshOctets s keys) ≡ newReceiver s (keyPlaces keyCount keys)
   unfolding freshOctets
-  decode-fresh u v w b = decode-on (replicate stateLength 0) s keys (zeros stateLength) (length-replicate {A = ℕ} stateLength 0) b u v w
+  decode-fresh u v w x b = decode-on (replicate stateLength 0) s keys (zeros stateLength) (length-replicate {A = ℕ} stateLength 0) b u v w x

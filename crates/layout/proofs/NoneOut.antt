@@ -1,13 +1,14 @@
 -- What looking at the places finds: none is held, and no half has run out. Assumes nothing.
 use mathlib.Core.Path.{_≡_, refl, ap, sym, _∙_}
-use mathlib.Core.Bool.{Bool, true, false, not}
+use mathlib.Core.Bool.{Bool, true, false, not, _&&_, _||_, true≢false}
 use mathlib.Core.List.{List}
 use Prim.Native.Nat.{ℕ, zero, suc, _+_, _-_, _≤_, _<_, _*_, _/_}
 use native.Mathlib.Nat.{add-assoc, add-zero}
 use native.Mathlib.Omega.{arith}
-use lib.Dec.{ltb, eqb}
+use lib.Dec.{ltb, leb, eqb}
+use lib.Bits.{bitOr, or-add-and, and-le-l, and-le-r}
 use lib.ListN.{getD}
-use borrow.Author.Tests.{lt-leb, ltb-true, ltb-false, not-true}
+use borrow.Author.Tests.{eqb-true, eqb-false, ltb-true, ltb-false, not-true}
 use Rattle.bits.specs.Field.{both}
 use Rattle.bits.proofs.Answers.{both-true}
 use Rattle.receiver.specs.declared.Rule.{Rule}
@@ -40,21 +41,32 @@ Zeros l at n = (k : ℕ) → k < n → getD l (at + k) 0 ≡ 0
 pub zeros-more : (l : List ℕ) (at n : ℕ) → Zeros l at n → leAt 8 l (at + n) ≡ 0 → Zeros l at (n + 8)
 zeros-more l at n p e = span-join (λ j. getD l j 0 ≡ 0) at n 8 p (zero-le 8 l (at + n) e)
 
--- 32 of them, by four numbers
-pub quiet-32 : (l : List ℕ) (at : ℕ) → leAt 8 l at ≡ 0 → leAt 8 l (at + 8) ≡ 0 → leAt 8 l (at + 16) ≡ 0 → leAt 8 l (at + 24) ≡ 0 → Zeros l at 32
-quiet-32 l at p q r s = zeros-more l at 24 (zeros-more l at 16 (zeros-more l at 8 (zero-le 8 l at p) q) r) s
+-- 24 of them, by three numbers
+pub quiet-24 : (l : List ℕ) (at : ℕ) → leAt 8 l at ≡ 0 → leAt 8 l (at + 8) ≡ 0 → leAt 8 l (at + 16) ≡ 0 → Zeros l at 24
+quiet-24 l at p q r = zeros-more l at 16 (zeros-more l at 8 (zero-le 8 l at p) q) r
+
+-- neither of two
+neither : (a b : Bool) → (a || b) ≡ false → (a ≡ false) × (b ≡ false)
+neither true b e = absurd (true≢false e)
+neither false b e = (refl, e)
+
+-- two numbers whose bits together are none
+pub or-none : (a b : ℕ) → bitOr a b ≡ 0 → (a ≡ 0) × (b ≡ 0)
+or-none a b e = (omega (arith, e, or-add-and a b, and-le-l a b, and-le-r a b), omega (arith, e, or-add-and a b, and-le-l a b, and-le-r a b))
 
 -- ## No half has run out
 
--- the places in whole groups of thirty-two
+-- the places in whole groups of twenty-four
 abbrev pub many : ℕ
-many = places / 32 * 32
+many = places / 24 * 24
 
 module _ (now : ℕ) (l : List ℕ) where
   -- by the numbers of the code's test
-  pub runs-held : (i timer since age : ℕ) → (getD l (kindPlace i) 0 ≡ 0 → ⊥) → timer ≡ timerNo l i → since ≡ leAt 4 l (sincePlace i) → age ≡ wrapSub now since
-      → age < timer → ranAt now l i ≡ false
-  runs-held i timer since age held p q r h = ran-held now l i held ∙ age-said now l i timer since age p q r ∙ lt-leb timer age h
+  pub late-said : (i timer since age : ℕ) → timer ≡ timerNo l i → since ≡ leAt 4 l (sincePlace i) → age ≡ wrapSub now since
+      → (not (eqb (getD l (kindPlace i) 0) 0) && leb timer age) ≡ ranAt now l i
+  late-said i timer since age p q r =
+      by-test (eqb (getD l (kindPlace i) 0) 0) (λ t. rw t (sym (ran-empty now l i (eqb-true _ _ t))))
+      (λ t. rw t (sym (ran-held now l i (eqb-false _ _ t) ∙ age-said now l i timer since age p q r)))
 
   -- places whose kinds are 0, and are one number 0; and some of those
   pub running-quiet : (from n : ℕ) → Zeros l (kindPlace from) n → Running now l from n
@@ -75,17 +87,41 @@ module _ (now : ℕ) (l : List ℕ) where
   pub running-next : (from n : ℕ) → Running now l from n → ranAt now l (from + n) ≡ false → Running now l from (n + 1)
   running-next from n p q = running-more from n 1 p (λ k h. let e : from + n + k ≡ from + n = omega arith in rw e q)
 
-  pub running-four : (from : ℕ) → ranAt now l from ≡ false → ranAt now l (from + 1) ≡ false → ranAt now l (from + 2) ≡ false → ranAt now l (from + 3) ≡ false
-      → Running now l from 4
-  running-four from p q r s =
-      running-next from 3 (running-next from 2 (running-next from 1 (running-next from 0 (running-none from) (rw (add-zero from) p)) q) r) s
+  -- three places from a place on of which none is late, and then three more, and two
+  running-three : (from : ℕ) (a b d : Bool) → a ≡ ranAt now l from → b ≡ ranAt now l (from + 1) → d ≡ ranAt now l (from + 2) → (a || b || d) ≡ false → Running now l from 3
+  running-three from a b d p q r e =
+      let y = neither (a || b) d e in
+      let x = neither a b (y .0) in
+      running-next from 2 (running-next from 1 (running-next from 0 (running-none from) (rw (add-zero from) (sym p ∙ x .0))) (sym q ∙ x .1)) (sym r ∙ y .1)
+
+  pub running-six : (from : ℕ) (a b d f g h : Bool) → a ≡ ranAt now l from → b ≡ ranAt now l (from + 1) → d ≡ ranAt now l (from + 2) → f ≡ ranAt now l (from + 3)
+      → g ≡ ranAt now l (from + 4) → h ≡ ranAt now l (from + 5) → not ((a || b || d) || (f || g || h)) ≡ true → Running now l from 6
+  running-six from a b d f g h p q r s t u e =
+      let z = neither (a || b || d) (f || g || h) (not-true _ e) in
+      let y = neither (f || g) h (z .1) in
+      let x = neither f g (y .0) in
+      running-next from 5 (running-next from 4 (running-next from 3 (running-three from a b d p q r (z .0)) (sym s ∙ x .0)) (sym t ∙ x .1)) (sym u ∙ y .1)
+
+  pub running-eight : (from : ℕ) (a b d f g h m n : Bool) → a ≡ ranAt now l from → b ≡ ranAt now l (from + 1) → d ≡ ranAt now l (from + 2) → f ≡ ranAt now l (from + 3)
+      → g ≡ ranAt now l (from + 4) → h ≡ ranAt now l (from + 5) → m ≡ ranAt now l (from + 6) → n ≡ ranAt now l (from + 7)
+      → not ((a || b || d || f) || (g || h || m || n)) ≡ true → Running now l from 8
+  running-eight from a b d f g h m n p q r s t u v w e =
+      let z = neither (a || b || d || f) (g || h || m || n) (not-true _ e) in
+      let low = neither (a || b || d) f (z .0) in
+      let y = neither (g || h || m) n (z .1) in
+      let x = neither (g || h) m (y .0) in
+      let o = neither g h (x .0) in
+      let four = running-next from 3 (running-three from a b d p q r (low .0)) (sym s ∙ low .1) in
+      running-next from 7 (running-next from 6 (running-next from 5 (running-next from 4 four (sym t ∙ o .0)) (sym u ∙ o .1)) (sym v ∙ x .1)) (sym w ∙ y .1)
 
 -- ## A rule that takes halves of no channel
 
 takes-none : (rule : Rule) → takesNone rule ≡ true → (ch : ℕ) → takes rule ch ≡ false
 takes-none rule e ch =
-    let n = both-true (not (rule .nch)) (not (rule .facch)) e in
-    by-test (eqb ch 0) (λ p. rw p (not-true (rule .nch) (n .0))) (λ p. rw p (not-true (rule .facch) (n .1)))
+    let n = both-true (not (rule .nch)) (both (not (rule .facch)) (not (rule .pch))) e in
+    let m = both-true (not (rule .facch)) (not (rule .pch)) (n .1) in
+    by-test (eqb ch 0) (λ p. rw p (not-true (rule .nch) (n .0)))
+    (λ p. by-test (eqb ch 1) (λ q. rw (p, q) (not-true (rule .facch) (m .0))) (λ q. rw (p, q) (not-true (rule .pch) (m .1))))
 
 -- it spares every place
 spares-none : (rule : Rule) → takesNone rule ≡ true → (i : ℕ) → spares rule i ≡ true

@@ -12,12 +12,11 @@ use borrow.Author.Tests.{ne-eqb}
 use Rattle.bits.specs.Field.{both, pick}
 use Rattle.csn1.specs.Told.{asBit}
 use Rattle.receiver.specs.declared.Rule.{Rule}
-use Rattle.receiver.specs.Channels.{places}
+use Rattle.receiver.specs.Channels.{channels, keyCount, places}
 use Rattle.receiver.specs.Model.{emptySlot, wrapSub, spares, ranOutOf, takenOf, countAt, expiredOf, droppedOf}
 use Rattle.layout.specs.Octets.{leAt, tabulate}
 use Rattle.layout.specs.Layout.{kindsFrom, stateLength, isState, kindPlace, sincePlace, slotNo, decodeOf, putSlot}
 use Rattle.layout.specs.Sweep.{timerNo, goes, sweptAt, sweptRun, sweptOctets}
-use Rattle.layout.proofs.Numbers.{zero-le}
 use Rattle.layout.proofs.Decoding.{slot-held}
 use Rattle.layout.proofs.States.{at-state}
 use Rattle.layout.proofs.Sweeps.{ran-empty, swept-kept, taken-empty, goes-empty, length-run, run-then, run-timer, run-slot, run-still, countRun, count-zero, count-next, count-then, count-most, count-ext, count-table, count-expired, count-dropped, still-expired, still-dropped}
@@ -131,7 +130,7 @@ module _ {now : ℕ} {rule : Rule} {from : ℕ} {l : List ℕ} {x₀ d₀ k : �
         })
 
     -- a run more
-    sweeping-run : {n : ℕ} → from + k + n ≤ places → Sweeping now rule (from + k) b x d n b₁ x₁ d₁ → Sweeping now rule from l x₀ d₀ (k + n) b₁ x₁ d₁
+    pub sweeping-run : {n : ℕ} → from + k + n ≤ places → Sweeping now rule (from + k) b x d n b₁ x₁ d₁ → Sweeping now rule from l x₀ d₀ (k + n) b₁ x₁ d₁
     sweeping-run {n} h p =
         let r : countRun (ranAt now b) (from + k) n ≡ countRun (ranAt now l) (from + k) n =
         count-ext (ranAt now b) (ranAt now l) (from + k) n
@@ -166,7 +165,7 @@ module _ (now : ℕ) (rule : Rule) (from n : ℕ) (l : List ℕ) (x₀ d₀ : �
   run-said b x d s =
       (s .expired ∙ ap (λ a. x₀ + a) (sym ran-counted), (s .dropped ∙ ap (λ a. d₀ + a) (sym taken-counted), s .octets))
 
-  said-run : (b : List ℕ) (x d : ℕ) → Counted x d b → Sweeping now rule from l x₀ d₀ n b x d
+  pub said-run : (b : List ℕ) (x d : ℕ) → Counted x d b → Sweeping now rule from l x₀ d₀ n b x d
   said-run b x d p =
       record { octets = p .1 .1; expired = p .0 ∙ ap (λ a. x₀ + a) ran-counted; dropped = p .1 .0 ∙ ap (λ a. d₀ + a) taken-counted }
 
@@ -183,17 +182,25 @@ module _ (now : ℕ) (rule : Rule) (from n : ℕ) (l : List ℕ) (x₀ d₀ : �
   places-empty : ((k : ℕ) → k < n → getD l (kindPlace (from + k)) 0 ≡ 0) → Sweeping now rule from l x₀ d₀ n l x₀ d₀
   places-empty z = places-still (λ k q. goes-empty now rule l (from + k) (z k q))
 
-  -- eight kinds that are the number 0
-  pub group-empty : n ≤ 8 → leAt 8 l (kindPlace from) ≡ 0 → Counted x₀ d₀ l
-  group-empty h e =
-      run-said l x₀ d₀
-      (places-empty (λ k q. ap (λ j. getD l j 0) (sym (add-assoc kindsFrom from k)) ∙ zero-le 8 l (kindPlace from) e k (omega arith)))
+  -- 24 kinds that are 0, those of all these places among them
+  pub group-empty : n ≤ 24 → ((k : ℕ) → k < 24 → getD l (kindPlace from + k) 0 ≡ 0) → Counted x₀ d₀ l
+  group-empty h z = run-said l x₀ d₀ (places-empty (λ k q. ap (λ j. getD l j 0) (sym (add-assoc kindsFrom from k)) ∙ z k (omega arith)))
+
+-- the places of a key more
+pub sweeping-key : (now : ℕ) (rule : Rule) (from : ℕ) (l : List ℕ) (x₀ d₀ k : ℕ) {b : List ℕ} {x d : ℕ} → Sweeping now rule (channels * from) l x₀ d₀ (channels * k) b x d
+    → length l ≡ stateLength → from + k < keyCount → (x₁ d₁ : ℕ) (b₁ : List ℕ) → Counted now rule (channels * (from + k)) channels b x d x₁ d₁ b₁
+    → Sweeping now rule (channels * from) l x₀ d₀ (channels * (k + 1)) b₁ x₁ d₁
+sweeping-key now rule from l x₀ d₀ k {b} {x} {d} s m h x₁ d₁ b₁ p =
+    let e : channels * (from + k) ≡ channels * from + channels * k = omega arith in
+    let f : channels * k + channels ≡ channels * (k + 1) = omega arith in
+    let r = said-run now rule (channels * (from + k)) channels b x d b₁ x₁ d₁ p in
+    rw f at (sweeping-run s m (omega arith) (rw e at r))
 
 -- ## All of them
 
--- the places in whole groups of eight
+-- the keys in whole groups of eight
 abbrev pub whole : ℕ
-whole = places / 8 * 8
+whole = keyCount / 8 * 8
 
 module _ (now : ℕ) (rule : Rule) (l : List ℕ) where
   -- what the code of the sweep says

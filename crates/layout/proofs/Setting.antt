@@ -19,7 +19,7 @@ use Rattle.layout.specs.Octets.{lowOctets}
 use Rattle.layout.specs.Layout.{tickFrom, timersFrom, cellFrom, keysFrom, stateLength, isState, cellOctets, decodeOf, keysOctets, freshOctets}
 use Rattle.layout.specs.Setup.{setupCode, setupOctets, SetUp}
 use Rattle.layout.proofs.States.{at-state, no-state}
-use Rattle.layout.proofs.Numbers.{length-octets, three-runs}
+use Rattle.layout.proofs.Numbers.{length-octets, four-runs}
 use Rattle.layout.proofs.Fresh.{length-keys, length-fresh, last-fresh}
 
 -- ## Zeros
@@ -130,21 +130,24 @@ module _ (l : List ℕ) (s : Setup) (keys : List ℕ) where
   set-length left u = ap length (set-fresh left 0 u refl) ∙ length-fresh s keys
 
 -- the steps of filling, in their order
-pub filled : (s : Setup) (keys z a b c e : List ℕ)
+pub filled : (s : Setup) (keys z a b c d e : List ℕ)
     → z ≡ replicate stateLength 0
     → a ≡ stored z tickFrom (lowOctets 4 (s .tick))
     → b ≡ stored a timersFrom (lowOctets 4 (s .t3206))
     → c ≡ stored b (timersFrom + 4) (lowOctets 4 (s .t3208))
-    → e ≡ stored (set c cellFrom (noCell .nln)) keysFrom (keysOctets (keyPlaces keyCount keys))
+    → d ≡ stored c (timersFrom + 8) (lowOctets 4 (s .t3210))
+    → e ≡ stored (set d cellFrom (noCell .nln)) keysFrom (keysOctets (keyPlaces keyCount keys))
     → e ≡ freshOctets s keys
 unfolding freshOctets
-filled s keys z a b c e pz pa pb pc pe =
+filled s keys z a b c d e pz pa pb pc pd pe =
     let x = lowOctets 4 (s .tick) in
     let y = lowOctets 4 (s .t3206) in
     let w = lowOctets 4 (s .t3208) in
-    let times : c ≡ stored (replicate stateLength 0) tickFrom (x ++ (y ++ w)) =
-    three-runs z a b c tickFrom 4 4 x y w (length-octets 4 (s .tick)) (length-octets 4 (s .t3206)) pa pb pc ∙ ap (λ (l : List ℕ). stored l tickFrom (x ++ (y ++ w))) pz
+    let v = lowOctets 4 (s .t3210) in
+    let times : d ≡ stored (replicate stateLength 0) tickFrom (x ++ (y ++ (w ++ v))) =
+    four-runs z a b c tickFrom 4 4 x y w (length-octets 4 (s .tick)) (length-octets 4 (s .t3206)) pa pb pc d 4 v (length-octets 4 (s .t3208)) pd
+    ∙ ap (λ (l : List ℕ). stored l tickFrom (x ++ (y ++ (w ++ v)))) pz
     in
     pe
     ∙ ap (λ (l : List ℕ). stored l keysFrom (keysOctets (keyPlaces keyCount keys)))
-    (stored-one c cellFrom (noCell .nln) ∙ ap (λ (l : List ℕ). stored l cellFrom (cellOctets noCell)) times)
+    (stored-one d cellFrom (noCell .nln) ∙ ap (λ (l : List ℕ). stored l cellFrom (cellOctets noCell)) times)

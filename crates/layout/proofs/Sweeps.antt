@@ -5,15 +5,15 @@ use mathlib.Core.List.{List}
 use Prim.Native.Nat.{ℕ, zero, suc, _+_, _≤_, _<_}
 use native.Mathlib.Nat.{add-zero, zero-add, add-assoc, add-suc, suc-add}
 use native.Mathlib.Omega.{arith}
-use lib.Dec.{lit≤}
+use lib.Dec.{lit≤, eqb}
 use lib.ListN.{length, getD, set}
 use Rattle.bits.specs.Field.{pick}
 use Rattle.csn1.specs.Told.{asBit}
 use Rattle.receiver.specs.declared.Receiver.{Receiver}
 use Rattle.receiver.specs.declared.Rule.{Rule}
 use Rattle.receiver.specs.declared.Slot.{Slot}
-use Rattle.receiver.specs.Channels.{places, sideOf, byNumber}
-use Rattle.receiver.specs.Model.{emptySlot, timerAt, ranOutOf, takenOf, keptOf, countAt, sweptSlots, expiredOf, droppedOf, withSlots}
+use Rattle.receiver.specs.Channels.{channels, places, placeOn, sideOf, indexIn, byNumber}
+use Rattle.receiver.specs.Model.{emptySlot, timerAt, takes, spares, ranOutOf, takenOf, keptOf, countAt, sweptSlots, expiredOf, droppedOf, withSlots}
 use Rattle.receiver.proofs.Dropping.{by-test}
 use Rattle.receiver.proofs.Loops.{partAt, part-set, part-keep, part-all}
 use Rattle.layout.specs.Octets.{leAt, tabulate}
@@ -23,6 +23,23 @@ use Rattle.layout.proofs.Numbers.{le-ext}
 use Rattle.layout.proofs.Decoding.{slot-of, slots-length, slot-empty, length-put, put-elsewhere, slot-put-other, decode-clear}
 
 -- ## One place
+
+-- its timer, by the timers of the channels
+pub timer-by : (l : List ℕ) (i t3206 t3208 t3210 timer : ℕ) → t3206 ≡ leAt 4 l timersFrom → t3208 ≡ leAt 4 l (timersFrom + 4) → t3210 ≡ leAt 4 l (timersFrom + 8)
+    → timer ≡ byNumber (sideOf i) t3206 t3208 t3210 → timer ≡ timerNo l i
+timer-by l i t3206 t3208 t3210 timer p q r e = e ∙ (λ x. byNumber (sideOf i) (p x) (q x) (r x))
+
+-- one timer runs at all places of a channel
+pub timer-same : (l : List ℕ) (i j : ℕ) → sideOf i ≡ sideOf j → timerNo l i ≡ timerNo l j
+timer-same l i j e = ap (λ (s : ℕ). byNumber s (leAt 4 l timersFrom) (leAt 4 l (timersFrom + 4)) (leAt 4 l (timersFrom + 8))) e
+
+-- what a rule leaves at the place of a key on a channel
+pub spares-on : (rule : Rule) (key ch : ℕ) → ch < channels → spares rule (placeOn key ch) ≡ pick (takes rule ch) (eqb key (rule .but)) true
+unfolding spares
+spares-on rule key ch h =
+    let s : sideOf (placeOn key ch) ≡ ch = omega arith in
+    let i : indexIn (placeOn key ch) ≡ key = omega arith in
+    ap₂ (λ (x y : ℕ). pick (takes rule x) (eqb y (rule .but)) true) s i
 
 -- nothing runs out where nothing is held
 pub ran-empty : (now : ℕ) (l : List ℕ) (i : ℕ) → getD l (kindPlace i) 0 ≡ 0 → ranOutOf now (timerNo l i) (slotNo l i) ≡ false
@@ -84,7 +101,7 @@ module _ (now : ℕ) (rule : Rule) where
       let same : (at : ℕ) → at + 4 ≤ cellFrom → leAt 4 k at ≡ leAt 4 l at =
       λ at b. le-ext 4 k l at at (λ m c. run-elsewhere from n l h (at + m) (λ x. omega arith) (λ x. omega arith))
       in
-      ap₂ (byNumber (sideOf i)) (same timersFrom (omega arith)) (same (timersFrom + 4) (omega arith))
+      timer-by l i _ _ _ _ (same timersFrom (omega arith)) (same (timersFrom + 4) (omega arith)) (same (timersFrom + 8) (omega arith)) refl
 
   -- the places that it does not come to
   pub run-slot : (from n : ℕ) (l : List ℕ) (k : ℕ) → length l ≡ stateLength → from + n ≤ places → k < places → (from ≤ k → from + n ≤ k)

@@ -15,4 +15,4 @@ Running now l from n = (k : ℕ) → k < n → ranOutOf now (timerNo l (from + k
 
 -- a rule that takes halves of no channel
 abbrev pub takesNone : Rule → Bool
-takesNone rule = both (not (rule .nch)) (not (rule .facch))
+takesNone rule = both (not (rule .nch)) (both (not (rule .facch)) (not (rule .pch)))

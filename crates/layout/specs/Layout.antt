@@ -30,8 +30,9 @@ timersFrom = tickFrom + 4
 abbrev pub cellFrom : ℕ
 cellFrom = timersFrom + 4 * channels
 
+-- eight octets, so that the kinds begin at a multiple of eight
 abbrev pub keysFrom : ℕ
-keysFrom = cellFrom + 4
+keysFrom = cellFrom + 8
 
 -- one octet for each place, and some that no place uses, so that they can be tested eight at a time
 abbrev pub kindsFrom : ℕ
@@ -172,6 +173,7 @@ decodeOf l =
       tick = leAt 4 l tickFrom;
       t3206 = leAt 4 l timersFrom;
       t3208 = leAt 4 l (timersFrom + 4);
+      t3210 = leAt 4 l (timersFrom + 8);
       cell = cellAt l;
     }
 
@@ -242,5 +244,5 @@ keysOctets (k ∷ ks) = lowOctets 4 k ++ keysOctets ks
 
 unfoldable pub freshOctets : Setup → List ℕ → List ℕ
 freshOctets s keys =
-    stored (stored (stored (replicate stateLength 0) tickFrom (lowOctets 4 (s .tick) ++ (lowOctets 4 (s .t3206) ++ lowOctets 4 (s .t3208)))) cellFrom (cellOctets noCell))
+    stored (stored (stored (replicate stateLength 0) tickFrom (lowOctets 4 (s .tick) ++ (lowOctets 4 (s .t3206) ++ (lowOctets 4 (s .t3208) ++ lowOctets 4 (s .t3210))))) cellFrom (cellOctets noCell))
     keysFrom (keysOctets (keyPlaces keyCount keys))

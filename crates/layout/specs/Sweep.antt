@@ -11,7 +11,7 @@ use Rattle.layout.specs.Layout.{timersFrom, slotNo, putSlot}
 
 -- the timer that runs at a place
 abbrev pub timerNo : List ℕ → ℕ → ℕ
-timerNo l i = byNumber (sideOf i) (leAt 4 l timersFrom) (leAt 4 l (timersFrom + 4))
+timerNo l i = byNumber (sideOf i) (leAt 4 l timersFrom) (leAt 4 l (timersFrom + 4)) (leAt 4 l (timersFrom + 8))
 
 -- a half that ran out, or that the rule takes, leaves its place all zero
 abbrev pub goes : List ℕ → ℕ → Rule → ℕ → Bool

@@ -21,7 +21,8 @@ const TIMERS: usize = TICK + 4;
 
 const CELL: usize = TIMERS + 4 * CHANNELS;
 
-const KEYS_FROM: usize = CELL + 4;
+// Eight octets, so that the kinds begin at a multiple of eight.
+const KEYS_FROM: usize = CELL + 8;
 
 // One octet for each place, and some that no place uses, so that they can be tested eight at a time.
 const KINDS: usize = KEYS_FROM + 4 * Setup::KEYS;
@@ -41,6 +42,3 @@ const TOLD_LENGTH: usize = 16 + RECORD_LENGTH;
 
 // The octets of a state. Another length is refusal 13.
 pub const LENGTH: usize = TOLDS + TOLD_LENGTH * MOST_ENTRIES;
-
-// The places in whole groups of eight.
-const WHOLE: usize = PLACES / 8 * 8;

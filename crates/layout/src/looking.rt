@@ -1,6 +1,6 @@
 // Looking at the places before a sweep, which writes nothing: whether none is held, and whether no half has run out. Where it says no, the sweep looks again.
 ghost use mathlib.Core.Path.{_≡_};
-ghost use mathlib.Core.Bool.{true, false};
+ghost use mathlib.Core.Bool.{true};
 ghost use Prim.Native.Nat.{ℕ, _+_, _*_, _/_, _%_, _<_, _≤_};
 ghost use lib.ListN.{length, getD};
 ghost use Rattle.receiver.specs.Channels.{places};
@@ -11,19 +11,18 @@ ghost use Rattle.layout.specs.Inner.{Running};
 use crate::KINDS;
 use crate::SINCES;
 use crate::TIMERS;
-use crate::WHOLE;
 use crate::octets::u32_at;
 use crate::octets::u64_at;
 use receiver::PLACES;
 use receiver::store;
 
-// The places in whole groups of thirty-two.
-const MANY: usize = PLACES / 32 * 32;
+// The places in whole groups of twenty-four: three numbers of eight kinds, and eight of each channel.
+const MANY: usize = PLACES / 24 * 24;
 
-// Whether the 32 octets from a place on are all zero, in four tests.
-fn quiet(b: &[u8], at: usize) -> bool
-    requires { ⌜ at + 32 ≤ length (now b) ⌝ }
-    ensures { λ r. ⌜ (r ≡ true → (k : ℕ) → k < 32 → getD (now (b .entry)) (at + k) 0 ≡ 0) ⌝ }
+// Whether the 24 octets from a place on are all zero, in three tests.
+pub(crate) fn quiet(b: &[u8], at: usize) -> bool
+    requires { ⌜ at + 24 ≤ length (now b) ⌝ }
+    ensures { λ r. ⌜ (r ≡ true → (k : ℕ) → k < 24 → getD (now (b .entry)) (at + k) 0 ≡ 0) ⌝ }
 {
     if u64_at(b, at) != 0 {
         return false;
@@ -31,133 +30,97 @@ fn quiet(b: &[u8], at: usize) -> bool
     if u64_at(b, at + 8) != 0 {
         return false;
     }
-    if u64_at(b, at + 16) != 0 {
-        return false;
-    }
-    u64_at(b, at + 24) == 0
+    u64_at(b, at + 16) == 0
 }
 
-// Whether no place holds a half: a test for each eight kinds, for the usual tick.
+// Whether no place holds a half, for the usual tick: the first eight kinds, and then all others with no branch between them, so that a machine with vectors takes several at once.
 pub(crate) fn idle(b: &[u8]) -> bool
     requires { ⌜ length (now b) ≡ stateLength ⌝ }
     ensures { λ r. ⌜ (r ≡ true → (k : ℕ) → k < places → getD (now (b .entry)) (kindPlace k) 0 ≡ 0) ⌝ }
 {
-    let mut i: usize = 0;
+    if u64_at(b, KINDS) != 0 {
+        return false;
+    }
+    let mut all: u64 = 0;
+    let mut i: usize = 8;
     while i < PLACES {
-        if u64_at(b, KINDS + i) != 0 {
-            return false;
-        }
+        all = all | u64_at(b, KINDS + i);
         i += 8;
     }
-    true
+    all == 0
 }
 
-// Whether the half at a place, if there is one, has not run out.
-fn runs(b: &[u8], tick: u32, i: usize) -> bool
-    requires { ⌜ (length (now b) ≡ stateLength) × (i < places) ⌝ }
-    ensures { λ r. ⌜ (r ≡ true → ranOutOf tick (timerNo (now (b .entry)) i) (slotNo (now (b .entry)) i) ≡ false) ⌝ }
+// Whether the half at a place, if there is one, has run out: with no branch, so that eight of them are asked at once.
+fn late(b: &[u8], tick: u32, timer: u32, i: usize) -> bool
+    requires { ⌜ (length (now b) ≡ stateLength) × ((i < places) × (timer ≡ timerNo (now b) i)) ⌝ }
+    ensures { λ r. ⌜ r ≡ ranOutOf tick (timerNo (now (b .entry)) i) (slotNo (now (b .entry)) i) ⌝ }
 {
-    if b[KINDS + i] == 0 {
-        return true;
-    }
-    let timer = store::timer_at(u32_at(b, TIMERS), u32_at(b, TIMERS + 4), i);
-    store::elapsed(tick, u32_at(b, SINCES + 4 * i)) < timer
+    let held = b[KINDS + i] != 0;
+    let old = timer <= store::elapsed(tick, u32_at(b, SINCES + 4 * i));
+    held & old
 }
 
-// Whether no half of four places has run out; and of eight, and of thirty-two. Each first passes empty places by one number.
-fn four_run(b: &[u8], tick: u32, from: usize) -> bool
-    requires { ⌜ (length (now b) ≡ stateLength) × (from + 4 ≤ places) ⌝ }
-    ensures { λ r. ⌜ (r ≡ true → Running tick (now (b .entry)) from 4) ⌝ }
-{
-    if u32_at(b, KINDS + from) == 0 {
-        return true;
-    }
-    if !runs(b, tick, from) {
-        return false;
-    }
-    if !runs(b, tick, from + 1) {
-        return false;
-    }
-    if !runs(b, tick, from + 2) {
-        return false;
-    }
-    runs(b, tick, from + 3)
-}
-
-fn eight_run(b: &[u8], tick: u32, from: usize) -> bool
-    requires { ⌜ (length (now b) ≡ stateLength) × (from + 8 ≤ places) ⌝ }
+// Whether no half of eight places has run out, where the timers of the first three of them are ta, tb and tc.
+fn eight_run(b: &[u8], tick: u32, ta: u32, tb: u32, tc: u32, from: usize) -> bool
+    requires { ⌜ (length (now b) ≡ stateLength) × ((from + 8 ≤ places) × ((ta ≡ timerNo (now b) from) × ((tb ≡ timerNo (now b) (from + 1)) × (tc ≡ timerNo (now b) (from + 2))))) ⌝ }
     ensures { λ r. ⌜ (r ≡ true → Running tick (now (b .entry)) from 8) ⌝ }
 {
-    if u64_at(b, KINDS + from) == 0 {
+    let low = late(b, tick, ta, from)
+        | late(b, tick, tb, from + 1)
+        | late(b, tick, tc, from + 2)
+        | late(b, tick, ta, from + 3);
+    let high = late(b, tick, tb, from + 4)
+        | late(b, tick, tc, from + 5)
+        | late(b, tick, ta, from + 6)
+        | late(b, tick, tb, from + 7);
+    !(low | high)
+}
+
+// And of the six behind the last whole group. Of the eight kinds of its number two are of no place.
+fn rest_run(b: &[u8], tick: u32, t3206: u32, t3208: u32, t3210: u32) -> bool
+    requires { ⌜ (length (now b) ≡ stateLength) × ((t3206 ≡ timerNo (now b) 0) × ((t3208 ≡ timerNo (now b) 1) × (t3210 ≡ timerNo (now b) 2))) ⌝ }
+    ensures { λ r. ⌜ (r ≡ true → Running tick (now (b .entry)) (places / 24 * 24) (places % 24)) ⌝ }
+{
+    if u64_at(b, KINDS + MANY) == 0 {
         return true;
     }
-    if !four_run(b, tick, from) {
-        return false;
-    }
-    four_run(b, tick, from + 4)
+    let low = late(b, tick, t3206, MANY)
+        | late(b, tick, t3208, MANY + 1)
+        | late(b, tick, t3210, MANY + 2);
+    let high = late(b, tick, t3206, MANY + 3)
+        | late(b, tick, t3208, MANY + 4)
+        | late(b, tick, t3210, MANY + 5);
+    !(low | high)
 }
 
-fn many_run(b: &[u8], tick: u32, from: usize) -> bool
-    requires { ⌜ (length (now b) ≡ stateLength) × (from + 32 ≤ places) ⌝ }
-    ensures { λ r. ⌜ (r ≡ true → Running tick (now (b .entry)) from 32) ⌝ }
-{
-    if quiet(b, KINDS + from) {
-        return true;
-    }
-    let mut k: usize = 0;
-    while k < 32 {
-        if !eight_run(b, tick, from + k) {
-            return false;
-        }
-        k += 8;
-    }
-    true
-}
-
-// Of n places, where one number of eight kinds, n of them these, passes empty ones.
-fn group_runs(b: &[u8], tick: u32, from: usize, n: usize) -> bool
-    requires { ⌜ (length (now b) ≡ stateLength) × ((from + n ≤ places) × (n ≤ 8)) ⌝ }
-    ensures { λ r. ⌜ (r ≡ true → Running tick (now (b .entry)) from n) ⌝ }
-{
-    if u64_at(b, KINDS + from) == 0 {
-        return true;
-    }
-    let mut k: usize = 0;
-    while k < n {
-        if !runs(b, tick, from + k) {
-            return false;
-        }
-        k += 1;
-    }
-    true
-}
-
-// Of those behind the last whole thirty-two.
-fn rest_run(b: &[u8], tick: u32) -> bool
-    requires { ⌜ length (now b) ≡ stateLength ⌝ }
-    ensures { λ r. ⌜ (r ≡ true → Running tick (now (b .entry)) (places / 32 * 32) (places % 32)) ⌝ }
-{
-    let mut i: usize = MANY;
-    while i < WHOLE {
-        if !group_runs(b, tick, i, 8) {
-            return false;
-        }
-        i += 8;
-    }
-    group_runs(b, tick, WHOLE, PLACES - WHOLE)
-}
-
-// And of all.
+// And of all. Eight empty places are passed by one number. Where it stands is counted apart from the places: else the compiler takes the kinds out of that number again, one by one.
 pub(crate) fn all_run(b: &[u8], tick: u32) -> bool
     requires { ⌜ length (now b) ≡ stateLength ⌝ }
     ensures { λ r. ⌜ (r ≡ true → Running tick (now (b .entry)) 0 places) ⌝ }
 {
+    let t3206 = u32_at(b, TIMERS);
+    let t3208 = u32_at(b, TIMERS + 4);
+    let t3210 = u32_at(b, TIMERS + 8);
     let mut i: usize = 0;
+    let mut j: usize = 0;
     while i < MANY {
-        if !many_run(b, tick, i) {
-            return false;
+        if u64_at(b, KINDS + 8 * j) != 0 {
+            if !eight_run(b, tick, t3206, t3208, t3210, i) {
+                return false;
+            }
         }
-        i += 32;
+        if u64_at(b, KINDS + 8 * j + 8) != 0 {
+            if !eight_run(b, tick, t3210, t3206, t3208, i + 8) {
+                return false;
+            }
+        }
+        if u64_at(b, KINDS + 8 * j + 16) != 0 {
+            if !eight_run(b, tick, t3208, t3210, t3206, i + 16) {
+                return false;
+            }
+        }
+        i += 24;
+        j += 3;
     }
-    rest_run(b, tick)
+    rest_run(b, tick, t3206, t3208, t3210)
 }

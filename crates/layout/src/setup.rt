@@ -47,6 +47,7 @@ fn fill(b: &mut [u8], s: Setup, keys: &[u32])
     put_u32(b, TICK, s.tick);
     put_u32(b, TIMERS, s.t3206);
     put_u32(b, TIMERS + 4, s.t3208);
+    put_u32(b, TIMERS + 8, s.t3210);
     b[CELL] = NO_NLN;
     put_keys(b, keys);
 }

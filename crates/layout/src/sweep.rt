@@ -1,11 +1,11 @@
-// One sweep over the places: what ran out goes, then what an event takes. Empty places are passed eight at a time.
+// One sweep over the places: what ran out goes, then what an event takes. Empty places are passed by the eight keys.
 ghost use mathlib.Core.Path.{_≡_};
-ghost use Prim.Native.Nat.{_+_, _<_, _≤_};
+ghost use Prim.Native.Nat.{_+_, _*_, _<_, _≤_};
 ghost use lib.ListN.{length};
 ghost use Rattle.csn1.specs.Told.{asBit};
 ghost use Rattle.bits.specs.Field.{pick};
-ghost use Rattle.receiver.specs.Channels.{places};
-ghost use Rattle.receiver.specs.Model.{keep, ranOutOf, takenOf, countAt, expiredOf, droppedOf};
+ghost use Rattle.receiver.specs.Channels.{channels, keyCount, places, placeOn};
+ghost use Rattle.receiver.specs.Model.{keep, spares, ranOutOf, takenOf, countAt, expiredOf, droppedOf};
 ghost use Rattle.layout.specs.Octets.{tabulate};
 ghost use Rattle.layout.specs.Layout.{stateLength, isState, slotNo, decodeOf};
 ghost use Rattle.layout.specs.Sweep.{timerNo, sweptAt, sweptRun, sweptOctets};
@@ -14,14 +14,15 @@ use crate::KINDS;
 use crate::LENGTH;
 use crate::SINCES;
 use crate::TIMERS;
-use crate::WHOLE;
 use crate::looking::all_run;
 use crate::looking::idle;
+use crate::looking::quiet;
 use crate::octets::u32_at;
-use crate::octets::u64_at;
 use crate::places::empty;
-use receiver::PLACES;
 use receiver::Rule;
+use receiver::Setup;
+use receiver::channels;
+use receiver::channels::CHANNELS;
 use receiver::store;
 
 // How many halves ran out, and how many an event's own rule took.
@@ -30,17 +31,29 @@ pub struct Lost {
     pub dropped: u32,
 }
 
+// Whether a rule leaves the half of a key on a channel.
+fn spared(rule: Rule, key: usize, ch: usize) -> bool
+    requires { ⌜ ch < channels ⌝ }
+    ensures { λ r. ⌜ r ≡ spares rule (placeOn key ch) ⌝ }
+{
+    if !channels::flag_of(ch, rule.nch, rule.facch, rule.pch) {
+        return true;
+    }
+    key == rule.but
+}
+
 // One place, beside what was counted before it: a half that ran out goes, and else one that the rule does not leave.
 fn sweep_place(
     b: &mut [u8],
     tick: u32,
     rule: Rule,
+    spared: bool,
     timer: u32,
     i: usize,
     expired: u32,
     dropped: u32,
 ) -> Lost
-    requires { ⌜ (length (now b) ≡ stateLength) × ((i < places) × ((timer ≡ timerNo (now b) i) × ((expired ≤ i) × (dropped ≤ i)))) ⌝ }
+    requires { ⌜ (length (now b) ≡ stateLength) × ((i < places) × ((timer ≡ timerNo (now b) i) × ((spared ≡ spares rule i) × ((expired ≤ i) × (dropped ≤ i))))) ⌝ }
     ensures { λ r. ⌜ (r .expired ≡ expired + asBit (ranOutOf tick (timerNo (now (b .entry)) i) (slotNo (now (b .entry)) i)))
         × ((r .dropped ≡ dropped + asBit (takenOf tick (timerNo (now (b .entry)) i) rule i (slotNo (now (b .entry)) i)))
         × (now (b .exit) ≡ sweptAt tick rule (now (b .entry)) i)) ⌝ }
@@ -55,7 +68,7 @@ fn sweep_place(
             dropped,
         };
     }
-    if store::spared(rule, i) {
+    if spared {
         return Lost { expired, dropped };
     }
     empty(b, i);
@@ -65,8 +78,44 @@ fn sweep_place(
     }
 }
 
-// The n places from a place on, one by one, beside what was counted before them.
-fn sweep_run(
+// The places of a key, one for each channel: the compiler makes three of the loop, each with the timer and the flag of its channel.
+fn sweep_key(
+    b: &mut [u8],
+    tick: u32,
+    rule: Rule,
+    key: usize,
+    mut expired: u32,
+    mut dropped: u32,
+) -> Lost
+    requires { ⌜ (length (now b) ≡ stateLength) × ((key < keyCount) × ((expired ≤ channels * key) × (dropped ≤ channels * key))) ⌝ }
+    ensures { λ r. ⌜ (r .expired ≡ expired + countAt (λ i s. ranOutOf tick (timerNo (now (b .entry)) i) s) (channels * key) (tabulate (slotNo (now (b .entry))) (channels * key) channels))
+        × ((r .dropped ≡ dropped + countAt (λ i s. takenOf tick (timerNo (now (b .entry)) i) rule i s) (channels * key) (tabulate (slotNo (now (b .entry))) (channels * key) channels))
+        × (now (b .exit) ≡ sweptRun tick rule (channels * key) channels (now (b .entry)))) ⌝ }
+{
+    let t3206 = u32_at(b, TIMERS);
+    let t3208 = u32_at(b, TIMERS + 4);
+    let t3210 = u32_at(b, TIMERS + 8);
+    let mut ch: usize = 0;
+    while ch < CHANNELS {
+        let lost = sweep_place(
+            b,
+            tick,
+            rule,
+            spared(rule, key, ch),
+            channels::timer_of(ch, t3206, t3208, t3210),
+            CHANNELS * key + ch,
+            expired,
+            dropped,
+        );
+        expired = lost.expired;
+        dropped = lost.dropped;
+        ch += 1;
+    }
+    Lost { expired, dropped }
+}
+
+// The places of n keys, at most eight; where all of those of eight are empty, or hold nothing behind the last place, they are passed by three numbers.
+fn sweep_group(
     b: &mut [u8],
     tick: u32,
     rule: Rule,
@@ -75,25 +124,17 @@ fn sweep_run(
     mut expired: u32,
     mut dropped: u32,
 ) -> Lost
-    requires { ⌜ (length (now b) ≡ stateLength) × ((from + n ≤ places) × ((expired ≤ from) × (dropped ≤ from))) ⌝ }
-    ensures { λ r. ⌜ (r .expired ≡ expired + countAt (λ i s. ranOutOf tick (timerNo (now (b .entry)) i) s) from (tabulate (slotNo (now (b .entry))) from n))
-        × ((r .dropped ≡ dropped + countAt (λ i s. takenOf tick (timerNo (now (b .entry)) i) rule i s) from (tabulate (slotNo (now (b .entry))) from n))
-        × (now (b .exit) ≡ sweptRun tick rule from n (now (b .entry)))) ⌝ }
+    requires { ⌜ (length (now b) ≡ stateLength) × ((from + n ≤ keyCount) × ((n ≤ 8) × ((expired ≤ channels * from) × (dropped ≤ channels * from)))) ⌝ }
+    ensures { λ r. ⌜ (r .expired ≡ expired + countAt (λ i s. ranOutOf tick (timerNo (now (b .entry)) i) s) (channels * from) (tabulate (slotNo (now (b .entry))) (channels * from) (channels * n)))
+        × ((r .dropped ≡ dropped + countAt (λ i s. takenOf tick (timerNo (now (b .entry)) i) rule i s) (channels * from) (tabulate (slotNo (now (b .entry))) (channels * from) (channels * n)))
+        × (now (b .exit) ≡ sweptRun tick rule (channels * from) (channels * n) (now (b .entry)))) ⌝ }
 {
-    let t3206 = u32_at(b, TIMERS);
-    let t3208 = u32_at(b, TIMERS + 4);
+    if quiet(b, KINDS + CHANNELS * from) {
+        return Lost { expired, dropped };
+    }
     let mut k: usize = 0;
     while k < n {
-        let i = from + k;
-        let lost = sweep_place(
-            b,
-            tick,
-            rule,
-            store::timer_at(t3206, t3208, i),
-            i,
-            expired,
-            dropped,
-        );
+        let lost = sweep_key(b, tick, rule, from + k, expired, dropped);
         expired = lost.expired;
         dropped = lost.dropped;
         k += 1;
@@ -101,28 +142,10 @@ fn sweep_run(
     Lost { expired, dropped }
 }
 
-// The same, where one test of eight kinds, n of them these, passes empty places.
-fn sweep_group(
-    b: &mut [u8],
-    tick: u32,
-    rule: Rule,
-    from: usize,
-    n: usize,
-    expired: u32,
-    dropped: u32,
-) -> Lost
-    requires { ⌜ (length (now b) ≡ stateLength) × ((from + n ≤ places) × ((n ≤ 8) × ((expired ≤ from) × (dropped ≤ from)))) ⌝ }
-    ensures { λ r. ⌜ (r .expired ≡ expired + countAt (λ i s. ranOutOf tick (timerNo (now (b .entry)) i) s) from (tabulate (slotNo (now (b .entry))) from n))
-        × ((r .dropped ≡ dropped + countAt (λ i s. takenOf tick (timerNo (now (b .entry)) i) rule i s) from (tabulate (slotNo (now (b .entry))) from n))
-        × (now (b .exit) ≡ sweptRun tick rule from n (now (b .entry)))) ⌝ }
-{
-    if u64_at(b, KINDS + from) == 0 {
-        return Lost { expired, dropped };
-    }
-    sweep_run(b, tick, rule, from, n, expired, dropped)
-}
+// The keys in whole groups of eight.
+const WHOLE: usize = Setup::KEYS / 8 * 8;
 
-// All places. In the last group, of its test's eight octets some are unused ones.
+// All places.
 fn sweep_all(b: &mut [u8], tick: u32, rule: Rule) -> Lost
     requires { ⌜ length (now b) ≡ stateLength ⌝ }
     ensures { λ r. ⌜ (r .expired ≡ expiredOf (decodeOf (now (b .entry))) tick (decodeOf (now (b .entry)) .slots))
@@ -130,14 +153,14 @@ fn sweep_all(b: &mut [u8], tick: u32, rule: Rule) -> Lost
 {
     let mut expired: u32 = 0;
     let mut dropped: u32 = 0;
-    let mut i: usize = 0;
-    while i < WHOLE {
-        let lost = sweep_group(b, tick, rule, i, 8, expired, dropped);
+    let mut key: usize = 0;
+    while key < WHOLE {
+        let lost = sweep_group(b, tick, rule, key, 8, expired, dropped);
         expired = lost.expired;
         dropped = lost.dropped;
-        i += 8;
+        key += 8;
     }
-    sweep_group(b, tick, rule, WHOLE, PLACES - WHOLE, expired, dropped)
+    sweep_group(b, tick, rule, WHOLE, Setup::KEYS - WHOLE, expired, dropped)
 }
 
 // What ran out goes. Most ticks find nothing to do, and only look.
@@ -162,7 +185,10 @@ fn takes_none(rule: Rule) -> bool
     if rule.nch {
         return false;
     }
-    !rule.facch
+    if rule.facch {
+        return false;
+    }
+    !rule.pch
 }
 
 // The sweep of an event. The rule is taken apart here: the usual one, which takes nothing, is passed on to nobody, and a copy of another does not wait for all of its octets.
@@ -187,6 +213,7 @@ pub fn sweep(b: &mut [u8], tick: u32, rule: Rule) -> Lost
     let taking = Rule {
         nch: rule.nch,
         facch: rule.facch,
+        pch: rule.pch,
         but: rule.but,
     };
     sweep_all(b, tick, taking)

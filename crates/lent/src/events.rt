@@ -1,4 +1,4 @@
-// The seven events on a lent state: each is refused with its number and changes no octet, or works in place.
+// The events on a lent state: each is refused with its number and changes no octet, or works in place.
 ghost use mathlib.Core.Path.{_≡_};
 ghost use mathlib.Core.List.{[]};
 ghost use Prim.Native.Nat.{_≤_};
@@ -7,13 +7,14 @@ ghost use Rattle.bits.specs.Field.{both};
 ghost use Rattle.nch.specs.NotificationNumbers.{recordFrom, Fits};
 ghost use Rattle.receiver.specs.Channels.{keyCount, Channel, hasNln};
 ghost use Rattle.receiver.specs.Model.{ruleFor, keep};
-ghost use Rattle.receiver.specs.Entries.{nchEntries, facchEntries};
-ghost use Rattle.receiver.specs.Step.{changes, numbering, cellAfter, mostEntries, moved, nch, facch, joined, reselected, handedOver, reconfigured, tick};
+ghost use Rattle.receiver.specs.Entries.{nchEntries, facchEntries, pchEntries};
+ghost use Rattle.receiver.specs.Step.{changes, numbering, cellAfter, mostEntries, moved, nch, facch, pch, joined, reselected, handedOver, reconfigured, leftIdle, tick};
 ghost use Rattle.layout.specs.Layout.{stateLength, decodeOf};
 ghost use Rattle.lent.specs.Events.{Fed};
 ghost use Rattle.lent.specs.Inner.{Accepted, earlyCode};
 use crate::tell::tell_facch;
 use crate::tell::tell_nch;
+use crate::tell::tell_pch;
 use layout::answer::cell_of;
 use layout::answer::put_head;
 use layout::answer::tick_of;
@@ -26,6 +27,7 @@ use receiver::LAST_KEY;
 use receiver::Move;
 use receiver::Rule;
 use receiver::events;
+use receiver::meeting;
 use receiver::store;
 
 // The number that comes before the event's own: 13 for another length, then 9.
@@ -83,15 +85,26 @@ fn accept_nch(b: &mut [u8], time: u32, m: &[u64])
     );
 }
 
-// An accepted FACCH message.
+// An accepted FACCH message: it takes no half, as a tick.
 fn accept_facch(b: &mut [u8], time: u32, m: facch::Notification)
     requires { ⌜ length (now b) ≡ stateLength ⌝ }
     ensures { λ _. ⌜ Accepted (now (b .entry)) time keep (decodeOf (now (b .entry)) .cell) 1 (facchEntries m) (now (b .exit)) ⌝ }
 {
     let cell = cell_of(b);
-    let lost = sweep(b, time, store::keep());
-    let count = tell_facch(b, time, m);
-    put_head(b, time, cell, lost.expired, lost.dropped, count);
+    let lost = pass(b, time);
+    tell_facch(b, time, m);
+    put_head(b, time, cell, lost.expired, lost.dropped, 1);
+}
+
+// An accepted entry of the PCH.
+fn accept_pch(b: &mut [u8], time: u32, rule: Rule, p: pch::Entry)
+    requires { ⌜ length (now b) ≡ stateLength ⌝ }
+    ensures { λ _. ⌜ Accepted (now (b .entry)) time rule (decodeOf (now (b .entry)) .cell) 2 (pchEntries p) (now (b .exit)) ⌝ }
+{
+    let cell = cell_of(b);
+    let lost = sweep(b, time, rule);
+    tell_pch(b, time, p);
+    put_head(b, time, cell, lost.expired, lost.dropped, 1);
 }
 
 // NT/N Rest Octets.
@@ -128,7 +141,26 @@ pub fn facch(b: &mut [u8], time: u32, octets: &[u8]) -> u8
     0
 }
 
-// The mobile joined the call of a key: halves under other keys go, on both channels.
+// An entry of the PCH, as numbers.
+pub fn pch(b: &mut [u8], time: u32, numbers: &[u64]) -> u8
+    ensures { λ r. ⌜ Fed (now (b .entry)) (pch time (now (numbers .entry))) (now (b .exit)) r ⌝ }
+{
+    let n = early(b, time);
+    if n != 0 {
+        return n;
+    }
+    let m = pch::read(numbers);
+    if m.refusal.number != 0 {
+        return m.refusal.number;
+    }
+    let record = m.record;
+    let call = record.call;
+    let i = index_of(b, meeting::key_of(call));
+    accept_pch(b, time, events::page_rule(i), record);
+    0
+}
+
+// The mobile joined the call of a key: halves under other keys go, on all channels.
 pub fn joined(b: &mut [u8], time: u32, key: u32) -> u8
     ensures { λ r. ⌜ Fed (now (b .entry)) (joined time key) (now (b .exit)) r ⌝ }
 {
@@ -158,7 +190,7 @@ fn move_on(b: &mut [u8], time: u32, m: Move) -> u8
     0
 }
 
-// Another cell was selected: NCH halves go.
+// Another cell was selected: NCH and PCH halves go.
 pub fn reselected(b: &mut [u8], time: u32) -> u8
     ensures { λ r. ⌜ Fed (now (b .entry)) (reselected time) (now (b .exit)) r ⌝ }
 {
@@ -177,6 +209,13 @@ pub fn reconfigured(b: &mut [u8], time: u32) -> u8
     ensures { λ r. ⌜ Fed (now (b .entry)) (reconfigured time) (now (b .exit)) r ⌝ }
 {
     move_on(b, time, Move::Reconfiguration)
+}
+
+// The mobile left idle mode: PCH halves go.
+pub fn left_idle(b: &mut [u8], time: u32) -> u8
+    ensures { λ r. ⌜ Fed (now (b .entry)) (leftIdle time) (now (b .exit)) r ⌝ }
+{
+    move_on(b, time, Move::LeftIdle)
 }
 
 // Time passed.

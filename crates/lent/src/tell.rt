@@ -6,7 +6,7 @@ ghost use Rattle.nch.specs.NotificationNumbers.{recordFrom, Fits};
 ghost use Rattle.receiver.specs.Channels.{channels, keyCount, places, placeOn};
 ghost use Rattle.receiver.specs.Model.{keyOf, meetOf};
 ghost use Rattle.receiver.specs.Step.{mostEntries};
-ghost use Rattle.receiver.specs.Entries.{nchEntries, facchEntries};
+ghost use Rattle.receiver.specs.Entries.{nchEntries, facchEntries, pchEntries};
 ghost use Rattle.layout.specs.Layout.{stateLength, slotNo};
 ghost use Rattle.lent.specs.Events.{metOctets};
 ghost use Rattle.lent.specs.Inner.{metHalf, Telling, AllTold, entryFrom, EntryFits};
@@ -90,20 +90,34 @@ fn ours(b: &mut [u8], ch: usize, tick: u32, j: usize, i: usize, e: Record)
     put_number(b, j, key, 4);
 }
 
-// The entries of a FACCH message, and how many they are.
-pub(crate) fn tell_facch(b: &mut [u8], tick: u32, m: facch::Notification) -> u32
+// The entry of a FACCH message. Its record is made only where its key is ours.
+pub(crate) fn tell_facch(b: &mut [u8], tick: u32, m: facch::Notification)
     requires { ⌜ length (now b) ≡ stateLength ⌝ }
-    ensures { λ r. ⌜ (r ≡ length (facchEntries m)) × AllTold (now (b .entry)) 1 tick (facchEntries m) (now (b .exit)) ⌝ }
+    ensures { λ _. ⌜ AllTold (now (b .entry)) 1 tick (facchEntries m) (now (b .exit)) ⌝ }
 {
     let c = m.call;
     let key = meeting::key_of(c);
     let i = index_of(b, key);
     if Setup::KEYS <= i {
         put_number(b, 0, key, 0);
-        return 1;
+        return;
     }
-    ours(b, 1, tick, 0, i, messages::facch_entry(m));
-    1
+    ours(b, channels::FACCH, tick, 0, i, messages::facch_entry(m));
+}
+
+// An entry of the PCH, likewise.
+pub(crate) fn tell_pch(b: &mut [u8], tick: u32, p: pch::Entry)
+    requires { ⌜ length (now b) ≡ stateLength ⌝ }
+    ensures { λ _. ⌜ AllTold (now (b .entry)) 2 tick (pchEntries p) (now (b .exit)) ⌝ }
+{
+    let c = p.call;
+    let key = meeting::key_of(c);
+    let i = index_of(b, key);
+    if Setup::KEYS <= i {
+        put_number(b, 0, key, 0);
+        return;
+    }
+    ours(b, channels::PCH, tick, 0, i, messages::pch_entry(p));
 }
 
 // The j-th entry of an NCH message, whose numbers stand at a place: told 0 where its key is not ours; its record is made only where it is. Calls and reduced references

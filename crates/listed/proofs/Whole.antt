@@ -236,7 +236,8 @@ answerFrom w =
             tick = numberAt 0 (aloneAt 4 w);
             t3206 = numberAt 1 (aloneAt 4 w);
             t3208 = numberAt 2 (aloneAt 4 w);
-            cell = record { nln = numberAt 3 (aloneAt 4 w) };
+            t3210 = numberAt 3 (aloneAt 4 w);
+            cell = record { nln = numberAt 4 (aloneAt 4 w) };
           };
     }
 

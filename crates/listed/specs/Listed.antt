@@ -175,11 +175,12 @@ answerAt now x n m held =
       entries = record { key = key; number = n; «record» = m } ∷ replicate 8 noTold;
       receiver =
           record {
-            slots = held ∷ replicate 99 emptySlot;
+            slots = held ∷ replicate 149 emptySlot;
             keys = key ∷ replicate 49 noKey;
             tick = now;
             t3206 = 5000;
             t3208 = 5000;
+            t3210 = 5000;
             cell = noCell;
           };
     }
@@ -226,7 +227,7 @@ rows =
 
 -- set up at a tick with T3206 for one call
 abbrev pub setUp : ℕ → ℕ → Started
-setUp now t3206 = startedOf (record { tick = now; t3206 = t3206; t3208 = 5000 }) (key ∷ [])
+setUp now t3206 = startedOf (record { tick = now; t3206 = t3206; t3208 = 5000; t3210 = 5000 }) (key ∷ [])
 
 -- the octets of `firstRecord`, and of `secondRecord`
 abbrev pub firstHalf : List ℕ

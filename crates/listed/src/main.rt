@@ -71,6 +71,7 @@ fn ready(tick: u32) -> Receiver {
         tick,
         t3206: 5000,
         t3208: 5000,
+        t3210: 5000,
     }.start(&[2469135u32]);
     s.receiver
 }

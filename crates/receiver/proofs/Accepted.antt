@@ -15,12 +15,14 @@ use Rattle.nch.specs.Told.{readOf}
 use Rattle.facch.specs.declared.Notification.{Notification as Message}
 use Rattle.facch.specs.Told.{readOf as readFacch}
 use Rattle.nch.specs.Write.{callsOf, flaggedRight, inRange, writeNumber}
+use Rattle.pch.specs.declared.Entry.{Entry}
+use Rattle.pch.specs.Entry.{readOf as readPch}
 use Rattle.nch.proofs.Promises.{writing-gives-back-what-was-read, places-are-enough}
 use Rattle.receiver.specs.declared.Record.{Record}
 use Rattle.receiver.specs.declared.Slot.{Slot}
 use Rattle.receiver.specs.Model.{noNln, mapAt}
-use Rattle.receiver.specs.Entries.{callEntry, reducedEntry, nchEntries, facchEntries}
-use Rattle.receiver.specs.Step.{mostEntries, Happening, heardNch, heardFacch, joins, moves, passes, Cause, nothing, joining, moving}
+use Rattle.receiver.specs.Entries.{callEntry, reducedEntry, nchEntries, facchEntries, pchEntries}
+use Rattle.receiver.specs.Step.{mostEntries, Happening, heardNch, heardFacch, heardPch, joins, moves, passes, Cause, nothing, joining, paged, moving}
 use Rattle.receiver.specs.Step.{numbered, numbering, contentOf, groundsOf, slotsAfter, allTold, noTold}
 use Rattle.receiver.proofs.Standing.{length-mapAt}
 
@@ -43,6 +45,7 @@ read-nln s z o = flagged-lt (readOf s .«record» .numbered) (readOf s .«record
 abbrev pub Low : Cause → Type 0
 Low nothing = Unit {0}
 Low (joining k) = Unit {0}
+Low (paged k) = Unit {0}
 Low (moving m) = Unit {0}
 Low (numbered n) = n < noNln
 
@@ -53,6 +56,7 @@ low-numbering false n h = tt
 pub low : (h : Happening) → groundsOf h .number ≡ 0 → Low (contentOf h .cause)
 low (heardNch s) z = low-numbering (readOf s .«record» .numbered) (readOf s .«record» .nln) (read-nln s z)
 low (heardFacch s) z = tt
+low (heardPch ns) z = tt
 low (joins k) z = tt
 low (moves m) z = tt
 low passes z = tt
@@ -82,10 +86,15 @@ facch-few : (m : Message) → length (facchEntries m) ≤ mostEntries
 unfolding facchEntries
 facch-few m = omega arith
 
+pch-few : (p : Entry) → length (pchEntries p) ≤ mostEntries
+unfolding pchEntries
+pch-few p = omega arith
+
 -- an accepted event has a place for each
 pub few : (h : Happening) → groundsOf h .number ≡ 0 → length (contentOf h .entries) ≤ mostEntries
 few (heardNch s) z = nch-few (readOf s .«record») (places-are-enough s z .0) (places-are-enough s z .1)
 few (heardFacch s) z = facch-few (readFacch s .«record»)
+few (heardPch ns) z = pch-few (readPch ns .«record»)
 few (joins k) z = omega arith
 few (moves m) z = omega arith
 few passes z = omega arith

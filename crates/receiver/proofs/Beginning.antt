@@ -31,6 +31,7 @@ pub record Right (s : Setup) (keys : List ℕ) : Type 0 where
   pub few : length keys ≤ keyCount
   first : (1 ≤ s .t3206) × (s .t3206 ≤ longestTimer)
   second : (1 ≤ s .t3208) × (s .t3208 ≤ longestTimer)
+  third : (1 ≤ s .t3210) × (s .t3210 ≤ longestTimer)
   pub keyed : keysRight keys ≡ true
 
 timer-right : (t : ℕ) → isTimer t ≡ true → (1 ≤ t) × (t ≤ longestTimer)
@@ -41,8 +42,15 @@ unfolding setupRight
 right s keys e =
     let a = both-true (leb (length keys) keyCount) _ e in
     let b = both-true (isTimer (s .t3206)) _ (a .1) in
-    let c = both-true (isTimer (s .t3208)) (keysRight keys) (b .1) in
-    record { few = leb-true (length keys) keyCount (a .0); first = timer-right (s .t3206) (b .0); second = timer-right (s .t3208) (c .0); keyed = c .1 }
+    let c = both-true (isTimer (s .t3208)) _ (b .1) in
+    let d = both-true (isTimer (s .t3210)) (keysRight keys) (c .1) in
+    record {
+      few = leb-true (length keys) keyCount (a .0);
+      first = timer-right (s .t3206) (b .0);
+      second = timer-right (s .t3208) (c .0);
+      third = timer-right (s .t3210) (d .0);
+      keyed = d .1;
+    }
 
 -- one that is not refused passes
 passes : (s : Setup) (keys : List ℕ) → startedOf s keys .refusal .number ≡ 0 → setupRight s keys ≡ true
@@ -69,7 +77,7 @@ module _ (s : Setup) (keys : List ℕ) (t : s .tick < 4294967296) (z : startedOf
   slot-empty = getD-replicate places (placeAt (keyPlaces keyCount keys) key c) emptySlot emptySlot (place-lt (indexOf (keyPlaces keyCount keys) key) c subscribed)
 
   timers : (1 ≤ timerOf c s) × (timerOf c s ≤ longestTimer)
-  timers = for-each (λ (t : ℕ). (1 ≤ t) × (t ≤ longestTimer)) c _ _ (made s keys z .first) (made s keys z .second)
+  timers = for-each (λ (t : ℕ). (1 ≤ t) × (t ≤ longestTimer)) c _ _ _ (made s keys z .first) (made s keys z .second) (made s keys z .third)
 
   pub started-good : Good key c (started s keys)
   started-good =

@@ -51,7 +51,7 @@ pub kept-what : (now timer : ℕ) (rule : Rule) (i : ℕ) (s : Slot)
 unfolding keptOf takenOf ranOutOf
 kept-what now timer rule i s = kept-cases (isHeld s) (leb timer (wrapSub now (s .since))) (spares rule i) emptySlot s
 
-is-held : (s : Slot) → isHeld s ≡ true → s .half ≡ 0 → ⊥
+pub is-held : (s : Slot) → isHeld s ≡ true → s .half ≡ 0 → ⊥
 is-held s h = eqb-false (s .half) 0 (not-true (eqb (s .half) 0) h)
 
 is-free : (s : Slot) → isHeld s ≡ false → s .half ≡ 0

@@ -7,7 +7,7 @@ use Rattle.csn1.specs.declared.Refusal.{Refusal}
 use Rattle.csn1.specs.Format.{noRefusal, ground}
 use Rattle.receiver.specs.declared.Receiver.{Receiver}
 use Rattle.receiver.specs.Model.{wrapSub, lateStep, late, lastKey}
-use Rattle.receiver.specs.Step.{Event, Happening, heardNch, heardFacch, joins, moves, passes, groundsOf, refusalOf, stepOf}
+use Rattle.receiver.specs.Step.{Event, Happening, heardNch, heardFacch, heardPch, joins, moves, passes, groundsOf, refusalOf, stepOf}
 use Rattle.receiver.specs.Promises.{Ground}
 use Rattle.receiver.proofs.Dropping.{by-test}
 
@@ -33,6 +33,7 @@ pub on-ground : (h : Happening) (n : ℕ) → n ≡ groundsOf h .number → Grou
 unfolding ground
 on-ground (heardNch s) n q = q
 on-ground (heardFacch s) n q = q
+on-ground (heardPch ns) n q = q
 on-ground (joins k) n q = (λ h. q ∙ rw (le-leb k lastKey h), λ h. q ∙ rw (lt-leb k lastKey h))
 on-ground (moves m) n q = q
 on-ground passes n q = q

@@ -13,7 +13,7 @@ use Rattle.bits.specs.Field.{pick}
 use Rattle.receiver.specs.declared.Record.{Record}
 use Rattle.receiver.specs.Model.{agree, joinedOf}
 use Rattle.receiver.specs.Channels.{Channel}
-use Rattle.receiver.specs.Step.{Cause, nothing, joining, moving, numbered}
+use Rattle.receiver.specs.Step.{Cause, nothing, joining, paged, moving, numbered}
 use Rattle.receiver.specs.One.{mayLead, goneBy, Kind, clear, piece, first, second, bare, unusable, kindOn, Which, theFirst, theSecond, Half, One, Known, says, newHalf}
 use Rattle.receiver.specs.One.{met, meetKind, meetOne, Seen, aged, changed, heldAfter, sparedBy, spared, passed, stepOne, oneAfter, fresh}
 use Rattle.receiver.specs.History.{Moment, wait, happens, entry, followed, opened, untilEntry, afterEvent, pastOf, lastKnown, took, elapsed, Opposite}
@@ -122,12 +122,14 @@ nln-same (some l) n q = rw (eq-eqb l n q)
 cause-kept : (key : ℕ) (c : Channel) (l : Known) (x : Cause) (o : Option Half) (h : Half) → sparedBy key c l x o ≡ some h → Leaves key c l x × (o ≡ some h)
 cause-kept key c l nothing o h q = (tt, q)
 cause-kept key c l (joining k) o h q = let w = kept-by (eqb k key) o h q in (eqb-true k key (w .0), w .1)
+cause-kept key c l (paged k) o h q = let w = kept-by (eqb k key) o h q in (eqb-true k key (w .0), w .1)
 cause-kept key c l (moving m) o h q = lost-by (goneBy c m) o h q
 cause-kept key c l (numbered n) o h q = let w = lost-by (changed (l .nln) n) o h q in (same-nln (l .nln) n (w .0), w .1)
 
 cause-keeps : (key : ℕ) (c : Channel) (l : Known) (x : Cause) (o : Option Half) → Leaves key c l x → sparedBy key c l x o ≡ o
 cause-keeps key c l nothing o q = refl
 cause-keeps key c l (joining k) o q = rw (eq-eqb k key q)
+cause-keeps key c l (paged k) o q = rw (eq-eqb k key q)
 cause-keeps key c l (moving m) o q = rw q
 cause-keeps key c l (numbered n) o q = rw (nln-same (l .nln) n q)
 

@@ -17,9 +17,9 @@ use Rattle.receiver.specs.declared.Receiver.{Receiver}
 use Rattle.receiver.specs.declared.Cell.{Cell}
 use Rattle.receiver.specs.declared.Answer.{Answer}
 use Rattle.receiver.specs.declared.Rule.{Rule}
-use Rattle.receiver.specs.Channels.{keyCount, places, Channel, numberOf}
+use Rattle.receiver.specs.Channels.{keyCount, places, Channel, numberOf, hasPages}
 use Rattle.receiver.specs.Model.{emptySlot, noNln, longestTimer, wrapSub, lateStep, late, indexOf, spares, timerAt, keptOf, sweptSlots}
-use Rattle.receiver.specs.Step.{Event, Cause, nothing, joining, moving, numbered, Content, contentOf, changes, cellAfter, taking, sparing}
+use Rattle.receiver.specs.Step.{Event, Cause, nothing, joining, paged, moving, numbered, Content, contentOf, changes, cellAfter, taking, sparing}
 use Rattle.receiver.specs.Step.{ruleBy, ruleOf, groundsOf, refusalOf, refusedWith, acceptedAs, stepOf}
 use Rattle.receiver.specs.One.{showsNln, hears, goneBy, forgottenBy, Half, Known, One, Said, Sight, sightOf, stepBetween, accepts, sees, seen, aged, knownAfter}
 use Rattle.receiver.specs.One.{heldAfter, saidOf, sparedBy, spared, passed, stepOne, stepSaid, runOne, runEach, oneAfter}
@@ -80,6 +80,12 @@ renumbered key c true true l n h = refl
 renumbered key c true false l n h = refl
 renumbered key c false z l n h = refl
 
+-- b: the channel shows a key of the PCH
+paged-away : (key : ℕ) (c : Channel) (l : Known) (b : Bool) (k : ℕ) (h : Option Half)
+    → sparedBy key c l (pick b (paged k) nothing) h ≡ pick (pick b (eqb k key) true) h none
+paged-away key c l true k h = refl
+paged-away key c l false k h = refl
+
 spared-same : (key : ℕ) (r : Receiver) → length (r .keys) ≡ keyCount → indexOf (r .keys) key < keyCount → (c : Channel) (x : Cause) (h : Option Half)
     → sparedBy key c (known c (r .cell)) (shown c x) h ≡ pick (spares (ruleBy r x) (placeAt (r .keys) key c)) h none
 spared-same key r keyed subscribed c x h = by-cause x ∙ ap (λ (b : Bool). pick b h none) (sym (spares-at (indexOf (r .keys) key) c (taking (r .cell) x) (sparing (r .keys) x)))
@@ -87,6 +93,7 @@ spared-same key r keyed subscribed c x h = by-cause x ∙ ap (λ (b : Bool). pic
     by-cause : (x : Cause) → sparedBy key c (known c (r .cell)) (shown c x) h ≡ pick (pick (taking (r .cell) x c) (eqb (indexOf (r .keys) key) (sparing (r .keys) x)) true) h none
     by-cause nothing = refl
     by-cause (joining k) = rw (join-same (r .keys) key k (omega arith))
+    by-cause (paged k) = rw (join-same (r .keys) key k (omega arith)) (paged-away key c (known c (r .cell)) (hasPages c) k h)
     by-cause (moving m) = rw (drops-same c m) (all-gone (goneBy c m) (indexOf (r .keys) key) h subscribed)
     by-cause (numbered n) =
         rw (shows-same c)
@@ -107,9 +114,14 @@ seen-next : (w : Bool) (l n : ℕ) → n < noNln
 seen-next true l n z = rw (ne-eqb n noNln (λ e. omega arith))
 seen-next false l n z = refl
 
+page-tells-nothing : (b : Bool) (l : Known) (k : ℕ) → l ≡ knownAfter l (pick b (paged k) nothing)
+page-tells-nothing true l k = refl
+page-tells-nothing false l k = refl
+
 known-same : (c : Channel) (l : Cell) (x : Cause) → Low x → known c (cellAfter l x) ≡ knownAfter (known c l) (shown c x)
 known-same c l nothing z = refl
 known-same c l (joining k) z = refl
+known-same c l (paged k) z = page-tells-nothing (hasPages c) (known c l) k
 known-same c l (moving m) z = rw (forgets-same m) (forgotten (showsNln c) (forgottenBy m) (l .nln))
 known-same c l (numbered n) z = rw (shows-same c) (seen-next (showsNln c) (l .nln) n z)
 

@@ -12,9 +12,8 @@ use Rattle.bits.specs.Field.{pick}
 use Rattle.receiver.specs.declared.Record.{Record}
 use Rattle.receiver.specs.Model.{agree, joinedOf}
 use Rattle.receiver.specs.Channels.{Channel}
-use Rattle.receiver.specs.Step.{Cause, nothing, joining, moving, numbered}
-use Rattle.receiver.specs.One.{mayLead, goneBy, Kind, clear, piece, first, second, bare, unusable, kindOn, Which, theFirst, theSecond, Half, One, Said, Heard, met}
-use Rattle.receiver.specs.One.{meetKind, says, newHalf, meetOne, Sight, aged, changed, heldAfter, saidOf, sparedBy, spared}
+use Rattle.receiver.specs.Step.{Cause, nothing, joining, paged, moving, numbered}
+use Rattle.receiver.specs.One.{mayLead, goneBy, Kind, clear, piece, first, second, bare, unusable, kindOn, Which, theFirst, theSecond, Half, One, Said, Heard, met, meetKind, says, newHalf, meetOne, Sight, aged, changed, heldAfter, saidOf, sparedBy, spared}
 use Rattle.receiver.specs.History.{Opposite}
 use Rattle.receiver.specs.Promises.{Opposite-held, joinedWith}
 
@@ -102,6 +101,7 @@ young-spared timer key c s v y = by-cause (v .cause)
     by-cause : (x : Cause) → Young timer (sparedBy key c (s .cell) x (s .held))
     by-cause nothing = y
     by-cause (joining k) = either timer (eqb k key) (s .held) none y tt
+    by-cause (paged k) = either timer (eqb k key) (s .held) none y tt
     by-cause (moving m) = either timer (goneBy c m) none (s .held) tt y
     by-cause (numbered n) = either timer (changed (s .cell .nln) n) none (s .held) tt y
 

@@ -17,6 +17,7 @@ pub mod LowKeys
 pub mod Totals
 pub mod Calls
 pub mod Replies
+pub mod Pages
 pub mod Joining
 pub mod Promises
 pub mod Shared

@@ -1,20 +1,24 @@
 -- The keys of an accepted message's entries are no higher than a subscription may be. Assumes nothing.
-use mathlib.Core.Path.{_≡_, subst}
+use mathlib.Core.Path.{_≡_, refl, subst}
 use mathlib.Core.Bool.{Bool, true, false}
 use mathlib.Core.List.{List, [], _∷_, _++_}
 use mathlib.Core.Logic.{_⊎_, inl, inr}
-use Prim.Native.Nat.{ℕ, suc, _+_, _*_, _≤_}
+use Prim.Native.Nat.{ℕ, suc, _+_, _*_, _/_, _%_, _^_, _≤_}
 use native.Mathlib.Omega.{arith}
-use lib.ListN.{getD, take}
-use borrow.Author.Tests.{leb-true}
+use lib.Dec.{eqb}
+use lib.ListN.{length, getD, take}
+use borrow.Author.Tests.{leb-true, eqb-true, eq-eqb}
+use Rattle.bits.specs.Field.{pick}
+use Rattle.csn1.specs.declared.Refusal.{Refusal}
 use Rattle.csn1.specs.Grammar.{format}
-use Rattle.csn1.specs.Format.{eitherFits}
+use Rattle.csn1.specs.Format.{eitherFits, ground}
 use Rattle.csn1.specs.Told.{asBit}
 use Rattle.bits.proofs.Answers.{both-true}
 use Rattle.csn1.proofs.Telling.{picked}
+use Rattle.csn1.proofs.Writing.{bit-back}
 use Rattle.call.specs.declared.Call.{Call}
 use Rattle.call.specs.Call.{CallValue, callGrammar}
-use Rattle.call.specs.Write.{callIsLow}
+use Rattle.call.specs.Write.{callInRange, callIsLow}
 use Rattle.nch.specs.declared.Reduced.{Reduced}
 use Rattle.nch.specs.declared.Notification.{Notification}
 use Rattle.nch.specs.Told.{readOf}
@@ -25,10 +29,13 @@ use Rattle.facch.specs.Message.{paging, notification}
 use Rattle.facch.specs.Told.{notified, readOf as readFacch}
 use Rattle.facch.specs.Back.{valueOf}
 use Rattle.facch.proofs.Promises.{every-reading-stands-in-the-octets}
+use Rattle.pch.specs.Entry.{keyAt, fullAt, referenceAt, entryLength, numberAt, isSet, callIn, keyIsLow, lengthRight, hopsRight, flagsRight, referenceRight, numbersRight, inRange as pchInRange}
+use Rattle.pch.specs.Entry.{groundIn, readOf as readPch}
 use Rattle.receiver.specs.declared.Record.{Record}
 use Rattle.receiver.specs.Model.{lastKey, keyOf, mapAt}
-use Rattle.receiver.specs.Entries.{reducedCall, callEntry, reducedEntry, nchEntries, facchEntry, facchEntries}
-use Rattle.receiver.specs.Step.{Happening, heardNch, heardFacch, joins, moves, passes, groundsOf, contentOf}
+use Rattle.receiver.specs.Entries.{reducedCall, callEntry, reducedEntry, nchEntries, facchEntry, facchEntries, pchEntry, pchEntries}
+use Rattle.receiver.specs.Step.{Happening, heardNch, heardFacch, heardPch, joins, moves, passes, groundsOf, contentOf}
+use Rattle.receiver.proofs.Dropping.{by-test}
 
 abbrev pub Low : List Record → Type 0
 Low [] = Unit {0}
@@ -87,11 +94,42 @@ low-facch : (m : Message) → m .call .reference ≤ 99999999 → Low (facchEntr
 unfolding facchEntries facchEntry
 low-facch m h = (key-low (m .call) h, tt)
 
+-- ## PCH
+
+-- what is not refused passes the test, and what comes behind it
+passed : (b : Bool) (w : Refusal) (n : ℕ) → 1 ≤ n → pick b w (ground n) .number ≡ 0 → (b ≡ true) × (w .number ≡ 0)
+unfolding ground
+passed true w n h e = (refl, e)
+passed false w n h e = absurd (omega arith)
+
+page-low : (ns : List ℕ) → groundIn ns .number ≡ 0 → keyOf (callIn ns) ≤ lastKey
+unfolding groundIn pchInRange referenceRight callIn
+page-low ns z =
+    let a = passed (eqb (length ns) entryLength) _ 13 (omega arith) z in
+    let b = passed (keyIsLow ns) _ 4 (omega arith) (a .1) in
+    let c = passed (lengthRight ns) _ 3 (omega arith) (b .1) in
+    let d = passed (hopsRight ns) _ 5 (omega arith) (c .1) in
+    let e = passed (pchInRange ns) _ 12 (omega arith) (d .1) in
+    let f = both-true (flagsRight ns) _ (e .0) in
+    let g = both-true (callInRange (callIn ns)) _ (f .1) in
+    let h = both-true (referenceRight ns) (numbersRight ns) (g .1) in
+    let k = leb-true (numberAt ns keyAt) lastKey (b .0) in
+    by-test (isSet ns fullAt)
+    (λ p.
+    let q = eqb-true (numberAt ns referenceAt / 2 ^ 8) (numberAt ns keyAt) (both-true _ _ (rw p at (h .0)) .0) in
+    rw (p, bit-back (numberAt ns referenceAt / 2 ^ 8 % 2) (omega arith)) (omega (arith, k, q)))
+    (λ p. rw (p, bit-back (numberAt ns keyAt % 2) (omega arith)) (omega (arith, k)))
+
+low-pch : (ns : List ℕ) → readPch ns .refusal .number ≡ 0 → Low (pchEntries (readPch ns .«record»))
+unfolding readPch pchEntries pchEntry
+low-pch ns z = rw (eq-eqb (groundIn ns .number) 0 z) (page-low ns z, tt)
+
 -- ## Any event
 
 pub low-keys : (h : Happening) → groundsOf h .number ≡ 0 → Low (contentOf h .entries)
 low-keys (heardNch s) z = low-nch (readOf s .«record») (writing-gives-back-what-was-read s z .accepted)
 low-keys (heardFacch s) z = low-facch (readFacch s .«record») (read-low s z)
+low-keys (heardPch ns) z = low-pch ns z
 low-keys (joins k) z = tt
 low-keys (moves m) z = tt
 low-keys passes z = tt

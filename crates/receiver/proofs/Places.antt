@@ -6,7 +6,7 @@ use native.Mathlib.Omega.{arith}
 use lib.Dec.{eqb}
 use Rattle.bits.specs.Field.{pick}
 use Rattle.receiver.specs.declared.Receiver.{Receiver}
-use Rattle.receiver.specs.Channels.{channels, keyCount, places, placeOn, sideOf, indexIn, byNumber, Channel, onNch, onFacch, numberOf, byChannel}
+use Rattle.receiver.specs.Channels.{channels, keyCount, places, placeOn, sideOf, indexIn, byNumber, Channel, onNch, onFacch, onPch, numberOf, byChannel}
 use Rattle.receiver.specs.Model.{ruleFor, keep, spares, timerAt}
 
 -- ## By number and by name
@@ -14,28 +14,33 @@ use Rattle.receiver.specs.Model.{ruleFor, keep, spares, timerAt}
 pub number-lt : (c : Channel) → numberOf c < channels
 number-lt onNch = omega arith
 number-lt onFacch = omega arith
+number-lt onPch = omega arith
 
 -- what goes by a channel's number goes by its name
-by-number : {A : Type 0} (c : Channel) (a b : A) → byNumber (numberOf c) a b ≡ byChannel c a b
-by-number onNch a b = refl
-by-number onFacch a b = refl
+by-number : {A : Type 0} (c : Channel) (a b d : A) → byNumber (numberOf c) a b d ≡ byChannel c a b d
+by-number onNch a b d = refl
+by-number onFacch a b d = refl
+by-number onPch a b d = refl
 
 -- one thing for each channel
-by-each : {A : Type 0} (f : Channel → A) (c : Channel) → byChannel c (f onNch) (f onFacch) ≡ f c
+by-each : {A : Type 0} (f : Channel → A) (c : Channel) → byChannel c (f onNch) (f onFacch) (f onPch) ≡ f c
 by-each f onNch = refl
 by-each f onFacch = refl
+by-each f onPch = refl
 
-by-all : {A : Type 0} (ch : ℕ) (a : A) → byNumber ch a a ≡ a
-by-all ch a = either (eqb ch 0)
+by-all : {A : Type 0} (ch : ℕ) (a : A) → byNumber ch a a a ≡ a
+by-all ch a = either (eqb ch 0) (eqb ch 1)
   where
-    either : (b : Bool) → pick b a a ≡ a
-    either true = refl
-    either false = refl
+    either : (b d : Bool) → pick b a (pick d a a) ≡ a
+    either true d = refl
+    either false true = refl
+    either false false = refl
 
 -- what holds of each holds of the channel's own
-pub for-each : {A : Type 0} (P : A → Type 0) (c : Channel) (a b : A) → P a → P b → P (byChannel c a b)
-for-each P onNch a b p q = p
-for-each P onFacch a b p q = q
+pub for-each : {A : Type 0} (P : A → Type 0) (c : Channel) (a b d : A) → P a → P b → P d → P (byChannel c a b d)
+for-each P onNch a b d p q w = p
+for-each P onFacch a b d p q w = q
+for-each P onPch a b d p q w = w
 
 -- ## The places
 
@@ -54,12 +59,12 @@ same-place a b c d e = sym (index-of a c) ∙ ap indexIn e ∙ index-of b d
 pub same-side : (a b : ℕ) (c d : Channel) → placeOn a (numberOf c) ≡ placeOn b (numberOf d) → numberOf c ≡ numberOf d
 same-side a b c d e = sym (side-of a c) ∙ ap sideOf e ∙ side-of b d
 
--- T3206 runs for the NCH, T3208 for the FACCH
+-- T3206 runs for the NCH, T3208 for the FACCH, T3210 for the PCH
 abbrev pub timerIn : Channel → Receiver → ℕ
-timerIn c r = byChannel c (r .t3206) (r .t3208)
+timerIn c r = byChannel c (r .t3206) (r .t3208) (r .t3210)
 
 pub timer-at : (r : Receiver) (n : ℕ) (c : Channel) → timerAt r (placeOn n (numberOf c)) ≡ timerIn c r
-timer-at r n c = rw (side-of n c) (by-number c _ _)
+timer-at r n c = rw (side-of n c) (by-number c _ _ _)
 
 -- ## The rules
 

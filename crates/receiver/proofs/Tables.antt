@@ -6,11 +6,13 @@ use Prim.Native.Nat.{ℕ}
 use lib.Dec.{eqb}
 use Rattle.bits.specs.Field.{pick}
 use Rattle.nch.specs.Told.{readOf}
+use Rattle.pch.specs.Entry.{readOf as readPch}
 use Rattle.receiver.specs.declared.Move.{Move}
-use Rattle.receiver.specs.declared.Move.the-variants.{Reselection, Handover, Reconfiguration}
-use Rattle.receiver.specs.Channels.{asks, leads, Channel, onNch, onFacch, numberOf, hasNln, drops, forgets}
-use Rattle.receiver.specs.Step.{Happening, heardNch, heardFacch, joins, moves, passes, Cause, nothing, joining, moving, numbered, numbering, Content, contentOf}
-use Rattle.receiver.specs.One.{hasSegments, mayLead, showsNln, hears, goneBy, forgottenBy, listedIn, Sight, mine, nlnSeen, causeSeen, sightOf}
+use Rattle.receiver.specs.declared.Move.the-variants.{Reselection, Handover, Reconfiguration, LeftIdle}
+use Rattle.receiver.specs.Channels.{asks, leads, Channel, onNch, onFacch, onPch, numberOf, hasNln, hasPages, drops, forgets}
+use Rattle.receiver.specs.Step.{Happening, heardNch, heardFacch, heardPch, joins, moves, passes, Cause, nothing, joining, paged, moving, numbered, numbering, Content, contentOf}
+use Rattle.receiver.specs.One.{hasSegments, mayLead, showsNln, showsPages, hears, goneBy, forgottenBy, listedIn, Sight, mine, nlnSeen, pageSeen, causeSeen, sightOf}
+use Rattle.receiver.specs.Model.{keyOf}
 
 -- ## The tables
 
@@ -21,33 +23,53 @@ same c d = eqb (numberOf c) (numberOf d)
 pub asks-same : (c : Channel) → asks (numberOf c) ≡ hasSegments c
 asks-same onNch = refl
 asks-same onFacch = refl
+asks-same onPch = refl
 
 pub leads-same : (c : Channel) → leads (numberOf c) ≡ mayLead c
 leads-same onNch = refl
 leads-same onFacch = refl
+leads-same onPch = refl
 
 pub shows-same : (c : Channel) → hasNln c ≡ showsNln c
 shows-same onNch = refl
 shows-same onFacch = refl
+shows-same onPch = refl
+
+pages-same : (c : Channel) → hasPages c ≡ showsPages c
+pages-same onNch = refl
+pages-same onFacch = refl
+pages-same onPch = refl
 
 hears-same : (c d : Channel) → same c d ≡ hears c d
 hears-same onNch onNch = refl
 hears-same onNch onFacch = refl
+hears-same onNch onPch = refl
 hears-same onFacch onNch = refl
 hears-same onFacch onFacch = refl
+hears-same onFacch onPch = refl
+hears-same onPch onNch = refl
+hears-same onPch onFacch = refl
+hears-same onPch onPch = refl
 
 pub drops-same : (c : Channel) (m : Move) → drops c m ≡ goneBy c m
 drops-same onNch Reselection = refl
 drops-same onNch Handover = refl
 drops-same onNch Reconfiguration = refl
+drops-same onNch LeftIdle = refl
 drops-same onFacch Reselection = refl
 drops-same onFacch Handover = refl
 drops-same onFacch Reconfiguration = refl
+drops-same onFacch LeftIdle = refl
+drops-same onPch Reselection = refl
+drops-same onPch Handover = refl
+drops-same onPch Reconfiguration = refl
+drops-same onPch LeftIdle = refl
 
 pub forgets-same : (m : Move) → forgets m ≡ forgottenBy m
 forgets-same Reselection = refl
 forgets-same Handover = refl
 forgets-same Reconfiguration = refl
+forgets-same LeftIdle = refl
 
 -- ## What is seen of an event
 
@@ -55,6 +77,7 @@ forgets-same Reconfiguration = refl
 abbrev pub shown : Channel → Cause → Cause
 shown c nothing = nothing
 shown c (joining k) = joining k
+shown c (paged k) = pick (hasPages c) (paged k) nothing
 shown c (moving m) = moving m
 shown c (numbered n) = pick (hasNln c) (numbered n) nothing
 
@@ -69,10 +92,16 @@ nln-same c true false n e = refl
 nln-same c false true n e = rw e
 nln-same c false false n e = refl
 
+-- w: the channel shows a key of the PCH
+page-same : (c : Channel) (w : Bool) (k : ℕ) → hasPages c ≡ w → pageSeen w k ≡ shown c (paged k)
+page-same c true k e = rw e
+page-same c false k e = rw e
+
 -- its entries and their channel; what may discard a half
 pub listed-same : (h : Happening) → listedIn h ≡ record { channel = contentOf h .channel; entries = contentOf h .entries }
 listed-same (heardNch s) = refl
 listed-same (heardFacch s) = refl
+listed-same (heardPch ns) = refl
 listed-same (joins k) = refl
 listed-same (moves m) = refl
 listed-same passes = refl
@@ -84,6 +113,7 @@ heard-same c h = rw (listed-same h) (sym (hears-same c (contentOf h .channel)))
 cause-same : (c : Channel) (h : Happening) → causeSeen c h ≡ shown c (contentOf h .cause)
 cause-same c (heardNch s) = nln-same c (showsNln c) (readOf s .«record» .numbered) (readOf s .«record» .nln) (shows-same c)
 cause-same c (heardFacch s) = refl
+cause-same c (heardPch ns) = page-same c (showsPages c) (keyOf (readPch ns .«record» .call)) (pages-same c)
 cause-same c (joins k) = refl
 cause-same c (moves m) = refl
 cause-same c passes = refl

@@ -19,7 +19,7 @@ Numbered n [] = Unit {0}
 Numbered n (c ∷ cs) = (numberOf c ≡ n) × Numbered (suc n) cs
 
 in-order : Numbered 0 everyChannel
-in-order = (refl, (refl, tt))
+in-order = (refl, (refl, (refl, tt)))
 
 module _ (t : ℕ → Slot → Bool) where
   none-counted : (k : ℕ) (l : List Slot) → ((i q : ℕ) → q ≡ k + i → i < length l → t q (getD l i emptySlot) ≡ false) → countAt t k l ≡ 0

@@ -19,9 +19,9 @@ use Rattle.receiver.specs.Model.{noRecord, keyOf, indexOf, mapAt}
 use Rattle.receiver.specs.Step.{Event, groundsOf, noTold}
 use Rattle.receiver.specs.One.{Half, One, Said, mine, listedIn, sightOf, stepBetween, accepts, seen, meetOne, heldAfter, spared, passed, oneAfter, fresh}
 
--- T3206 runs on the NCH, T3208 on the FACCH
+-- T3206 runs on the NCH, T3208 on the FACCH, T3210 on the PCH
 abbrev pub timerOf : Channel → Setup → ℕ
-timerOf c s = byChannel c (s .t3206) (s .t3208)
+timerOf c s = byChannel c (s .t3206) (s .t3208) (s .t3210)
 
 -- the tick of the last accepted event
 unfoldable pub clockAfter : ℕ → List Event → ℕ

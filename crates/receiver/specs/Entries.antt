@@ -4,7 +4,7 @@ use mathlib.Core.Bool.{Bool, true, false}
 use mathlib.Core.Option.{Option, none, some}
 use Prim.Native.Nat.{ℕ}
 use lib.ListN.{take}
-use Rattle.bits.specs.Field.{pick}
+use Rattle.bits.specs.Field.{both, pick}
 use Rattle.csn1.specs.Told.{isThere}
 use Rattle.call.specs.declared.Call.{Call}
 use Rattle.call.specs.Call.{ciphered, noDescription}
@@ -14,6 +14,7 @@ use Rattle.nch.specs.declared.Notification.{Notification}
 use Rattle.nch.specs.Write.{callsOf, isDescribed}
 use Rattle.nch.specs.Owners.{nth, orNot, randomsOf, marksOf, randomOfCall, randomOfReduced, emergencyOfCall}
 use Rattle.facch.specs.declared.Notification.{Notification as Message}
+use Rattle.pch.specs.declared.Entry.{Entry}
 use Rattle.receiver.specs.declared.Common.{Common}
 use Rattle.receiver.specs.declared.Record.{Record}
 use Rattle.receiver.specs.declared.messages.Owned.{Owned}
@@ -134,3 +135,43 @@ facchEntry m =
 
 unfoldable pub facchEntries : Message → List Record
 facchEntries m = facchEntry m ∷ []
+
+-- ## PCH: its call, without Segment Id, and its count (document 02, §8)
+
+abbrev pub pchCommon : Entry → Common
+pchCommon p =
+    record {
+      counted = p .counted;
+      cellcount = p .cellcount;
+      b22 = false;
+      uplinked = false;
+      uplink = false;
+      amr = false;
+      fullrated = false;
+      fullrate = 0;
+      halfrated = false;
+      halfrate = 0;
+      sms = false;
+      confidential = false;
+      private = false;
+    }
+
+-- an entry without the full reference counts as a reduced one, save that it is ciphered only if marked so: one that is not has no use for a VSTK_RAND, and is no half
+abbrev pub halfRand : Entry → Bool
+halfRand p = both (p .given) (pick (p .full) true (p .ciphered))
+
+unfoldable pub pchEntry : Entry → Record
+pchEntry p =
+    record {
+      full = p .full;
+      call = p .call;
+      segmented = false;
+      segment = false;
+      given = halfRand p;
+      rand = pick (halfRand p) (p .rand) 0;
+      emergency = false;
+      common = pchCommon p;
+    }
+
+unfoldable pub pchEntries : Entry → List Record
+pchEntries p = pchEntry p ∷ []

@@ -9,7 +9,7 @@ use lib.ListN.{take}
 use Rattle.receiver.specs.declared.Record.{Record}
 use Rattle.receiver.specs.Model.{agree}
 use Rattle.receiver.specs.Channels.{Channel}
-use Rattle.receiver.specs.Step.{Cause, nothing, joining, moving, numbered}
+use Rattle.receiver.specs.Step.{Cause, nothing, joining, paged, moving, numbered}
 use Rattle.receiver.specs.One.{mayLead, goneBy, Kind, clear, piece, first, second, bare, unusable, kindOn, Which, theFirst, theSecond, Half, Known, knownAfter, Seen}
 
 -- ## Moments
@@ -17,7 +17,7 @@ use Rattle.receiver.specs.One.{mayLead, goneBy, Kind, clear, piece, firs
 pub data Moment : Type 0 where
   -- milliseconds from one accepted event to the next
   wait : ℕ → Moment
-  -- what an event is before its entries: nothing, a join, a move of the mobile, a message's NLN
+  -- what an event is before its entries: nothing, a join, an entry of the PCH, a move of the mobile, a message's NLN
   happens : Cause → Moment
   entry : Record → Moment
 
@@ -87,10 +87,12 @@ abbrev pub Same-nln : Option ℕ → ℕ → Type 0
 Same-nln none n = Unit {0}
 Same-nln (some l) n = l ≡ n
 
--- a cause does not discard the half: no join of another key, no move that discards halves of the channel, no change of NLN (only the NCH shows one)
+-- a cause does not discard the half: no join of another key, no entry of the PCH under another key (only the PCH shows one), no move that discards halves of the
+-- channel, no change of NLN (only the NCH shows one)
 abbrev pub Leaves : ℕ → Channel → Known → Cause → Type 0
 Leaves key c l nothing = Unit {0}
 Leaves key c l (joining k) = k ≡ key
+Leaves key c l (paged k) = k ≡ key
 Leaves key c l (moving m) = goneBy c m ≡ false
 Leaves key c l (numbered n) = Same-nln (l .nln) n
 

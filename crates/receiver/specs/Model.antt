@@ -18,7 +18,8 @@ use Rattle.receiver.specs.declared.Rule.{Rule}
 use Rattle.receiver.specs.declared.Met.{Met}
 use Rattle.receiver.specs.declared.Setup.{Setup}
 use Rattle.receiver.specs.declared.Started.{Started}
-use Rattle.receiver.specs.Channels.{keyCount, places, sideOf, indexIn, byNumber, asks, leads, Channel, onNch, onFacch}
+use Rattle.pch.specs.Entry.{lastKey as highestKey}
+use Rattle.receiver.specs.Channels.{keyCount, places, sideOf, indexIn, byNumber, asks, leads, Channel, onNch, onFacch, onPch}
 
 -- ## Nothing yet
 
@@ -69,7 +70,7 @@ late now last = leb lateStep (wrapSub now last)
 
 -- the highest key, and what a key place holds that no subscription uses
 abbrev pub lastKey : ℕ
-lastKey = 199999999
+lastKey = highestKey
 
 abbrev pub noKey : ℕ
 noKey = 4294967295
@@ -87,21 +88,21 @@ indexOf (k ∷ ks) key = pick (eqb k key) 0 (suc (indexOf ks key))
 
 -- what an event drops: the halves of some channels, save those under the key at an index
 abbrev pub ruleFor : (Channel → Bool) → ℕ → Rule
-ruleFor goes but = record { nch = goes onNch; facch = goes onFacch; but = but }
+ruleFor goes but = record { nch = goes onNch; facch = goes onFacch; pch = goes onPch; but = but }
 
 -- none of them; and all of some channels, for no key has the index `keyCount`
 abbrev pub keep : Rule
 keep = ruleFor (λ c. false) keyCount
 
 abbrev pub takes : Rule → ℕ → Bool
-takes rule ch = byNumber ch (rule .nch) (rule .facch)
+takes rule ch = byNumber ch (rule .nch) (rule .facch) (rule .pch)
 
 unfoldable pub spares : Rule → ℕ → Bool
 spares rule i = pick (takes rule (sideOf i)) (eqb (indexIn i) (rule .but)) true
 
--- T3206 runs for the NCH, T3208 for the FACCH
+-- T3206 runs for the NCH, T3208 for the FACCH, T3210 for the PCH
 abbrev pub timerAt : Receiver → ℕ → ℕ
-timerAt r i = byNumber (sideOf i) (r .t3206) (r .t3208)
+timerAt r i = byNumber (sideOf i) (r .t3206) (r .t3208) (r .t3210)
 
 abbrev pub isHeld : Slot → Bool
 isHeld s = not (eqb (s .half) 0)
@@ -239,11 +240,12 @@ meetOf ch now s e =
 -- ## Setup
 
 abbrev pub newReceiver : Setup → List ℕ → Receiver
-newReceiver s keys = record { slots = replicate places emptySlot; keys = keys; tick = s .tick; t3206 = s .t3206; t3208 = s .t3208; cell = noCell }
+newReceiver s keys =
+    record { slots = replicate places emptySlot; keys = keys; tick = s .tick; t3206 = s .t3206; t3208 = s .t3208; t3210 = s .t3210; cell = noCell }
 
 -- the receiver with other places, at another tick, with what is known of another cell
 abbrev pub remade : Receiver → List Slot → ℕ → Cell → Receiver
-remade r l now cell = record { slots = l; keys = r .keys; tick = now; t3206 = r .t3206; t3208 = r .t3208; cell = cell }
+remade r l now cell = record { slots = l; keys = r .keys; tick = now; t3206 = r .t3206; t3208 = r .t3208; t3210 = r .t3210; cell = cell }
 
 -- a receiver with other places
 abbrev pub withSlots : Receiver → List Slot → Receiver
@@ -267,10 +269,11 @@ keysRight [] = true
 keysRight (k ∷ ks) = both (leb k lastKey) (both (eqb (indexOf ks k) (length ks)) (keysRight ks))
 
 unfoldable pub setupRight : Setup → List ℕ → Bool
-setupRight s keys = both (leb (length keys) keyCount) (both (isTimer (s .t3206)) (both (isTimer (s .t3208)) (keysRight keys)))
+setupRight s keys =
+    both (leb (length keys) keyCount) (both (isTimer (s .t3206)) (both (isTimer (s .t3208)) (both (isTimer (s .t3210)) (keysRight keys))))
 
 abbrev pub noSetup : Setup
-noSetup = record { tick = 0; t3206 = 0; t3208 = 0 }
+noSetup = record { tick = 0; t3206 = 0; t3208 = 0; t3210 = 0 }
 
 -- a refused setup is its number alone
 unfoldable pub startedOf : Setup → List ℕ → Started
@@ -280,4 +283,4 @@ startedOf s keys =
 
 -- the ready defaults
 abbrev pub readySetup : ℕ → Setup
-readySetup tick = record { tick = tick; t3206 = 5000; t3208 = 5000 }
+readySetup tick = record { tick = tick; t3206 = 5000; t3208 = 5000; t3210 = 5000 }

@@ -1,6 +1,6 @@
 -- The receiver of one call on one channel, and what it sees of the events. It is written apart from the receiver, with tables of its own for what tells the
 -- channels apart and for what each event shows, discards and forgets. What both share, and no more: the types Record, Channel, Move, Event, Happening and Cause; a message
--- as it is read, and its entries (readOf, nchEntries, facchEntries, noRecord); an entry's key (keyOf), whether it is ciphered (isCiphered), the comparison of references
+-- as it is read, and its entries (readOf, nchEntries, facchEntries, pchEntries, noRecord); an entry's key (keyOf), whether it is ciphered (isCiphered), the comparison of references
 -- (agree) and the joined record (joinedOf); and what beside the clock refuses an event (groundsOf). Assumes nothing.
 use mathlib.Core.List.{List, [], _∷_, _++_}
 use mathlib.Core.Bool.{Bool, true, false, not}
@@ -11,13 +11,14 @@ use Rattle.bits.specs.Field.{both, pick}
 use Rattle.csn1.specs.Told.{there}
 use Rattle.nch.specs.Told.{readOf}
 use Rattle.facch.specs.Told.{readOf as readFacch}
+use Rattle.pch.specs.Entry.{readOf as readPch}
 use Rattle.receiver.specs.declared.Record.{Record}
 use Rattle.receiver.specs.Model.{noRecord, keyOf, isCiphered, agree, joinedOf}
 use Rattle.receiver.specs.declared.Move.{Move}
-use Rattle.receiver.specs.declared.Move.the-variants.{Reselection, Handover, Reconfiguration}
-use Rattle.receiver.specs.Channels.{Channel, onNch, onFacch}
-use Rattle.receiver.specs.Entries.{nchEntries, facchEntries}
-use Rattle.receiver.specs.Step.{Event, Happening, heardNch, heardFacch, joins, moves, passes, Cause, nothing, joining, moving, numbered, groundsOf}
+use Rattle.receiver.specs.declared.Move.the-variants.{Reselection, Handover, Reconfiguration, LeftIdle}
+use Rattle.receiver.specs.Channels.{Channel, onNch, onFacch, onPch}
+use Rattle.receiver.specs.Entries.{nchEntries, facchEntries, pchEntries}
+use Rattle.receiver.specs.Step.{Event, Happening, heardNch, heardFacch, heardPch, joins, moves, passes, Cause, nothing, joining, paged, moving, numbered, groundsOf}
 
 -- ## What tells the channels apart
 
@@ -25,23 +26,37 @@ use Rattle.receiver.specs.Step.{Event, Happening, heardNch, heardFacch, 
 abbrev pub hasSegments : Channel → Bool
 hasSegments onNch = true
 hasSegments onFacch = false
+hasSegments onPch = false
 
 -- a second half may come first
 abbrev pub mayLead : Channel → Bool
 mayLead onNch = true
 mayLead onFacch = false
+mayLead onPch = true
 
 -- an NLN is shown
 abbrev pub showsNln : Channel → Bool
 showsNln onNch = true
 showsNln onFacch = false
+showsNln onPch = false
+
+-- an entry of the PCH under any key is shown
+abbrev pub showsPages : Channel → Bool
+showsPages onNch = false
+showsPages onFacch = false
+showsPages onPch = true
 
 -- a message on the second is heard on the first
 abbrev pub hears : Channel → Channel → Bool
 hears onNch onNch = true
 hears onNch onFacch = false
+hears onNch onPch = false
 hears onFacch onNch = false
 hears onFacch onFacch = true
+hears onFacch onPch = false
+hears onPch onNch = false
+hears onPch onFacch = false
+hears onPch onPch = true
 
 -- ## What a move of the mobile does
 
@@ -50,15 +65,22 @@ abbrev pub goneBy : Channel → Move → Bool
 goneBy onNch Reselection = true
 goneBy onNch Handover = false
 goneBy onNch Reconfiguration = false
+goneBy onNch LeftIdle = false
 goneBy onFacch Reselection = false
 goneBy onFacch Handover = true
 goneBy onFacch Reconfiguration = true
+goneBy onFacch LeftIdle = false
+goneBy onPch Reselection = true
+goneBy onPch Handover = false
+goneBy onPch Reconfiguration = false
+goneBy onPch LeftIdle = true
 
 -- it makes the NLN unknown
 abbrev pub forgottenBy : Move → Bool
 forgottenBy Reselection = false
 forgottenBy Handover = false
 forgottenBy Reconfiguration = false
+forgottenBy LeftIdle = false
 
 -- ## What an entry is (document 01, "What each notified call is told")
 
@@ -201,6 +223,7 @@ noneListed = record { channel = onNch; entries = [] }
 abbrev pub listedIn : Happening → Listed
 listedIn (heardNch s) = record { channel = onNch; entries = nchEntries (readOf s .«record») }
 listedIn (heardFacch s) = record { channel = onFacch; entries = facchEntries (readFacch s .«record») }
+listedIn (heardPch ns) = record { channel = onPch; entries = pchEntries (readPch ns .«record») }
 listedIn (joins k) = noneListed
 listedIn (moves m) = noneListed
 listedIn passes = noneListed
@@ -211,10 +234,16 @@ nlnSeen true true n = numbered n
 nlnSeen true false n = nothing
 nlnSeen false b n = nothing
 
+-- the key of an entry on the PCH; w: the channel shows it
+abbrev pub pageSeen : Bool → ℕ → Cause
+pageSeen true k = paged k
+pageSeen false k = nothing
+
 -- what in an event may discard a half on a channel
 abbrev pub causeSeen : Channel → Happening → Cause
 causeSeen c (heardNch s) = nlnSeen (showsNln c) (readOf s .«record» .numbered) (readOf s .«record» .nln)
 causeSeen c (heardFacch s) = nothing
+causeSeen c (heardPch ns) = pageSeen (showsPages c) (keyOf (readPch ns .«record» .call))
 causeSeen c (joins k) = joining k
 causeSeen c (moves m) = moving m
 causeSeen c passes = nothing
@@ -261,6 +290,7 @@ changed (some l) n = not (eqb l n)
 abbrev pub knownAfter : Known → Cause → Known
 knownAfter l nothing = l
 knownAfter l (joining k) = l
+knownAfter l (paged k) = l
 knownAfter l (moving m) = record { nln = pick (forgottenBy m) none (l .nln) }
 knownAfter l (numbered n) = record { nln = some n }
 
@@ -277,6 +307,7 @@ saidOf c h (e ∷ es) = meetOne c h e .said ∷ saidOf c (meetOne c h e .held) e
 abbrev pub sparedBy : ℕ → Channel → Known → Cause → Option Half → Option Half
 sparedBy key c l nothing h = h
 sparedBy key c l (joining k) h = pick (eqb k key) h none
+sparedBy key c l (paged k) h = pick (eqb k key) h none
 sparedBy key c l (moving m) h = pick (goneBy c m) none h
 sparedBy key c l (numbered n) h = pick (changed (l .nln) n) none h
 

@@ -12,17 +12,18 @@ use Rattle.csn1.specs.Told.{asBit}
 use Rattle.call.specs.declared.Call.{Call}
 use Rattle.nch.specs.Told.{readOf}
 use Rattle.facch.specs.Told.{readOf as readFacch}
+use Rattle.pch.specs.Entry.{readOf as readPch}
 use Rattle.receiver.specs.declared.Record.{Record}
 use Rattle.receiver.specs.declared.Receiver.{Receiver}
 use Rattle.receiver.specs.declared.Slot.{Slot}
 use Rattle.receiver.specs.declared.Told.{Told}
 use Rattle.receiver.specs.declared.Answer.{Answer}
 use Rattle.receiver.specs.declared.Setup.{Setup}
-use Rattle.receiver.specs.Channels.{placeOn, Channel, numberOf}
+use Rattle.receiver.specs.Channels.{placeOn, Channel, onPch, numberOf}
 use Rattle.receiver.specs.Model.{noRecord, emptySlot, wrapSub, keyOf, indexOf, isHeld, sweptSlots, isCiphered, agree, joinedOf, keep, startedOf}
-use Rattle.receiver.specs.Step.{Event, Happening, heardNch, heardFacch, joins, moves, passes, refusalOf, ruleOf, stepOf}
-use Rattle.receiver.specs.One.{hears, kindOn, Which, theFirst, theSecond, Half, One, Said, Seen, seen, sees, sightOf, heldAfter, spared, passed, stepSaid, runOne, runEach, oneAfter, fresh}
-use Rattle.receiver.specs.Calls.{timerOf, channelIn, notOurs, lastTick, Reply, replyBy}
+use Rattle.receiver.specs.Step.{Event, Happening, heardNch, heardFacch, heardPch, joins, moves, passes, refusalOf, ruleOf, stepOf}
+use Rattle.receiver.specs.One.{kindOn, Which, theFirst, theSecond, Half, One, Said, Seen, seen, sees, sightOf, heldAfter, spared, passed, stepSaid, runOne, runEach, oneAfter, fresh, hears}
+use Rattle.receiver.specs.Calls.{timerOf, notOurs, lastTick, Reply, replyBy, channelIn}
 use Rattle.receiver.specs.History.{Moment, untilEntry, pastOf, Opposite, Came-and-stayed}
 
 -- ## 1. Isolation
@@ -50,7 +51,7 @@ abbrev pub Ticks : List Event → Type 0
 Ticks [] = Unit {0}
 Ticks (e ∷ es) = (e .tick < 4294967296) × Ticks es
 
--- For every accepted setup, every list of events, every subscribed key and both channels: the answers under that key on that channel are
+-- For every accepted setup, every list of events, every subscribed key and every channel: the answers under that key on that channel are
 -- exactly those of the one-call receiver run on what that call sees.
 abbrev pub No-call-disturbs-another : Type 0
 No-call-disturbs-another =
@@ -152,6 +153,7 @@ A-refused-event-changes-nothing = (r : Receiver) (e : Event) → (stepOf r e .re
 abbrev pub Ground : Happening → ℕ → Type 0
 Ground (heardNch s) n = n ≡ readOf s .refusal .number
 Ground (heardFacch s) n = n ≡ readFacch s .refusal .number
+Ground (heardPch ns) n = n ≡ readPch ns .refusal .number
 Ground (joins k) n = (k ≤ 199999999 → n ≡ 0) × (199999999 < k → n ≡ 4)
 Ground (moves m) n = n ≡ 0
 Ground passes n = n ≡ 0
@@ -366,3 +368,19 @@ The-count-is-of-the-second-half-or-the-first =
     (first second : Record)
     → (second .common .counted ≡ true → countIn (joinedOf first second) ≡ countIn second)
     × (second .common .counted ≡ false → countIn (joinedOf first second) ≡ countIn first)
+
+-- ## 9. The PCH: an entry under another key costs the half, so at most one is ever held
+
+abbrev pub At-most-one-PCH-half-is-held : Type 0
+At-most-one-PCH-half-is-held =
+    (s : Setup) (keys : List ℕ)
+    → s .tick < 4294967296
+    → startedOf s keys .refusal .number ≡ 0
+    → (es : List Event)
+    → Ticks es
+    → (a b : ℕ)
+    → indexOf keys a < length keys
+    → indexOf keys b < length keys
+    → isHeld (slotIn a onPch (after (startedOf s keys .receiver) es)) ≡ true
+    → isHeld (slotIn b onPch (after (startedOf s keys .receiver) es)) ≡ true
+    → a ≡ b

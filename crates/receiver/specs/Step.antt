@@ -10,6 +10,7 @@ use Rattle.csn1.specs.Format.{noRefusal, ground}
 use Rattle.csn1.specs.Told.{padded}
 use Rattle.nch.specs.Told.{readOf}
 use Rattle.facch.specs.Told.{readOf as readFacch}
+use Rattle.pch.specs.Entry.{readOf as readPch}
 use Rattle.receiver.specs.declared.Record.{Record}
 use Rattle.receiver.specs.declared.Slot.{Slot}
 use Rattle.receiver.specs.declared.Receiver.{Receiver}
@@ -18,12 +19,12 @@ use Rattle.receiver.specs.declared.Answer.{Answer}
 use Rattle.receiver.specs.declared.Rule.{Rule}
 use Rattle.receiver.specs.declared.Cell.{Cell}
 use Rattle.receiver.specs.declared.Move.{Move}
-use Rattle.receiver.specs.declared.Move.the-variants.{Reselection, Handover, Reconfiguration}
-use Rattle.receiver.specs.Channels.{keyCount, placeOn, Channel, onNch, onFacch, numberOf, hasNln, drops, forgets}
+use Rattle.receiver.specs.declared.Move.the-variants.{Reselection, Handover, Reconfiguration, LeftIdle}
+use Rattle.receiver.specs.Channels.{keyCount, placeOn, Channel, onNch, onFacch, onPch, numberOf, hasNln, hasPages, drops, forgets}
 use Rattle.receiver.specs.declared.Met.{Met}
 use Rattle.receiver.specs.declared.messages.Entries.{Entries}
 use Rattle.receiver.specs.Model.{noRecord, emptySlot, noNln, lastKey, late, keyOf, indexOf, ruleFor, sweptSlots, expiredOf, droppedOf, meetOf, remade}
-use Rattle.receiver.specs.Entries.{nchEntries, facchEntries}
+use Rattle.receiver.specs.Entries.{nchEntries, facchEntries, pchEntries}
 
 -- ## The entries of a message
 
@@ -70,6 +71,8 @@ noTold = record { key = 0; number = 0; «record» = noRecord }
 pub data Happening : Type 0 where
   -- the octets of a message
   heardNch heardFacch : List ℕ → Happening
+  -- an entry of the PCH, as numbers
+  heardPch : List ℕ → Happening
   -- the call of a key is joined
   joins : ℕ → Happening
   moves : Move → Happening
@@ -84,6 +87,9 @@ nch t s = record { tick = t; happening = heardNch s }
 
 abbrev pub facch : ℕ → List ℕ → Event
 facch t s = record { tick = t; happening = heardFacch s }
+
+abbrev pub pch : ℕ → List ℕ → Event
+pch t ns = record { tick = t; happening = heardPch ns }
 
 abbrev pub joined : ℕ → ℕ → Event
 joined t k = record { tick = t; happening = joins k }
@@ -100,6 +106,9 @@ handedOver t = moved t Handover
 abbrev pub reconfigured : ℕ → Event
 reconfigured t = moved t Reconfiguration
 
+abbrev pub leftIdle : ℕ → Event
+leftIdle t = moved t LeftIdle
+
 abbrev pub tick : ℕ → Event
 tick t = record { tick = t; happening = passes }
 
@@ -109,6 +118,7 @@ tick t = record { tick = t; happening = passes }
 abbrev pub groundsOf : Happening → Refusal
 groundsOf (heardNch s) = readOf s .refusal
 groundsOf (heardFacch s) = readFacch s .refusal
+groundsOf (heardPch ns) = readPch ns .refusal
 groundsOf (joins k) = pick (leb k lastKey) noRefusal (ground 4)
 groundsOf (moves m) = noRefusal
 groundsOf passes = noRefusal
@@ -122,6 +132,8 @@ refusalOf r e = pick (late (e .tick) (r .tick)) (ground 9) (groundsOf (e .happen
 pub data Cause : Type 0 where
   nothing : Cause
   joining : ℕ → Cause
+  -- the key of an entry on the PCH
+  paged : ℕ → Cause
   moving : Move → Cause
   -- a message's NLN
   numbered : ℕ → Cause
@@ -143,6 +155,8 @@ abbrev pub contentOf : Happening → Content
 contentOf (heardNch s) =
     record { cause = numbering (readOf s .«record» .numbered) (readOf s .«record» .nln); channel = onNch; entries = nchEntries (readOf s .«record») }
 contentOf (heardFacch s) = record { cause = nothing; channel = onFacch; entries = facchEntries (readFacch s .«record») }
+contentOf (heardPch ns) =
+    record { cause = paged (keyOf (readPch ns .«record» .call)); channel = onPch; entries = pchEntries (readPch ns .«record») }
 contentOf (joins k) = plainly (joining k)
 contentOf (moves m) = plainly (moving m)
 contentOf passes = plainly nothing
@@ -156,6 +170,7 @@ changes l n = both (not (eqb (l .nln) noNln)) (not (eqb (l .nln) n))
 abbrev pub cellAfter : Cell → Cause → Cell
 cellAfter l nothing = l
 cellAfter l (joining k) = l
+cellAfter l (paged k) = l
 cellAfter l (moving m) = record { nln = pick (forgets m) noNln (l .nln) }
 cellAfter l (numbered n) = record { nln = n }
 
@@ -165,6 +180,7 @@ cellAfter l (numbered n) = record { nln = n }
 abbrev pub taking : Cell → Cause → Channel → Bool
 taking l nothing c = false
 taking l (joining k) c = true
+taking l (paged k) c = hasPages c
 taking l (moving m) c = drops c m
 taking l (numbered n) c = both (hasNln c) (changes l n)
 
@@ -172,6 +188,7 @@ taking l (numbered n) c = both (hasNln c) (changes l n)
 abbrev pub sparing : List ℕ → Cause → ℕ
 sparing keys nothing = keyCount
 sparing keys (joining k) = indexOf keys k
+sparing keys (paged k) = indexOf keys k
 sparing keys (moving m) = keyCount
 sparing keys (numbered n) = keyCount
 

@@ -4,12 +4,12 @@ ghost use mathlib.Core.List.{[]};
 ghost use mathlib.Core.Bool.{true};
 ghost use Prim.Native.Nat.{_<_, _≤_};
 ghost use Rattle.bits.specs.Field.{both};
-ghost use Rattle.receiver.specs.Channels.{channels, keyCount, Channel, hasNln, drops, forgets};
+ghost use Rattle.receiver.specs.Channels.{channels, keyCount, Channel, hasNln, hasPages, drops, forgets};
 ghost use Rattle.receiver.specs.Model.{ruleFor, withSlots};
 ghost use lib.ListN.{take};
 ghost use Rattle.csn1.specs.Told.{padded};
 ghost use Rattle.receiver.specs.Step.{mostEntries, noTold, toldOf, slotsAfter, allAfter, allTold, refusedWith, acceptedWith, changes, numbering, moving};
-ghost use Rattle.receiver.specs.Step.{cellAfter, stepOf, nch, facch, joined, moved, reselected, handedOver, reconfigured, tick};
+ghost use Rattle.receiver.specs.Step.{cellAfter, stepOf, nch, facch, pch, joined, moved, reselected, handedOver, reconfigured, leftIdle, tick};
 use crate::Answer;
 use crate::Cell;
 use crate::LAST_KEY;
@@ -169,6 +169,7 @@ pub fn nln_rule(cell: Cell, numbered: bool, nln: u8) -> Rule
     Rule {
         nch: nln_changes(cell, numbered, nln),
         facch: false,
+        pch: false,
         but: Setup::KEYS,
     }
 }
@@ -192,6 +193,19 @@ pub fn join_rule(but: usize) -> Rule
     Rule {
         nch: true,
         facch: true,
+        pch: true,
+        but,
+    }
+}
+
+// An entry of the PCH costs the halves of the PCH, save those under the key at an index.
+pub fn page_rule(but: usize) -> Rule
+    ensures { λ r. ⌜ r ≡ ruleFor hasPages but ⌝ }
+{
+    Rule {
+        nch: false,
+        facch: false,
+        pch: true,
         but,
     }
 }
@@ -204,16 +218,25 @@ pub fn move_rule(m: Move) -> Rule
         Move::Reselection => Rule {
             nch: true,
             facch: false,
+            pch: true,
             but: Setup::KEYS,
         },
         Move::Handover => Rule {
             nch: false,
             facch: true,
+            pch: false,
             but: Setup::KEYS,
         },
         Move::Reconfiguration => Rule {
             nch: false,
             facch: true,
+            pch: false,
+            but: Setup::KEYS,
+        },
+        Move::LeftIdle => Rule {
+            nch: false,
+            facch: false,
+            pch: true,
             but: Setup::KEYS,
         },
     }
@@ -227,6 +250,7 @@ fn forgets(m: Move) -> bool
         Move::Reselection => false,
         Move::Handover => false,
         Move::Reconfiguration => false,
+        Move::LeftIdle => false,
     }
 }
 
@@ -302,6 +326,32 @@ impl Receiver {
         )
     }
 
+    // An entry of the PCH, as numbers: PCH halves under other keys go, whether the entry's key is subscribed or not.
+    pub fn pch(self, tick: u32, numbers: &[u64]) -> Answer
+        ensures { λ a. ⌜ a ≡ stepOf self (pch tick (now (numbers .entry))) ⌝ }
+    {
+        if store::is_late(tick, self.tick) {
+            return refused(self, csn1::ground(9));
+        }
+        let m = pch::read(numbers);
+        if m.refusal.number != 0 {
+            return refused(self, m.refusal);
+        }
+        let p = m.record;
+        let call = p.call;
+        let keys = self.keys;
+        let cell = self.cell;
+        let but = store::index_of(keys, meeting::key_of(call));
+        accepted(
+            self,
+            tick,
+            page_rule(but),
+            cell,
+            channels::PCH,
+            messages::pch_entries(p),
+        )
+    }
+
     // The mobile joined the call of a key: halves under other keys go, on all channels.
     pub fn joined(self, tick: u32, key: u32) -> Answer
         ensures { λ a. ⌜ a ≡ stepOf self (joined tick key) ⌝ }
@@ -337,6 +387,13 @@ impl Receiver {
         ensures { λ a. ⌜ a ≡ stepOf self (reconfigured tick) ⌝ }
     {
         move_on(self, tick, Move::Reconfiguration)
+    }
+
+    // The mobile left idle mode.
+    pub fn left_idle(self, tick: u32) -> Answer
+        ensures { λ a. ⌜ a ≡ stepOf self (leftIdle tick) ⌝ }
+    {
+        move_on(self, tick, Move::LeftIdle)
     }
 
     // Time passed.

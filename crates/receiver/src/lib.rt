@@ -60,7 +60,7 @@ pub struct Cell {
 }
 
 // The highest key: reference 99,999,999 times 2, plus the service flag.
-pub const LAST_KEY: u32 = 199999999;
+pub const LAST_KEY: u32 = pch::LAST_KEY as u32;
 
 // What an unused key place holds: no key.
 pub const NO_KEY: u32 = 4294967295;
@@ -74,6 +74,7 @@ pub struct Receiver {
     pub tick: u32,
     pub t3206: u32,
     pub t3208: u32,
+    pub t3210: u32,
     pub cell: Cell,
 }
 
@@ -108,14 +109,16 @@ pub struct Started {
 pub struct Rule {
     pub nch: bool,
     pub facch: bool,
+    pub pch: bool,
     pub but: usize,
 }
 
-// What moves the mobile: another cell was selected, it was handed over to another cell, or the group call was reconfigured.
+// What moves the mobile: another cell was selected, it was handed over to another cell, the group call was reconfigured, or it left idle mode.
 pub enum Move {
     Reselection,
     Handover,
     Reconfiguration,
+    LeftIdle,
 }
 
 // What an entry met: the number told, the record for 1 to 3, and what its place holds then.
@@ -130,4 +133,5 @@ pub struct Setup {
     pub tick: u32,
     pub t3206: u32,
     pub t3208: u32,
+    pub t3210: u32,
 }

@@ -11,7 +11,7 @@ ghost use Rattle.nch.specs.Octets.{count};
 ghost use Rattle.nch.specs.Write.{callsOf, isDescribed};
 ghost use Rattle.nch.specs.Owners.{nth, orNot, randomsOf, marksOf};
 ghost use Rattle.receiver.specs.Model.{noRecord, mapAt};
-ghost use Rattle.receiver.specs.Entries.{nchCommon, ownedOf, callWith, reducedWith, callEntry, nchEntries, facchEntry, facchEntries};
+ghost use Rattle.receiver.specs.Entries.{nchCommon, ownedOf, callWith, reducedWith, callEntry, nchEntries, facchEntry, facchEntries, pchEntry, pchEntries};
 ghost use Rattle.receiver.specs.Step.{mostEntries, entriesIn};
 use crate::Common;
 use crate::MOST_ENTRIES;
@@ -72,6 +72,48 @@ pub fn facch_entries(m: facch::Notification) -> Entries
 {
     let mut e = no_entries();
     e.items[0] = facch_entry(m);
+    e.count = 1;
+    e
+}
+
+// What an entry of the PCH says of its call. A VSTK_RAND is of use to a call that is ciphered, and to a reduced reference that is not marked so it is none.
+pub fn pch_entry(p: pch::Entry) -> Record
+    ensures { λ r. ⌜ r ≡ pchEntry p ⌝ }
+{
+    let call = p.call;
+    let given = p.given && (p.full || p.ciphered);
+    Record {
+        full: p.full,
+        call,
+        segmented: false,
+        segment: false,
+        given,
+        rand: if given { p.rand } else { 0 },
+        emergency: false,
+        common: Common {
+            counted: p.counted,
+            cellcount: p.cellcount,
+            b22: false,
+            uplinked: false,
+            uplink: false,
+            amr: false,
+            fullrated: false,
+            fullrate: 0,
+            halfrated: false,
+            halfrate: 0,
+            sms: false,
+            confidential: false,
+            private: false,
+        },
+    }
+}
+
+// The entries of the PCH: one.
+pub fn pch_entries(p: pch::Entry) -> Entries
+    ensures { λ r. ⌜ r ≡ entriesIn (pchEntries p) ⌝ }
+{
+    let mut e = no_entries();
+    e.items[0] = pch_entry(p);
     e.count = 1;
     e
 }

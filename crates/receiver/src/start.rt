@@ -22,6 +22,8 @@ impl Setup {
 
     pub const T3208: u32 = 5000;
 
+    pub const T3210: u32 = 5000;
+
     // The ready defaults, from a first tick on.
     pub fn ready(tick: u32) -> Self
         ensures { λ r. ⌜ r ≡ readySetup tick ⌝ }
@@ -30,6 +32,7 @@ impl Setup {
             tick,
             t3206: Self::T3206,
             t3208: Self::T3208,
+            t3210: Self::T3210,
         }
     }
 
@@ -58,6 +61,7 @@ fn no_setup() -> Setup
         tick: 0,
         t3206: 0,
         t3208: 0,
+        t3210: 0,
     }
 }
 
@@ -71,6 +75,7 @@ fn made(s: Setup, keys: [u32; Setup::KEYS]) -> Receiver
         tick: s.tick,
         t3206: s.t3206,
         t3208: s.t3208,
+        t3210: s.t3210,
         cell: Cell { nln: NO_NLN },
     }
 }
@@ -95,6 +100,9 @@ pub fn is_right(s: Setup, keys: &[u32]) -> bool
         return false;
     }
     if !is_timer(s.t3208) {
+        return false;
+    }
+    if !is_timer(s.t3210) {
         return false;
     }
     keys_right(keys)

@@ -56,6 +56,7 @@ pub fn keep() -> Rule
     Rule {
         nch: false,
         facch: false,
+        pch: false,
         but: Setup::KEYS,
     }
 }
@@ -64,7 +65,7 @@ pub fn keep() -> Rule
 fn takes(rule: Rule, ch: usize) -> bool
     ensures { λ r. ⌜ r ≡ takes rule ch ⌝ }
 {
-    channels::flag_of(ch, rule.nch, rule.facch)
+    channels::flag_of(ch, rule.nch, rule.facch, rule.pch)
 }
 
 // Whether a rule leaves the half at a place.
@@ -78,10 +79,10 @@ pub fn spared(rule: Rule, i: usize) -> bool
 }
 
 // The timer of the channel of a place.
-pub fn timer_at(t3206: u32, t3208: u32, i: usize) -> u32
-    ensures { λ r. ⌜ r ≡ byNumber (sideOf i) t3206 t3208 ⌝ }
+pub fn timer_at(t3206: u32, t3208: u32, t3210: u32, i: usize) -> u32
+    ensures { λ r. ⌜ r ≡ byNumber (sideOf i) t3206 t3208 t3210 ⌝ }
 {
-    channels::timer_of(channels::side_of(i), t3206, t3208)
+    channels::timer_of(channels::side_of(i), t3206, t3208, t3210)
 }
 
 fn ran_out(now: u32, timer: u32, s: Slot) -> bool
@@ -132,7 +133,7 @@ pub fn sweep(mut r: Receiver, now: u32, rule: Rule) -> Swept
     let mut i: usize = 0;
     while i < PLACES {
         let s = r.slots[i];
-        match fate_of(now, timer_at(r.t3206, r.t3208, i), rule, i, s) {
+        match fate_of(now, timer_at(r.t3206, r.t3208, r.t3210, i), rule, i, s) {
             Fate::Stays => {}
             Fate::RanOut => {
                 r.slots[i] = e;

@@ -191,7 +191,16 @@ fn set_up(r: Receiver, line: &[u8], first: usize) -> Receiver
     let third = after(line, second);
     let t3208 = number(line, third);
     let keys = after(line, third);
-    let s = started(Setup { tick, t3206, t3208 }, line, keys);
+    let s = started(
+        Setup {
+            tick,
+            t3206,
+            t3208,
+            t3210: Setup::T3210,
+        },
+        line,
+        keys,
+    );
     show_head(s.refusal.number, 0, 0, 0);
     if s.refusal.number != 0 {
         return r;

@@ -1,72 +1,79 @@
 -- `layout::looking::rest_run` meets its contract. Assumes nothing.
-use mathlib.Core.Path.{_≡_}
-use Prim.Native.Nat.{_%_, _+_, _-_, _≤_}
+use mathlib.Core.Path.{sym, _∙_}
 use native.Mathlib.Omega.{arith}
-use borrow.Author.Needs.{needs}
-use borrow.Author.Tests.{not-false}
-use Rattle.receiver.specs.Channels.{places}
-use Rattle.layout.specs.Inner.{Running}
-use Rattle.layout.proofs.Runs.{whole}
-use Rattle.layout.proofs.NoneOut.{many, running-none, running-more}
+use Rattle.layout.proofs.NoneOut.{many, running-among, running-six}
 use Rattle.layout.proofs.looking.rest_run.Statement.{statement}
 use Rattle.layout.proofs.looking.rest_run.Tie as tie
 
-abbrev Inv-loop : tie.InvT-loop
-Inv-loop b tick i₀ i = (many ≤ i) × ((i ≤ whole) × ((i % 8 ≡ 0) × Running tick b many (i - many)))
+add-u64-at : tie.Need-add-u64-at
+add-u64-at c = omega arith
 
-abbrev μ-loop : tie.MeasureT-loop
-μ-loop b tick i₀ i = whole - i
+u64-at-requires : tie.Need-u64-at-requires
+u64-at-requires c κs = omega arith
 
-loop-holds : tie.Need-loop-holds Inv-loop μ-loop
-loop-holds c = (omega arith, (omega arith, (omega arith, running-none _ _ many)))
+returns : tie.Need-returns
+returns c = let a = c .before .before .before .args in λ e. running-among (a .tick) (a .b .now) many 6 (omega arith) (sym (c .before .u64-at .ensures) ∙ c .if1 .taken)
 
-group-runs-requires : tie.Need-group-runs-requires Inv-loop μ-loop
-group-runs-requires c κs = omega arith
+late-requires : tie.Need-late-requires
+late-requires c κs = let start = c .before .before .before in (start .pre .0, (omega arith, start .pre .1 .0))
 
-returns : tie.Need-returns Inv-loop μ-loop
-returns c = λ e k h. cc
+add-late : tie.Need-add-late
+add-late c = omega arith
 
-add-i : tie.Need-add-i Inv-loop μ-loop
-add-i c = search needs
+late-requires-2 : tie.Need-late-requires-2
+late-requires-2 c κs = let start = c .before .before .before .before in (start .pre .0, (omega arith, start .pre .1 .1 .0))
 
-loop-less : tie.Need-loop-less Inv-loop μ-loop
-loop-less c = omega arith
+add-late-2 : tie.Need-add-late-2
+add-late-2 c = omega arith
 
-loop-again : tie.Need-loop-again Inv-loop μ-loop
-loop-again c =
-    let a = c .before .before .before .before .before .args in
-    let l = c .before .before .before .loop in
-    let v = l .inv .1 in
-    let here : many + (l .i - many) ≡ l .i = omega arith in
-    let on : l .i - many + 8 ≡ l .i + 8 - many = omega arith in
-    let next : Running (a .tick) (a .b .now) (many + (l .i - many)) 8 = rw here (c .before .group-runs .ensures (not-false _ (c .if1 .left))) in
-    (omega arith, (omega arith, (omega arith, rw on at (running-more (a .tick) (a .b .now) many (l .i - many) 8 (v .1 .1) next))))
+late-requires-3 : tie.Need-late-requires-3
+late-requires-3 c κs = let start = c .before .before .before .before .before in (start .pre .0, (omega arith, start .pre .1 .1 .1))
 
-sub-group-runs : tie.Need-sub-group-runs Inv-loop μ-loop
-sub-group-runs c = search needs
+add-late-3 : tie.Need-add-late-3
+add-late-3 c = omega arith
 
-group-runs-requires-2 : tie.Need-group-runs-requires-2 Inv-loop μ-loop
-group-runs-requires-2 c κs = omega arith
+late-requires-4 : tie.Need-late-requires-4
+late-requires-4 c κs = let start = c .before .before .before .before .before .before in (start .pre .0, (omega arith, start .pre .1 .0))
 
-returns-2 : tie.Need-returns-2 Inv-loop μ-loop
+add-late-4 : tie.Need-add-late-4
+add-late-4 c = omega arith
+
+late-requires-5 : tie.Need-late-requires-5
+late-requires-5 c κs = let start = c .before .before .before .before .before .before .before in (start .pre .0, (omega arith, start .pre .1 .1 .0))
+
+add-late-5 : tie.Need-add-late-5
+add-late-5 c = omega arith
+
+late-requires-6 : tie.Need-late-requires-6
+late-requires-6 c κs = let start = c .before .before .before .before .before .before .before .before in (start .pre .0, (omega arith, start .pre .1 .1 .1))
+
+returns-2 : tie.Need-returns-2
 returns-2 c =
-    let a = c .before .before .before .before .args in
-    let l = c .before .before .loop in
-    let n : l .i ≡ whole = omega arith in
-    λ e. running-more (a .tick) (a .b .now) many (whole - many) (places - whole) (rw n at (l .inv .1 .1 .1)) (c .group-runs2 .ensures e)
+    let c6 = c in
+    let c5 = c6 .before in
+    let c4 = c5 .before in
+    let c3 = c4 .before in
+    let c2 = c3 .before in
+    let c1 = c2 .before in
+    let a = c1 .before .before .before .before .args in
+    running-six (a .tick) (a .b .now) many _ _ _ _ _ _ (c1 .late .ensures) (c2 .late2 .ensures) (c3 .late3 .ensures) (c4 .late4 .ensures) (c5 .late5 .ensures) (c6 .late6 .ensures)
 
 pub rest-run-spec : {M : Type 1} → statement M
 rest-run-spec =
     tie.close
     (tie.spec
-    Inv-loop
-    μ-loop
-    loop-holds
-    group-runs-requires
+    add-u64-at
+    u64-at-requires
     returns
-    add-i
-    loop-less
-    loop-again
-    sub-group-runs
-    group-runs-requires-2
+    late-requires
+    add-late
+    late-requires-2
+    add-late-2
+    late-requires-3
+    add-late-3
+    late-requires-4
+    add-late-4
+    late-requires-5
+    add-late-5
+    late-requires-6
     returns-2)

@@ -36,7 +36,7 @@ returns-3 c =
     let right = sym (c .before .before .before .before .before .is-right .ensures) ∙ not-false _ (c .before .before .before .before .if2 .left) in
     rw (c .before .before .fill .ensures)
     (set-accepted (a .b .now) s keys (c .before .before .before .before .before .before .if1 .left) right
-    (decode-fresh s keys (omega arith) (omega arith) (omega arith) (λ j. omega (arith, c .before .before .before .before .before .before .before .shared-slice-known .given j))))
+    (decode-fresh s keys (omega arith) (omega arith) (omega arith) (omega arith) (λ j. omega (arith, c .before .before .before .before .before .before .before .shared-slice-known .given j))))
 
 pub setup-spec : {M : Type 1} → statement M
 setup-spec =

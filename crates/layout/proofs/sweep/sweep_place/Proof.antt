@@ -30,8 +30,8 @@ elapsed-requires c κs = omega arith
 empty-requires : tie.Need-empty-requires
 empty-requires c κs = omega arith
 
-add-t20 : tie.Need-add-t20
-add-t20 c = omega arith
+add-t21 : tie.Need-add-t21
+add-t21 c = omega arith
 
 same-length : tie.Need-same-length
 same-length c = omega arith
@@ -45,26 +45,23 @@ returns-2 c =
     let p = place-out (a .tick) (a .rule) (a .b .now) (a .i) (a .expired) (a .dropped) (old .before .before .before .before .if1 .left) (age ∙ le-leb _ _ (old .if2 .taken)) in
     (p .0, (p .1 .0, c .before .before .empty .ensures ∙ p .1 .1))
 
-spared-requires : tie.Need-spared-requires
-spared-requires c κs = omega arith
-
 same-length-2 : tie.Need-same-length-2
 same-length-2 c = omega arith
 
 returns-3 : tie.Need-returns-3
 returns-3 c =
-    let young = c .before .before in
+    let young = c .before in
     let start = young .before .before .before .before .before .before .before in
     let a = start .args in
     let age = age-said (a .tick) (a .b .now) (a .i) _ _ _ (start .pre .1 .1 .0) (young .before .before .u32-at .ensures) (young .before .elapsed .ensures) in
     place-stays (a .tick) (a .rule) (a .b .now) (a .i) (a .expired) (a .dropped) (young .before .before .before .before .if1 .left) (age ∙ lt-leb _ _ (young .if2 .left))
-    (sym (c .before .spared .ensures) ∙ c .if3 .taken)
+    (sym (start .pre .1 .1 .1 .0) ∙ c .if3 .taken)
 
 empty-requires-2 : tie.Need-empty-requires-2
 empty-requires-2 c κs = omega arith
 
-add-t12 : tie.Need-add-t12
-add-t12 c = omega arith
+add-t13 : tie.Need-add-t13
+add-t13 c = omega arith
 
 same-length-3 : tie.Need-same-length-3
 same-length-3 c = omega arith
@@ -72,11 +69,11 @@ same-length-3 c = omega arith
 returns-4 : tie.Need-returns-4
 returns-4 c =
     let taken = c .before .before .before .before in
-    let young = taken .before .before in
+    let young = taken .before in
     let start = young .before .before .before .before .before .before .before in
     let a = start .args in
     let age = age-said (a .tick) (a .b .now) (a .i) _ _ _ (start .pre .1 .1 .0) (young .before .before .u32-at .ensures) (young .before .elapsed .ensures) in
-    let gone = sym (taken .before .spared .ensures) ∙ taken .if3 .left in
+    let gone = sym (start .pre .1 .1 .1 .0) ∙ taken .if3 .left in
     let p = place-taken (a .tick) (a .rule) (a .b .now) (a .i) (a .expired) (a .dropped) (young .before .before .before .before .if1 .left) (age ∙ lt-leb _ _ (young .if2 .left)) gone in
     (p .0, (p .1 .0, c .before .before .empty2 .ensures ∙ p .1 .1))
 
@@ -92,13 +89,12 @@ sweep-place-spec =
     u32-at-requires
     elapsed-requires
     empty-requires
-    add-t20
+    add-t21
     same-length
     returns-2
-    spared-requires
     same-length-2
     returns-3
     empty-requires-2
-    add-t12
+    add-t13
     same-length-3
     returns-4)

@@ -1,5 +1,5 @@
 -- `lent::tell::tell_facch` meets its contract. Assumes nothing.
-use mathlib.Core.Path.{_≡_, refl, sym, ap, _∙_}
+use mathlib.Core.Path.{_≡_, sym, ap, _∙_}
 use native.Mathlib.Omega.{arith}
 use lib.Dec.{lit<}
 use borrow.Author.Needs.{needs}
@@ -36,7 +36,7 @@ returns c =
     let e = facchEntry (a .m) in
     let k = c7 .key-of in
     let t = telling-other l 1 (a .tick) 0 _ e _ (k .ensures) (c10 .pre) (c5 .index-of .ensures) _ (c4 .if1 .taken) (lit< tt) (omega (arith, k .ok)) (c2 .put-number .ensures) in
-    (refl, all-one-told l 1 (a .tick) e _ (lit< tt) t)
+    all-one-told l 1 (a .tick) e _ (lit< tt) t
 
 facch-entry-requires : tie.Need-facch-entry-requires
 facch-entry-requires c κs = tt
@@ -66,7 +66,7 @@ returns-2 c =
     telling-ours l 1 (a .tick) 0 _ e _ k (c11 .pre) (c6 .index-of .ensures) _ (omega (arith, c5 .if1 .left)) (λ x. omega (arith, c10 .slice-known .given x)) (lit< tt)
     (lit< tt) (omega arith) (wide-value _ _ (f .ok)) (c2 .ours .ensures)
     in
-    (refl, rw (sym (f .ensures)) (all-one-told l 1 (a .tick) e _ (lit< tt) t))
+    rw (sym (f .ensures)) (all-one-told l 1 (a .tick) e _ (lit< tt) t)
 
 pub tell-facch-spec : {M : Type 1} → statement M
 tell-facch-spec =

@@ -29,16 +29,30 @@ returns-3 c =
       sym (c .before .is-timer2 .ensures) ∙ not-true _ (c .if3 .taken),
     )
 
-keys-right-requires : tie.Need-keys-right-requires
-keys-right-requires c κs = search needs
+is-timer-requires-3 : tie.Need-is-timer-requires-3
+is-timer-requires-3 c κs = search needs
 
 returns-4 : tie.Need-returns-4
 unfolding setupRight
 returns-4 c =
     simp (
-      le-leb _ _ (c .before .before .before .before .before .if1 .left),
-      sym (c .before .before .before .before .is-timer .ensures) ∙ not-false _ (c .before .before .before .if2 .left),
-      sym (c .before .before .is-timer2 .ensures) ∙ not-false _ (c .before .if3 .left),
+      le-leb _ _ (c .before .before .before .before .before .before .if1 .left),
+      sym (c .before .before .before .before .before .is-timer .ensures) ∙ not-false _ (c .before .before .before .before .if2 .left),
+      sym (c .before .before .before .is-timer2 .ensures) ∙ not-false _ (c .before .before .if3 .left),
+      sym (c .before .is-timer3 .ensures) ∙ not-true _ (c .if4 .taken),
+    )
+
+keys-right-requires : tie.Need-keys-right-requires
+keys-right-requires c κs = search needs
+
+returns-5 : tie.Need-returns-5
+unfolding setupRight
+returns-5 c =
+    simp (
+      le-leb _ _ (c .before .before .before .before .before .before .before .if1 .left),
+      sym (c .before .before .before .before .before .before .is-timer .ensures) ∙ not-false _ (c .before .before .before .before .before .if2 .left),
+      sym (c .before .before .before .before .is-timer2 .ensures) ∙ not-false _ (c .before .before .before .if3 .left),
+      sym (c .before .before .is-timer3 .ensures) ∙ not-false _ (c .before .if4 .left),
       c .keys-right .ensures,
     )
 
@@ -51,5 +65,7 @@ is-right-spec =
     returns-2
     is-timer-requires-2
     returns-3
+    is-timer-requires-3
+    returns-4
     keys-right-requires
-    returns-4)
+    returns-5)

@@ -1,0 +1,116 @@
+//! The receiver's rows of vectors/vNN.txt: answers that others worked out, held against both sides. vectors/README.md has the protocol.
+//! tests/drive.sh holds every row of the file against the library; here the second program must give the same.
+
+use crate::bits::Refusal;
+use crate::listed::{folder, octets_of};
+use crate::pair::{Pair, Spoken};
+use crate::receiver::{Event, CHANNELS};
+use crate::state::{FIRST_RECORD_PART, RECORD_NUMBERS, STATE_LENGTH};
+use crate::tally::Tally;
+
+/// Fewer receiver rows than this are not the whole file.
+const LEAST_ROWS: usize = 1_000;
+
+/// The header's parts of a record in the protocol's order, up to the description, and behind it.
+const BEFORE: [usize; 7] = [9, 5, 10, 11, 29, 30, 12];
+const BEHIND: [usize; 18] = [15, 16, 17, 8, 18, 19, 32, 20, 21, 22, 23, 24, 33, 25, 34, 26, 27, 28];
+
+/// The 40 numbers of a CALL-RECORD.
+fn call_record(key: u64, record: &[u64; RECORD_NUMBERS]) -> Vec<u64> {
+    let part = |number: usize| record[number - FIRST_RECORD_PART];
+    let [channel, hops, short_list, octets, frequencies] = [6, 13, 14, 31, 7].map(part);
+    let mut numbers = vec![key];
+    numbers.extend(BEFORE.map(part));
+    numbers.extend([channel, hops, short_list, octets]);
+    numbers.extend((0..8).map(|i| if i < octets { frequencies >> (8 * (octets - 1 - i)) & 255 } else { 0 }));
+    numbers.push(if short_list == 1 { frequencies } else { 0 });
+    // Ciphered is what has a cipher key number: complete records have full references.
+    numbers.push(u64::from(part(30) != 0));
+    numbers.extend(BEHIND.map(part));
+    numbers
+}
+
+/// An EVENT-ANSWER. No bit number is known yet.
+fn answer(said: &Result<Spoken, Refusal>) -> String {
+    let words = |numbers: &[u64]| numbers.iter().map(u64::to_string).collect::<Vec<String>>().join(" ");
+    match said {
+        Err(refusal) => format!("{refusal} 0 0 0"),
+        Ok(spoken) => {
+            let mut line = words(&[0, 0, spoken.dropped, spoken.expired]);
+            for (key, told, record) in &spoken.entries {
+                line += &format!(" | {key} {told}");
+                if let Some(record) = record {
+                    line += &format!(" {}", words(&call_record(*key, record)));
+                }
+            }
+            line
+        }
+    }
+}
+
+/// The library's fourteen numbers for the protocol's 22: octets, or a short list, as one number, whichever the short list flag names. An octet
+/// beyond the length makes the number too large for it.
+fn pch_numbers(given: &[u64]) -> Vec<u64> {
+    let (length, octets, list) = (given[8], &given[9..17], given[17]);
+    let used = octets.iter().rposition(|&octet| octet != 0).map_or(0, |last| last + 1).max(length.min(8) as usize);
+    let number = octets[..used].iter().fold(0, |number, octet| number << 8 | octet);
+    let mut numbers = given[..9].to_vec();
+    numbers.push(if given[7] != 0 { list } else { number });
+    numbers.extend(&given[18..]);
+    numbers
+}
+
+/// The numbers up to a stroke or the end.
+fn numbers(words: &[&str]) -> Vec<u64> {
+    words.iter().map(|word| word.parse().unwrap()).collect()
+}
+
+fn event(words: &[&str]) -> Event {
+    let octets = || if words[2] == "-" { Vec::new() } else { octets_of(words[2]) };
+    match words[0] {
+        "nch" => Event::Nch(octets()),
+        "facch" => Event::Facch(octets()),
+        "pch" => Event::Pch(pch_numbers(&numbers(&words[2..]))),
+        "joined" => Event::Joined(words[2].parse().unwrap()),
+        "reselected" => Event::Reselected,
+        "handed_over" => Event::HandedOver,
+        "reconfigured" => Event::Reconfigured,
+        "idle" => Event::LeftIdle,
+        "tick" => Event::Tick,
+        other => panic!("what is ev {other}?"),
+    }
+}
+
+pub fn run(tally: &mut Tally) {
+    let is_one = |name: &str| name.len() == 7 && name.starts_with('v') && name.ends_with(".txt");
+    let files = std::fs::read_dir(folder()).into_iter().flatten().flatten().map(|file| file.path());
+    let files: Vec<_> = files.filter(|path| path.file_name().and_then(|name| name.to_str()).is_some_and(is_one)).collect();
+    tally.check(files.len() == 1, || format!("  one file vNN.txt belongs in {}, and there are {}", folder().display(), files.len()));
+    let text = files.first().map(|path| std::fs::read_to_string(path).unwrap()).unwrap_or_default();
+    let mut lines = text.lines().filter(|line| line.starts_with("> ") || line.starts_with("< "));
+    let mut pair = Pair::of(&[0; STATE_LENGTH], 2);
+    let mut done = 0;
+    while let (Some(command), Some(expected)) = (lines.next(), lines.next()) {
+        let words: Vec<&str> = command[2..].split(' ').collect();
+        let (archive, second) = match words[0] {
+            "setup" => {
+                let given = numbers(&words[2..3 + CHANNELS.len()]);
+                let timers = CHANNELS.map(|channel| given[1 + channel as usize] as u32);
+                let keys: Vec<u32> = words[4 + CHANNELS.len()..].iter().map(|key| key.parse().unwrap()).collect();
+                let refusal = pair.setup(tally, &keys, given[0] as u32, timers).to_string();
+                // The pair has held the second program's refusal against this one.
+                (refusal.clone(), refusal)
+            }
+            "ev" => {
+                let said = pair.event(tally, words[2].parse().unwrap(), &event(&words[1..]));
+                (answer(&said.archive), answer(&said.second))
+            }
+            _ => continue,
+        };
+        done += 1;
+        for (side, line) in [("archive", archive), ("second", second)] {
+            tally.check(line == expected[2..], || format!("  {command}\n  the file  {}\n  {side:9} {line}", &expected[2..]));
+        }
+    }
+    tally.check(done >= LEAST_ROWS, || format!("  only {done} receiver rows in {files:?}"));
+}
