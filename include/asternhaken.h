@@ -159,7 +159,7 @@ uint32_t asternhaken_nch(uint8_t *state, size_t state_length, uint32_t tick, con
 uint32_t asternhaken_facch(uint8_t *state, size_t state_length, uint32_t tick, const uint8_t *octets, size_t n); /* NOTIFICATION/FACCH came */
 uint32_t asternhaken_pch(uint8_t *state, size_t state_length, uint32_t tick, const uint64_t *entry, size_t n);   /* a notification came on the paging channel */
 uint32_t asternhaken_joined(uint8_t *state, size_t state_length, uint32_t tick, uint32_t key);                   /* the call of this key was joined */
-uint32_t asternhaken_reselected(uint8_t *state, size_t state_length, uint32_t tick);                             /* another cell was selected */
+uint32_t asternhaken_reselected(uint8_t *state, size_t state_length, uint32_t tick);                             /* another cell was selected: its first NLN is no change */
 uint32_t asternhaken_handed_over(uint8_t *state, size_t state_length, uint32_t tick);
 uint32_t asternhaken_reconfigured(uint8_t *state, size_t state_length, uint32_t tick);
 uint32_t asternhaken_left_idle(uint8_t *state, size_t state_length, uint32_t tick);                              /* idle mode was left */

@@ -19,7 +19,7 @@ done <<'END'
 nch_vectors nch 332 332
 facch_vectors facch 333 333
 gcc_vectors gcc 201 201
-receiver_events events 280 528
+receiver_events events 287 536
 END
 echo "$passed passed, $failed failed"
 [ "$failed" -eq 0 ] && [ "$passed" -eq 8 ]

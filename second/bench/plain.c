@@ -804,7 +804,10 @@ static uint32_t drop_channels(uint8_t *state, size_t state_length, uint32_t tick
 
 static uint32_t event_reselected(uint8_t *state, size_t state_length, uint32_t tick)
 {
-    return drop_channels(state, state_length, tick, NCH, PCH);
+    uint32_t refusal = drop_channels(state, state_length, tick, NCH, PCH);
+    if (!refusal)
+        ((struct receiver *)(void *)state)->nln = NLN_UNKNOWN; /* a new cell numbers its notifications anew */
+    return refusal;
 }
 
 static uint32_t event_handed_over(uint8_t *state, size_t state_length, uint32_t tick)

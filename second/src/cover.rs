@@ -29,6 +29,8 @@ pub enum Met {
     SecondFirst(Channel),
     /// An entry was told 7 because its reference differs from that of the opposite half.
     Disagreed(Channel),
+    /// An NCH half outlived the first NLN of a new cell, which is unlike the last of the cell before.
+    Spared,
     /// An event of this channel was refused with this number, from a setup on or not.
     Refused(Channel, Refusal),
 }
@@ -38,7 +40,7 @@ use Met::*;
 
 /// How often each is met at least in 10,000 event steps: about a third to a half of what the usual seed gives. 7 on the FACCH is
 /// always a disagreement; 8 is told there alone.
-const LEAST: [(Met, u64); 50] = [
+const LEAST: [(Met, u64); 51] = [
     (Told(Nch, 0), 270),
     (Told(Nch, 1), 80),
     (Told(Nch, 2), 25),
@@ -71,7 +73,7 @@ const LEAST: [(Met, u64); 50] = [
     (Lost(Reselected, Nch), 11),
     (Lost(HandedOver, Facch), 7),
     (Lost(Reconfigured, Facch), 6),
-    (Lost(OtherNln, Nch), 7),
+    (Lost(OtherNln, Nch), 35),
     (Lost(RanOut, Pch), 130),
     (Lost(Joined, Pch), 10),
     (Lost(Reselected, Pch), 6),
@@ -83,6 +85,7 @@ const LEAST: [(Met, u64); 50] = [
     (Disagreed(Nch), 10),
     (Disagreed(Facch), 12),
     (Disagreed(Pch), 7),
+    (Spared, 15),
     (Refused(Pch, 3), 30),
     (Refused(Pch, 4), 30),
     (Refused(Pch, 5), 14),

@@ -1,5 +1,5 @@
-//! The second program: an implementation of document 01 (the scope) and of the requests of document 02 that have landed (§8) that shares nothing
-//! with the proved one, and a comparison of the two.
+//! The second program: an implementation of document 01 (the scope) and of the requests of document 02 that have landed (§8, §3) that shares
+//! nothing with the proved one, and a comparison of the two.
 //!
 //! It was written from documents, without sight of the proved code: 01, 02, the readings of their open places, the sources 000 to 004,
 //! include/asternhaken.h and docs/STATE.md; docs/DECISIONS.md and docs/PROMISES.md had been seen as well. Three places that these leave open,

@@ -35,6 +35,8 @@ pub struct One {
     pub channel: Channel,
     timer: u64,
     nln: Option<u64>,
+    /// The last NLN of the cell before, until one of this cell is seen; only for counting what was met.
+    nln_before: Option<u64>,
     held: Option<Held>,
     second_first: u64,
     disagreed: u64,
@@ -49,11 +51,13 @@ pub struct Outcome {
     /// Joins with a second half that came first, and entries told 7 because references differ.
     pub second_first: u64,
     pub disagreed: u64,
+    /// The half stayed though the message's NLN, the first of this cell, is unlike the last of the cell before.
+    pub spared: u64,
 }
 
 impl One {
     pub fn new(key: u32, channel: Channel, timer: u32) -> One {
-        One { key, channel, timer: u64::from(timer), nln: None, held: None, second_first: 0, disagreed: 0 }
+        One { key, channel, timer: u64::from(timer), nln: None, nln_before: None, held: None, second_first: 0, disagreed: 0 }
     }
 
     pub fn see(&mut self, step: u32, seen: &Seen) -> Outcome {
@@ -69,8 +73,14 @@ impl One {
             outcome.dropped = 1;
         }
         match (self.channel, seen) {
+            // A new cell numbers its notifications anew.
+            (_, Seen::Reselected) => self.nln_before = self.nln.take().or(self.nln_before),
             (Channel::Nch, Seen::Nch(message)) => {
-                self.nln = message.nln.or(self.nln);
+                if message.nln.is_some() {
+                    let before = self.nln_before.take();
+                    outcome.spared = u64::from(self.held.is_some() && before.is_some() && before != message.nln);
+                    self.nln = message.nln;
+                }
                 for entry in nch_entries(message) {
                     if entry.key() == u64::from(self.key) {
                         outcome.told.push(self.on_nch(entry));

@@ -152,6 +152,10 @@ impl Pair {
         Said { archive: told, second }
     }
 
+    pub fn archive_octet(&self, place: usize) -> u8 {
+        self.archive.octets()[place]
+    }
+
     pub fn value(&self, entry: u32, part: u32) -> u64 {
         self.archive.read(entry, part).1
     }
@@ -238,13 +242,14 @@ impl Pair {
         let (mut expired, mut dropped) = (0, 0);
         let mut strays = Vec::new();
         for one in &mut self.ones {
-            let Outcome { expired: ran_out, dropped: left, told: own, second_first, disagreed } = one.see(step, &seen);
+            let Outcome { expired: ran_out, dropped: left, told: own, second_first, disagreed, spared } = one.see(step, &seen);
             expired += ran_out;
             dropped += left;
             tally.cover.count(Met::Lost(Cause::RanOut, one.channel), ran_out);
             tally.cover.count(Met::Lost(cause, one.channel), left);
             tally.cover.count(Met::SecondFirst(one.channel), second_first);
             tally.cover.count(Met::Disagreed(one.channel), disagreed);
+            tally.cover.count(Met::Spared, spared);
             let here = channel == Some(one.channel);
             let own: Vec<_> = own.into_iter().map(|(number, record)| (number, record.as_ref().map(numbers_of))).collect();
             let archive: Vec<_> =

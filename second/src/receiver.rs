@@ -1,4 +1,5 @@
-//! The receiver (document 01, "Setup, clock and store" and "What each notified call is told"; document 02, §8, the paging channel).
+//! The receiver (document 01, "Setup, clock and store" and "What each notified call is told"; document 02, §8, the paging channel,
+//! and §3, what a new cell forgets).
 
 use crate::bits::*;
 use crate::call::{Call, Frequencies};
@@ -354,7 +355,10 @@ impl Receiver {
         let expired = self.discard(|me, place, half| tick.wrapping_sub(half.tick) >= me.timer(place.1));
         let dropped = match &event {
             Read::Joined(key) => self.discard(|me, place, _| me.place_of(u64::from(*key)) != Some(place.0)),
-            Read::Reselected => self.discard(|_, place, _| place.1 != Channel::Facch),
+            Read::Reselected => {
+                self.nln = None;
+                self.discard(|_, place, _| place.1 != Channel::Facch)
+            }
             Read::HandedOver | Read::Reconfigured => self.discard(|_, place, _| place.1 == Channel::Facch),
             Read::LeftIdle => self.discard(|_, place, _| place.1 == Channel::Pch),
             Read::Nch(message) => self.see_nln(message.nln),
@@ -379,7 +383,7 @@ impl Receiver {
         Ok(answer)
     }
 
-    /// The first NLN is no change, and a message without one changes nothing.
+    /// The first NLN of a cell is no change, and a message without one changes nothing.
     fn see_nln(&mut self, nln: Option<u64>) -> u64 {
         let Some(nln) = nln else { return 0 };
         let changed = self.nln.is_some_and(|last| u64::from(last) != nln);

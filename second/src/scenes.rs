@@ -1,5 +1,5 @@
-//! Hand-written scenes: each sentence of document 01's "Setup, clock and store" and "What each notified call is told", and of document 02's §8,
-//! with the outcome that it asks for. The outcome is asked of both sides.
+//! Hand-written scenes: each sentence of document 01's "Setup, clock and store" and "What each notified call is told", and of document 02's §8
+//! and §3, with the outcome that it asks for. The outcome is asked of both sides.
 
 use crate::draft::{CallDraft, FacchDraft, Hops, NchDraft, PchDraft, SevenDraft, SixDraft};
 use crate::ffi;
@@ -117,6 +117,14 @@ impl<'a> Scene<'a> {
         self.tally.check(both == (Some(refusal), Some(refusal)), || {
             format!("  scene {input}: (archive, second) refuse {both:?}, the document asks for {refusal}")
         });
+        self
+    }
+
+    /// An octet of the state on both sides.
+    fn has_octet(&mut self, place: usize, octet: u8) -> &mut Self {
+        let both = (self.pair.archive_octet(place), self.pair.mirror.octets[place]);
+        let input = format!("{}, event {}, octet {place}", self.name, self.line);
+        self.tally.check(both == (octet, octet), || format!("  scene {input}: (archive, second) {both:?}, docs/STATE.md asks for {octet}"));
         self
     }
 
@@ -415,9 +423,9 @@ fn nln(tally: &mut Tally) {
     s.nch(1_000, with_nln(2, first(VGCS))).says(0, 1, &[4]);
     s.nch(1_000, second(VGCS, 7)).told(&[3]);
 
-    let mut s = Scene::new(tally, "other events leave the NLN");
+    let mut s = Scene::new(tally, "events other than a reselection leave the NLN");
     s.nch(1_000, with_nln(1, empty())).told(&[]);
-    for event in [Event::Reselected, Event::HandedOver, Event::Reconfigured, Event::LeftIdle, Event::Tick, Event::Joined(LAST)] {
+    for event in [Event::HandedOver, Event::Reconfigured, Event::LeftIdle, Event::Tick, Event::Joined(LAST)] {
         s.event(1_000, event).told(&[]);
     }
     s.facch(1_000, FacchDraft::of(clear(STRANGER))).told(&[0]);
@@ -425,6 +433,25 @@ fn nln(tally: &mut Tally) {
     s.nch(1_000, first(VGCS)).told(&[4]);
     s.nch(1_000, with_nln(1, empty())).told(&[]);
     s.nch(1_000, with_nln(2, empty())).says(0, 1, &[]);
+
+    let mut s = Scene::new(tally, "§3: a half stored in the new cell stays at its first NLN, and goes at the next, unlike it");
+    s.nch(1_000, with_nln(1, first(VGCS))).told(&[4]);
+    s.event(1_001, Event::Reselected).says(0, 1, &[]);
+    s.nch(1_002, first(VGCS)).told(&[4]);
+    s.nch(1_003, with_nln(2, empty())).told(&[]);
+    s.nch(1_004, with_nln(2, first(OTHER))).told(&[4]);
+    s.nch(1_005, with_nln(1, empty())).says(0, 2, &[]);
+    s.event(1_006, Event::Reselected).told(&[]).has_octet(NLN, 4);
+    s.nch(1_007, second(VGCS, 7)).told(&[4]);
+    s.event(1_008, Event::Reselected).says(0, 1, &[]);
+    s.nch(1_009, with_nln(3, second(VGCS, 7))).told(&[4]);
+    s.event(1_010, Event::HandedOver).told(&[]).has_octet(NLN, 3);
+    s.nch(1_011, with_nln(0, empty())).says(0, 1, &[]);
+
+    let mut s = Scene::new(tally, "§3: a refused reselection forgets nothing");
+    s.nch(1_000, with_nln(1, first(VGCS))).told(&[4]);
+    s.event(999, Event::Reselected).refuses(9);
+    s.nch(1_001, with_nln(2, empty())).says(0, 1, &[]);
 
     let mut s = Scene::new(tally, "the NLN of a refused message is not seen");
     s.nch(1_000, with_nln(1, first(VGCS))).told(&[4]);

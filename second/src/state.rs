@@ -224,7 +224,7 @@ impl Mirror {
         Ok(())
     }
 
-    /// An accepted event writes its tick, the NLN where the message has one, the places it filled or freed, and the answer.
+    /// An accepted event writes its tick, the NLN where it changed, the places it filled or freed, and the answer.
     pub fn event(&mut self, tick: u32, event: &Event) -> Result<Answer, Refusal> {
         let nln = self.receiver.nln;
         let answer = self.receiver.event(tick, event)?;

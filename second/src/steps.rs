@@ -109,8 +109,14 @@ fn from_setup(tally: &mut Tally, rng: &mut Rng) -> u64 {
 }
 
 fn events(tally: &mut Tally, rng: &mut Rng, pair: &mut Pair, pool: &Pool, count: u64) {
+    // What comes next of a story, the next one last.
+    let mut story: Vec<Event> = Vec::new();
     for _ in 0..count {
-        let event = event(rng, pair, pool);
+        if story.is_empty() && rng.one_in(40) {
+            story = new_cell(rng, &pair.mirror.receiver, pool);
+            story.reverse();
+        }
+        let event = story.pop().unwrap_or_else(|| event(rng, pair, pool));
         let tick = tick(rng, &pair.mirror.receiver);
         pair.event(tally, tick, &event);
     }
@@ -314,6 +320,27 @@ fn meeting(rng: &mut Rng, receiver: &Receiver) -> Event {
             Event::Pch(with_leftovers(rng, draft.numbers()))
         }
     }
+}
+
+/// A subscribed key, or one of the pool.
+fn some_key(rng: &mut Rng, receiver: &Receiver, pool: &Pool) -> u32 {
+    if receiver.keys.is_empty() {
+        (2 * pool.reference(rng) + rng.below(2)) as u32
+    } else {
+        rng.pick(&receiver.keys) % 200_000_000
+    }
+}
+
+/// An NLN, a move, a half on the NCH, and another NLN: whether the half goes is the move's matter.
+fn new_cell(rng: &mut Rng, receiver: &Receiver, pool: &Pool) -> Vec<Event> {
+    let nln = rng.below(4);
+    let with_nln = |nln: u64| Event::Nch(NchDraft { nln: Some(nln), ..NchDraft::default() }.octets());
+    let half = CallDraft::plain(some_key(rng, receiver, pool), 3).on(rng.below(1 << 24) & !0x1000);
+    let six = SixDraft { random: vec![(0, None)], ..SixDraft::default() };
+    let half = NchDraft { calls: vec![half], six: Some(six), ..NchDraft::default() };
+    let movement = rng.pick(&[0, 0, 0, 1, 1, 2, 3]);
+    let movement = [Event::Reselected, Event::HandedOver, Event::Reconfigured, Event::LeftIdle][movement].clone();
+    vec![with_nln(nln), movement, Event::Nch(half.octets()), with_nln((nln + 1 + rng.below(3)) % 4)]
 }
 
 /// An event that takes a half away which is held, each cause as often as another.

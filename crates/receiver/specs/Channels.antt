@@ -78,7 +78,7 @@ drops c Reconfiguration = byChannel c false true false
 drops c LeftIdle = byChannel c false false true
 
 abbrev pub forgets : Move → Bool
-forgets Reselection = false
+forgets Reselection = true
 forgets Handover = false
 forgets Reconfiguration = false
 forgets LeftIdle = false

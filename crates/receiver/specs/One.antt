@@ -77,7 +77,7 @@ goneBy onPch LeftIdle = true
 
 -- it makes the NLN unknown
 abbrev pub forgottenBy : Move → Bool
-forgottenBy Reselection = false
+forgottenBy Reselection = true
 forgottenBy Handover = false
 forgottenBy Reconfiguration = false
 forgottenBy LeftIdle = false

@@ -247,7 +247,7 @@ fn forgets(m: Move) -> bool
     ensures { λ r. ⌜ r ≡ forgets m ⌝ }
 {
     match m {
-        Move::Reselection => false,
+        Move::Reselection => true,
         Move::Handover => false,
         Move::Reconfiguration => false,
         Move::LeftIdle => false,
