@@ -34,7 +34,7 @@ extern "C" {
 #define ASTERNHAKEN_ENTRIES 9          /* entries of one message at most */
 #define ASTERNHAKEN_PARTS 35           /* parts for asternhaken_read, from 0 */
 #define ASTERNHAKEN_LONGEST 60000      /* ms: the longest timer; the shortest is 1 */
-#define ASTERNHAKEN_T3206 5000         /* ms: how long an NCH half is kept, unless the setup says another time */
+#define ASTERNHAKEN_T3206 10000        /* ms: how long an NCH half is kept, unless the setup says another time */
 #define ASTERNHAKEN_T3208 5000         /* ms: the same for a FACCH half */
 #define ASTERNHAKEN_T3210 5000         /* ms: the same for a PCH half */
 #define ASTERNHAKEN_LAST_KEY 199999999

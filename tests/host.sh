@@ -41,6 +41,24 @@ counted() {
     [ "$m" = 0 ] || { echo "failed: $what, with status $status"; cat "$tmp/counted"; }
 }
 
+# The header's figures are those of the code: HEADER-NAME CODE-NAME FILE, each by its one definition.
+figures() {
+    while read -r name code file; do
+        said=$(sed -n "s/^#define ASTERNHAKEN_$name \([0-9][0-9]*\).*/\1/p" include/asternhaken.h)
+        meant=$(sed -n "s/^ *pub const $code: [a-z0-9]* = \([0-9][0-9]*\);\$/\1/p" "crates/$file")
+        holds "ASTERNHAKEN_$name is '$said' in the header, and $code is '$meant' in crates/$file" test -n "$said" -a "$said" = "$meant"
+    done <<'END'
+KEYS KEYS receiver/src/start.rt
+ENTRIES MOST_ENTRIES receiver/src/lib.rt
+LONGEST LONGEST receiver/src/start.rt
+T3206 T3206 receiver/src/start.rt
+T3208 T3208 receiver/src/start.rt
+T3210 T3210 receiver/src/start.rt
+LAST_KEY LAST_KEY pch/src/lib.rt
+PCH_NUMBERS LENGTH pch/src/lib.rt
+END
+}
+
 finish() {
     echo "$passed passed, $failed failed"
     [ "$failed" -eq 0 ]
@@ -63,6 +81,7 @@ for cc in g++ clang++; do
 done
 sed -n 's/^uint32_t \(asternhaken_[a-z0-9_]*\)(.*/\1/p' include/asternhaken.h | sort > "$tmp/functions"
 holds 'the header declares functions' test -s "$tmp/functions"
+figures
 for test in header stack; do
     while read -r f; do holds "tests/$test.c does not call $f" grep -qw "$f" tests/$test.c; done < "$tmp/functions"
 done

@@ -3,14 +3,13 @@
 use crate::elements::{CALL_REFERENCE, CAUSE, DIGITS};
 use crate::messages::{compare_facch, compare_nch, compare_nch_write};
 use crate::pair::Pair;
-use crate::receiver::Event;
+use crate::receiver::{Channel, Event, DEFAULT_TIMERS, LAST_KEY, LONGEST_TIMER, MOST_KEYS};
 use crate::rows;
-use crate::state::{FIRST_RECORD_PART, RECORD_NUMBERS, STATE_LENGTH};
+use crate::state::{FIRST_RECORD_PART, MOST_ENTRIES, RECORD_NUMBERS, STATE_LENGTH};
 use crate::tally::{hex, Tally};
+use crate::{facch, nch, pch};
 use std::path::{Path, PathBuf};
 
-/// events.tsv names two timers; the third is the default.
-const T3210: u32 = 5_000;
 const NCH_READING: usize = 106;
 const FACCH_READING: usize = 22;
 
@@ -20,6 +19,7 @@ pub fn octets_of(hex: &str) -> Vec<u8> {
 
 /// Rows of the table. The clock's rows are scenes (scenes.rs, `clock`).
 pub fn listed(tally: &mut Tally) {
+    header(tally);
     let nch = |numbers: &[(usize, u64)]| {
         let mut record = vec![0; NCH_READING];
         for &(place, number) in numbers {
@@ -56,6 +56,36 @@ pub fn listed(tally: &mut Tally) {
         let archive = DIGITS.compare_read(tally, octets, DIGITS.reading);
         let expected = (refusal, expected.bytes().map(u64::from).collect());
         tally.same_reading("listed: digits (second is the document)", || hex(octets), &archive, &expected);
+    }
+}
+
+/// The sizes and limits of the header are this program's. events.tsv names two timers; the third is the default.
+fn header(tally: &mut Tally) {
+    let path = Path::new(env!("CARGO_MANIFEST_DIR")).join("../include/asternhaken.h");
+    let text = std::fs::read_to_string(&path).unwrap_or_default();
+    let constant = |name: &str| {
+        let line = text.lines().find(|line| line.split_whitespace().nth(1) == Some(name))?;
+        line.split_whitespace().nth(2)?.parse::<u64>().ok()
+    };
+    let [t3206, t3208, t3210] = DEFAULT_TIMERS;
+    let expected = [
+        ("ASTERNHAKEN_T3206", u64::from(t3206)),
+        ("ASTERNHAKEN_T3208", u64::from(t3208)),
+        ("ASTERNHAKEN_T3210", u64::from(t3210)),
+        ("ASTERNHAKEN_LONGEST", u64::from(LONGEST_TIMER)),
+        ("ASTERNHAKEN_LAST_KEY", u64::from(LAST_KEY)),
+        ("ASTERNHAKEN_KEYS", MOST_KEYS as u64),
+        ("ASTERNHAKEN_ENTRIES", MOST_ENTRIES as u64),
+        ("ASTERNHAKEN_PARTS", (FIRST_RECORD_PART + RECORD_NUMBERS) as u64),
+        ("ASTERNHAKEN_STATE_LENGTH", STATE_LENGTH as u64),
+        ("ASTERNHAKEN_NCH_NUMBERS", nch::NUMBERS as u64),
+        ("ASTERNHAKEN_FACCH_NUMBERS", facch::NUMBERS as u64),
+        ("ASTERNHAKEN_PCH_NUMBERS", pch::NUMBERS as u64),
+    ];
+    for (name, number) in expected {
+        tally.check(constant(name) == Some(number), || {
+            format!("  {} says {:?} of {name}, which is {number}", path.display(), constant(name))
+        });
     }
 }
 
@@ -331,7 +361,7 @@ fn events(tally: &mut Tally) {
         let event = match words[0] {
             "setup" => {
                 let numbers: Vec<u32> = words[2..].iter().map(|word| word.parse().unwrap()).collect();
-                let archive = pair.setup(tally, &numbers[2..], tick, [numbers[0], numbers[1], T3210]);
+                let archive = pair.setup(tally, &numbers[2..], tick, [numbers[0], numbers[1], DEFAULT_TIMERS[Channel::Pch as usize]]);
                 tally.same("events.tsv: setup (second is the file)", || row[0].clone(), &u64::from(archive), &head[0]);
                 continue;
             }

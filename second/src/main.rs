@@ -1,4 +1,4 @@
-//! The second program: an implementation of document 01 (the scope) and of the requests of document 02 that have landed (§8, §3) that shares
+//! The second program: an implementation of document 01 (the scope) and of the requests of document 02 that have landed (§8, §3, §4) that shares
 //! nothing with the proved one, and a comparison of the two.
 //!
 //! It was written from documents, without sight of the proved code: 01, 02, the readings of their open places, the sources 000 to 004,

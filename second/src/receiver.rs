@@ -24,6 +24,9 @@ pub const CHANNELS: [Channel; 3] = [Channel::Nch, Channel::Facch, Channel::Pch];
 /// T3206, T3208 and T3210: one for each channel, in the channels' order.
 pub type Timers = [u32; CHANNELS.len()];
 
+/// The ready defaults. Two railways send the second half on the NCH after six or seven seconds (document 02, §4).
+pub const DEFAULT_TIMERS: Timers = [10_000, 5_000, 5_000];
+
 /// What an entry brings: its own parts, and its message's count, uplink, AMR and SMS parts.
 #[derive(Clone, Copy, Debug, Default, PartialEq)]
 pub struct Record {

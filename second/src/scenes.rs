@@ -1,10 +1,10 @@
-//! Hand-written scenes: each sentence of document 01's "Setup, clock and store" and "What each notified call is told", and of document 02's §8
-//! and §3, with the outcome that it asks for. The outcome is asked of both sides.
+//! Hand-written scenes: each sentence of document 01's "Setup, clock and store" and "What each notified call is told", and of document 02's §8,
+//! §3 and §4, with the outcome that it asks for. The outcome is asked of both sides.
 
 use crate::draft::{CallDraft, FacchDraft, Hops, NchDraft, PchDraft, SevenDraft, SixDraft};
 use crate::ffi;
 use crate::pair::{Pair, Said};
-use crate::receiver::{Channel, Event, Timers};
+use crate::receiver::{Channel, Event, Timers, DEFAULT_TIMERS};
 use crate::state::*;
 use crate::tally::Tally;
 
@@ -280,6 +280,17 @@ fn clock(tally: &mut Tally) {
     let mut s = Scene::with(tally, "a half at its timer", &SUBSCRIBED, 1_000, [5_000, 5_000, 3_000]);
     s.nch(1_000, first(VGCS)).told(&[4]);
     s.nch(6_000, second(VGCS, 7)).says(1, 0, &[4]);
+
+    let mut s = Scene::with(tally, "§4: ten seconds by default on the NCH, five on the other channels", &SUBSCRIBED, 1_000, DEFAULT_TIMERS);
+    s.nch(1_000, first(VGCS)).told(&[4]);
+    s.facch(1_000, facch_first(VGCS)).told(&[4]);
+    s.pch(1_000, pch_first(VGCS)).told(&[4]);
+    s.event(5_999, Event::Tick).told(&[]);
+    s.event(6_000, Event::Tick).says(2, 0, &[]);
+    s.nch(10_999, second(VGCS, 7)).told(&[3]);
+    s.nch(10_999, first(VGCS)).told(&[4]);
+    s.event(20_998, Event::Tick).told(&[]);
+    s.event(20_999, Event::Tick).says(1, 0, &[]);
 
     let mut s = Scene::with(tally, "the tick wraps", &SUBSCRIBED, 4_294_967_290, [5_000, 5_000, 3_000]);
     s.event(10, Event::Tick).told(&[]);

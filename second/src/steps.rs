@@ -58,7 +58,7 @@ fn keys(rng: &mut Rng, pool: &Pool) -> Vec<u32> {
     keys
 }
 
-const TIMES: [u32; 9] = [1, 2, 3, 10, 100, 5_000, 5_000, 59_999, 60_000];
+const TIMES: [u32; 9] = [1, 2, 3, 10, 100, 5_000, 10_000, 59_999, 60_000];
 
 fn first_tick(rng: &mut Rng) -> u32 {
     match rng.below(4) {

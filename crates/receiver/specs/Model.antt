@@ -283,4 +283,4 @@ startedOf s keys =
 
 -- the ready defaults
 abbrev pub readySetup : ℕ → Setup
-readySetup tick = record { tick = tick; t3206 = 5000; t3208 = 5000; t3210 = 5000 }
+readySetup tick = record { tick = tick; t3206 = 10000; t3208 = 5000; t3210 = 5000 }

@@ -18,7 +18,7 @@ impl Setup {
 
     pub const LONGEST: u32 = 60000;
 
-    pub const T3206: u32 = 5000;
+    pub const T3206: u32 = 10000;
 
     pub const T3208: u32 = 5000;
 
