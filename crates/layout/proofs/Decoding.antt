@@ -21,7 +21,7 @@ use Rattle.receiver.specs.declared.Told.{Told}
 use Rattle.receiver.specs.Channels.{keyCount, places}
 use Rattle.receiver.specs.Model.{noRecord, emptySlot, remade, withSlots}
 use Rattle.receiver.specs.Step.{mostEntries, noTold}
-use Rattle.receiver.proofs.Dropping.{by-test}
+use Rattle.receiver.proofs.Cases.{by-test}
 use Rattle.layout.specs.Octets.{leAt, flagAt, lowOctets, tabulate}
 use Rattle.layout.specs.Layout.{tickFrom, timersFrom, cellFrom, keysFrom, kindsFrom, recordSize, answerFrom, toldLength, stateLength, recordAt, entryFlags, messageFlags, smallNumbers, wideOctets, recordOctets, kindPlace, sincePlace, recordPlace, slotNo, keyNo, cellAt, cellOctets, decodeOf, putSlot, toldPlace, carries, toldNo, lastOf, putNumber, putCarried, putTold, putHead}
 use Rattle.layout.proofs.Numbers.{length-octets, le-ext, le-stored, le-alone, le-before, le-set, length-table, getD-table, table-ext, table-set}

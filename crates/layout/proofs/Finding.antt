@@ -11,7 +11,7 @@ use lib.ListN.{length, getD, drop}
 use borrow.Author.Tests.{ltb-true, ltb-false}
 use Rattle.receiver.specs.Channels.{keyCount}
 use Rattle.receiver.specs.Model.{indexOf}
-use Rattle.receiver.proofs.Dropping.{by-test}
+use Rattle.receiver.proofs.Cases.{by-test}
 use Rattle.receiver.proofs.Keys.{found, index-here, index-next, index-le, index-past}
 use Rattle.layout.specs.Layout.{keysFrom, keyNo, decodeOf}
 use Rattle.layout.proofs.Numbers.{le-below}

@@ -15,7 +15,7 @@ use Rattle.receiver.specs.declared.Rule.{Rule}
 use Rattle.receiver.specs.declared.Slot.{Slot}
 use Rattle.receiver.specs.Channels.{places, sideOf}
 use Rattle.receiver.specs.Model.{wrapSub, takes, spares, isHeld, ranOutOf, takenOf, droppedOf}
-use Rattle.receiver.proofs.Dropping.{by-test}
+use Rattle.receiver.proofs.Cases.{by-test}
 use Rattle.layout.specs.Octets.{leAt}
 use Rattle.layout.specs.Layout.{kindsFrom, kindPlace, sincePlace, slotNo, decodeOf}
 use Rattle.layout.specs.Sweep.{timerNo, sweptAt, sweptRun}

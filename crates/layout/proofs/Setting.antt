@@ -14,7 +14,7 @@ use Rattle.arrays.proofs.Running.{stored-one, more}
 use Rattle.receiver.specs.declared.Setup.{Setup}
 use Rattle.receiver.specs.Channels.{keyCount}
 use Rattle.receiver.specs.Model.{noCell, newReceiver, keyPlaces, setupRight, startedOf}
-use Rattle.receiver.proofs.Dropping.{by-test}
+use Rattle.receiver.proofs.Cases.{by-test}
 use Rattle.layout.specs.Octets.{lowOctets}
 use Rattle.layout.specs.Layout.{tickFrom, timersFrom, cellFrom, keysFrom, stateLength, isState, cellOctets, decodeOf, keysOctets, freshOctets}
 use Rattle.layout.specs.Setup.{setupCode, setupOctets, SetUp}

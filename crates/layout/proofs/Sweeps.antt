@@ -14,7 +14,7 @@ use Rattle.receiver.specs.declared.Rule.{Rule}
 use Rattle.receiver.specs.declared.Slot.{Slot}
 use Rattle.receiver.specs.Channels.{channels, places, placeOn, sideOf, indexIn, byNumber}
 use Rattle.receiver.specs.Model.{emptySlot, timerAt, takes, spares, ranOutOf, takenOf, keptOf, countAt, sweptSlots, expiredOf, droppedOf, withSlots}
-use Rattle.receiver.proofs.Dropping.{by-test}
+use Rattle.receiver.proofs.Cases.{by-test}
 use Rattle.receiver.proofs.Loops.{partAt, part-set, part-keep, part-all}
 use Rattle.layout.specs.Octets.{leAt, tabulate}
 use Rattle.layout.specs.Layout.{timersFrom, cellFrom, kindsFrom, sincesFrom, answerFrom, stateLength, kindPlace, slotNo, decodeOf, putSlot}

@@ -20,7 +20,7 @@ use Rattle.receiver.specs.Channels.{places, numberOf}
 use Rattle.receiver.specs.Model.{noCell, late, expiredOf, droppedOf, sweptSlots, remade, withSlots}
 use Rattle.receiver.specs.Step.{noTold, mostEntries, allAfter, allTold, Event, joins, groundsOf, refusalOf, refusedWith, acceptedAs, stepOf}
 use Rattle.receiver.specs.Step.{Content, contentOf, cellAfter, ruleBy}
-use Rattle.receiver.proofs.Dropping.{by-test}
+use Rattle.receiver.proofs.Cases.{by-test}
 use Rattle.layout.specs.Octets.{leAt, tabulate}
 use Rattle.layout.specs.Layout.{stateLength, tickFrom, isState, cellAt, decodeOf, toldNo, putHead, keysIn}
 use Rattle.layout.specs.Sweep.{sweptOctets}

@@ -19,7 +19,7 @@ use Rattle.nch.proofs.InPlaces.{count-le}
 use Rattle.receiver.specs.Model.{noRecord, mapAt}
 use Rattle.receiver.specs.Step.{mostEntries}
 use Rattle.receiver.specs.Entries.{callWith, reducedWith, callEntry, reducedEntry, nchEntries}
-use Rattle.receiver.proofs.Standing.{getD-mapAt, length-mapAt}
+use Rattle.receiver.proofs.Loops.{getD-mapAt, length-mapAt}
 use Rattle.receiver.proofs.MessageEntries.{call-entry-is, reduced-entry-is, calls-more, reducedsOf}
 use Rattle.lent.specs.Inner.{Telling, AllTold}
 use Rattle.lent.proofs.Tellings.{all-none, all-next}

@@ -19,7 +19,7 @@ use Rattle.receiver.specs.declared.Told.{Told}
 use Rattle.receiver.specs.Channels.{channels, keyCount, places, placeOn, leads}
 use Rattle.receiver.specs.Model.{noRecord, emptySlot, keyOf, indexOf, classOf, agree, joinedOf, only, complete, storing, meetOf}
 use Rattle.receiver.proofs.Record as Declared
-use Rattle.receiver.proofs.Dropping.{by-test}
+use Rattle.receiver.proofs.Cases.{by-test}
 use Rattle.receiver.proofs.Classes.{meet-whole, meet-none, meet-first, meet-second, meet-early, meet-stored, class-least}
 use Rattle.receiver.specs.Step.{mostEntries, slotsAfter, toldOf}
 use Rattle.layout.specs.Octets.{octetAt}

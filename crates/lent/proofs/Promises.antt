@@ -13,13 +13,13 @@ use Rattle.receiver.specs.declared.Answer.{Answer}
 use Rattle.receiver.specs.Model.{startedOf}
 use Rattle.receiver.specs.Channels.{Channel}
 use Rattle.receiver.specs.Step.{Event, refusalOf, refusedWith, stepOf}
-use Rattle.receiver.specs.One.{hears, Said, fresh}
-use Rattle.receiver.specs.Calls.{timerOf, channelIn, Reply, replyBy}
-use Rattle.receiver.specs.Promises.{under, answersOn, answersEach, after, replyOf}
-use Rattle.receiver.proofs.Dropping.{by-test}
-use Rattle.receiver.proofs.Grounds.{refused-as}
-use Rattle.receiver.proofs.Isolation.{says-flat}
-use Rattle.receiver.proofs.Promises.{no-call-disturbs-another-at-any-event, the-answer-is-the-calls}
+use Rattle.isolation.specs.One.{hears, Said, fresh}
+use Rattle.isolation.specs.Calls.{timerOf, channelIn, Reply, replyBy}
+use Rattle.isolation.specs.Promises.{under, answersOn, answersEach, after, replyOf}
+use Rattle.receiver.proofs.Cases.{by-test}
+use Rattle.isolation.proofs.Grounds.{refused-as}
+use Rattle.isolation.proofs.Isolation.{says-flat}
+use Rattle.isolation.proofs.Promises.{no-call-disturbs-another-at-any-event, the-answer-is-the-calls}
 use Rattle.layout.specs.Layout.{stateLength, decodeOf, lastOf}
 use Rattle.lent.specs.Events.{Fed, Returned, codeOf, answered}
 use Rattle.lent.specs.Promises.{Run, heard, readUnder, readEach, leftAfter, shown, No-call-disturbs-another-in-octets, No-call-disturbs-another-at-any-event-in-octets}

@@ -19,7 +19,7 @@ use Rattle.receiver.specs.declared.Met.{Met}
 use Rattle.receiver.specs.Channels.{channels, keyCount, places, placeOn, leads}
 use Rattle.receiver.specs.Model.{noRecord, emptySlot, keyOf, indexOf, isClear, isWhole, isFirst, isSecond, isBare, classOf, agree, joinedOf, only, complete, storing, meetHalf, meetOf, withSlots}
 use Rattle.receiver.specs.Step.{noTold, mostEntries, slotsAfter, toldOf, allAfter, allTold}
-use Rattle.receiver.proofs.Dropping.{by-test}
+use Rattle.receiver.proofs.Cases.{by-test}
 use Rattle.layout.specs.Layout.{stateLength, kindPlace, sincePlace, recordPlace, slotNo, decodeOf, putSlot, carries, toldNo, putTold, keysIn}
 use Rattle.lent.specs.Events.{afterMeet, tellOctets, allOctets}
 use Rattle.lent.specs.Inner.{Telling, AllTold}

@@ -9,9 +9,9 @@ use Rattle.receiver.specs.declared.Setup.{Setup}
 use Rattle.receiver.specs.Model.{indexOf}
 use Rattle.receiver.specs.Channels.{Channel}
 use Rattle.receiver.specs.Step.{Event}
-use Rattle.receiver.specs.One.{hears, Said, runOne, runEach, seen, fresh}
-use Rattle.receiver.specs.Calls.{timerOf, channelIn, Reply, replyBy}
-use Rattle.receiver.specs.Promises.{under, Ticks}
+use Rattle.isolation.specs.One.{hears, Said, runOne, runEach, seen, fresh}
+use Rattle.isolation.specs.Calls.{timerOf, channelIn, Reply, replyBy}
+use Rattle.isolation.specs.Promises.{under, Ticks}
 use Rattle.layout.specs.Layout.{Last, lastOf}
 use Rattle.layout.specs.Setup.{SetUp}
 use Rattle.lent.specs.Events.{Fed, Returned, octetsAfter, codeOf}

@@ -24,7 +24,7 @@ use Rattle.receiver.specs.Model.{noNln, mapAt}
 use Rattle.receiver.specs.Entries.{callEntry, reducedEntry, nchEntries, facchEntries, pchEntries}
 use Rattle.receiver.specs.Step.{mostEntries, Happening, heardNch, heardFacch, heardPch, joins, moves, passes, Cause, nothing, joining, paged, moving}
 use Rattle.receiver.specs.Step.{numbered, numbering, contentOf, groundsOf, slotsAfter, allTold, noTold}
-use Rattle.receiver.proofs.Standing.{length-mapAt}
+use Rattle.receiver.proofs.Loops.{length-mapAt}
 
 -- ## NLN
 

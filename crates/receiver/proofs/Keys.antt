@@ -13,7 +13,7 @@ use Rattle.bits.specs.Field.{both, pick}
 use Rattle.bits.proofs.Answers.{both-true}
 use Rattle.receiver.specs.Model.{lastKey, noKey, indexOf, keysRight, keyPlaces}
 use Rattle.receiver.specs.Inner.{standsFrom}
-use Rattle.receiver.proofs.Dropping.{by-test}
+use Rattle.receiver.proofs.Cases.{by-test}
 
 -- ## The two laws
 

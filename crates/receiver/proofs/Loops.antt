@@ -74,3 +74,14 @@ pub padded-snoc : {A : Type 0} (z : A) (n : ℕ) (l : List A) (a : A) → length
 padded-snoc z zero l a h = absurd (omega arith)
 padded-snoc z (suc n) [] a h = refl
 padded-snoc z (suc n) (b ∷ l) a h = ap (λ t. b ∷ t) (padded-snoc z n l a (omega arith))
+
+-- ## A list mapped by place
+
+pub getD-mapAt : {A B : Type 0} (f : ℕ → A → B) (k : ℕ) (l : List A) (i : ℕ) (a : A) (b : B) → i < length l → getD (mapAt f k l) i b ≡ f (k + i) (getD l i a)
+getD-mapAt f k [] i a b h = absurd (omega arith)
+getD-mapAt f k (x ∷ l) zero a b h = rw add-zero
+getD-mapAt f k (x ∷ l) (suc i) a b h = rw (getD-mapAt f (suc k) l i a b (omega arith), suc-add, ← add-suc)
+
+pub length-mapAt : {A B : Type 0} (f : ℕ → A → B) (k : ℕ) (l : List A) → length (mapAt f k l) ≡ length l
+length-mapAt f k [] = refl
+length-mapAt f k (x ∷ l) = ap suc (length-mapAt f (suc k) l)

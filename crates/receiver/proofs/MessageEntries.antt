@@ -23,8 +23,7 @@ use Rattle.receiver.specs.declared.Record.{Record}
 use Rattle.receiver.specs.Model.{noRecord, mapAt}
 use Rattle.receiver.specs.Step.{mostEntries, entriesIn}
 use Rattle.receiver.specs.Entries.{callWith, reducedWith, callEntry, reducedEntry, nchEntries}
-use Rattle.receiver.proofs.Loops.{padded-snoc}
-use Rattle.receiver.proofs.Standing.{length-mapAt}
+use Rattle.receiver.proofs.Loops.{padded-snoc, length-mapAt}
 
 -- ## The k-th of the first n
 

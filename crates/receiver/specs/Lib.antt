@@ -3,7 +3,3 @@ pub mod Model
 pub mod Inner
 pub mod Entries
 pub mod Step
-pub mod One
-pub mod Calls
-pub mod History
-pub mod Promises

@@ -13,30 +13,32 @@ use borrow.Author.Tests.{leb-true, leb-false, ltb-true, ltb-false, lt-ltb, le-lt
 use Rattle.bits.specs.Field.{pick}
 use Rattle.csn1.specs.Format.{noRefusal, ground}
 use Rattle.csn1.specs.Told.{asBit}
 use Rattle.receiver.specs.declared.Record.{Record}
 use Rattle.receiver.specs.declared.Slot.{Slot}
 use Rattle.receiver.specs.declared.Told.{Told}
 use Rattle.receiver.specs.declared.Receiver.{Receiver}
 use Rattle.receiver.specs.declared.Rule.{Rule}
 use Rattle.receiver.specs.declared.Setup.{Setup}
 use Rattle.receiver.specs.Channels.{channels, keyCount, places, placeOn, Channel, numberOf}
 use Rattle.receiver.specs.Model.{emptySlot, wrapSub, lateStep, late, lastKey, keyOf, indexOf, timerAt}
 use Rattle.receiver.specs.Model.{ranOutOf, takenOf, keptOf, mapAt, sweptSlots, expiredOf, droppedOf, keyPlaces, keysRight, startedOf}
 use Rattle.receiver.specs.Step.{Event, groundsOf, refusalOf, ruleOf, ours, slotsAfter, toldOf, allAfter, allTold, stepOf}
-use Rattle.receiver.specs.One.{Half, One, Listed, listedIn, accepts, aged, mine, meetOne, heldAfter}
-use Rattle.receiver.specs.Calls.{lastTick, eventEntries, channelIn, callAfter, callAt, leftBy, lost, totalOver, subscribed, named, notOurs, toldTo, laidOut, refusedBy, acceptedBy, groundBy, replyBy}
-use Rattle.receiver.specs.Promises.{Ticks, heldOf, slotIn, replyOf}
-use Rattle.receiver.proofs.Tables.{listed-same}
-use Rattle.receiver.proofs.Places.{number-lt, timerIn, timer-at}
+use Rattle.isolation.specs.One.{Half, One, Listed, listedIn, accepts, aged, mine, meetOne, heldAfter}
+use Rattle.isolation.specs.Calls.{lastTick, eventEntries, channelIn, callAfter, callAt, leftBy, lost, totalOver, subscribed, named, notOurs, toldTo, laidOut, refusedBy, acceptedBy, groundBy, replyBy}
+use Rattle.isolation.specs.Promises.{Ticks, heldOf, slotIn, replyOf}
+use Rattle.isolation.proofs.Tables.{listed-same}
+use Rattle.isolation.proofs.Places.{number-lt, timerIn, timer-at}
 use Rattle.receiver.proofs.Keys.{no-later, own-index, lent-index, low-index}
-use Rattle.receiver.proofs.Dropping.{by-test, kept-what, expired-half, dropped-half}
-use Rattle.receiver.proofs.Standing.{getD-mapAt, placeAt, length-all, missed, told-key, our-said, entries}
+use Rattle.isolation.proofs.Dropping.{kept-what, expired-half, dropped-half}
+use Rattle.receiver.proofs.Cases.{by-test}
+use Rattle.isolation.proofs.Standing.{placeAt, length-all, missed, told-key, our-said, entries}
+use Rattle.receiver.proofs.Loops.{getD-mapAt}
 use Rattle.receiver.proofs.Entering.{after-snoc}
-use Rattle.receiver.proofs.Isolation.{Good, swept-slot, contentIn, acceptedOf, sweptBy, length-swept, Accepted, accepted, stepped, not-stepped, left-sound, after-keeps}
-use Rattle.receiver.proofs.Beginning.{made, started}
-use Rattle.receiver.proofs.LowKeys.{Low, low-keys}
-use Rattle.receiver.proofs.Totals.{counted}
-use Rattle.receiver.proofs.Calls.{state, clock-is, good, timer-is, call-is, left-is}
+use Rattle.isolation.proofs.Isolation.{Good, swept-slot, contentIn, acceptedOf, sweptBy, length-swept, Accepted, accepted, stepped, not-stepped, left-sound, after-keeps}
+use Rattle.isolation.proofs.Beginning.{made, started}
+use Rattle.isolation.proofs.LowKeys.{Low, low-keys}
+use Rattle.isolation.proofs.Totals.{counted}
+use Rattle.isolation.proofs.Calls.{state, clock-is, good, timer-is, call-is, left-is}
 
 -- ## The places of no subscription stay free
 

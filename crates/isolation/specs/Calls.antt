@@ -11,13 +11,13 @@ use Rattle.bits.specs.Field.{pick}
 use Rattle.csn1.specs.declared.Refusal.{Refusal}
 use Rattle.csn1.specs.Format.{noRefusal, ground}
 use Rattle.csn1.specs.Told.{padded}
 use Rattle.receiver.specs.declared.Record.{Record}
 use Rattle.receiver.specs.declared.Told.{Told}
 use Rattle.receiver.specs.declared.Setup.{Setup}
 use Rattle.receiver.specs.Channels.{Channel, everyChannel, byChannel}
 use Rattle.receiver.specs.Model.{noRecord, keyOf, indexOf, mapAt}
 use Rattle.receiver.specs.Step.{Event, groundsOf, noTold}
-use Rattle.receiver.specs.One.{Half, One, Said, mine, listedIn, sightOf, stepBetween, accepts, seen, meetOne, heldAfter, spared, passed, oneAfter, fresh}
+use Rattle.isolation.specs.One.{Half, One, Said, mine, listedIn, sightOf, stepBetween, accepts, seen, meetOne, heldAfter, spared, passed, oneAfter, fresh}
 
 -- T3206 runs on the NCH, T3208 on the FACCH, T3210 on the PCH
 abbrev pub timerOf : Channel → Setup → ℕ

@@ -10,18 +10,19 @@ use lib.Dec.{eqb}
 use borrow.Author.Tests.{eqb-true, eqb-false, ne-eqb}
 use Rattle.bits.specs.Field.{pick}
 use Rattle.pch.specs.Entry.{readOf as readPch}
 use Rattle.receiver.specs.declared.Record.{Record}
 use Rattle.receiver.specs.declared.Slot.{Slot}
 use Rattle.receiver.specs.Channels.{Channel, onPch}
 use Rattle.receiver.specs.Model.{keyOf, isHeld}
 use Rattle.receiver.specs.Entries.{pchEntry, pchEntries}
 use Rattle.receiver.specs.Step.{Event, Happening, heardNch, heardFacch, heardPch, joins, moves, passes, Cause, nothing, joining, paged, moving, numbered}
-use Rattle.receiver.specs.One.{goneBy, Half, Known, One, Seen, mine, sightOf, stepBetween, accepts, sees, seen, changed, heldAfter, sparedBy, stepOne, oneAfter, fresh}
-use Rattle.receiver.specs.Calls.{timerOf}
-use Rattle.receiver.specs.Promises.{halfOf, heldOf, slotIn, At-most-one-PCH-half-is-held}
-use Rattle.receiver.proofs.Dropping.{by-test, is-held}
-use Rattle.receiver.proofs.Calls.{state, call-is}
-use Rattle.receiver.proofs.Beginning.{starts}
+use Rattle.isolation.specs.One.{goneBy, Half, Known, One, Seen, mine, sightOf, stepBetween, accepts, sees, seen, changed, heldAfter, sparedBy, stepOne, oneAfter, fresh}
+use Rattle.isolation.specs.Calls.{timerOf}
+use Rattle.isolation.specs.Promises.{halfOf, heldOf, slotIn, At-most-one-PCH-half-is-held}
+use Rattle.isolation.proofs.Dropping.{is-held}
+use Rattle.receiver.proofs.Cases.{by-test}
+use Rattle.isolation.proofs.Calls.{state, call-is}
+use Rattle.isolation.proofs.Beginning.{starts}
 
 -- ## One event
 

@@ -31,11 +31,11 @@ use Rattle.facch.specs.Back.{valueOf}
 use Rattle.facch.proofs.Promises.{every-reading-stands-in-the-octets}
 use Rattle.pch.specs.Entry.{keyAt, fullAt, referenceAt, entryLength, numberAt, isSet, callIn, keyIsLow, lengthRight, hopsRight, flagsRight, referenceRight, numbersRight, inRange as pchInRange}
 use Rattle.pch.specs.Entry.{groundIn, readOf as readPch}
 use Rattle.receiver.specs.declared.Record.{Record}
 use Rattle.receiver.specs.Model.{lastKey, keyOf, mapAt}
 use Rattle.receiver.specs.Entries.{reducedCall, callEntry, reducedEntry, nchEntries, facchEntry, facchEntries, pchEntry, pchEntries}
 use Rattle.receiver.specs.Step.{Happening, heardNch, heardFacch, heardPch, joins, moves, passes, groundsOf, contentOf}
-use Rattle.receiver.proofs.Dropping.{by-test}
+use Rattle.receiver.proofs.Cases.{by-test}
 
 abbrev pub Low : List Record → Type 0
 Low [] = Unit {0}

@@ -7,12 +7,12 @@ use lib.Dec.{eqb}
 use Rattle.bits.specs.Field.{pick}
 use Rattle.nch.specs.Told.{readOf}
 use Rattle.pch.specs.Entry.{readOf as readPch}
 use Rattle.receiver.specs.declared.Move.{Move}
 use Rattle.receiver.specs.declared.Move.the-variants.{Reselection, Handover, Reconfiguration, LeftIdle}
 use Rattle.receiver.specs.Channels.{asks, leads, Channel, onNch, onFacch, onPch, numberOf, hasNln, hasPages, drops, forgets}
 use Rattle.receiver.specs.Step.{Happening, heardNch, heardFacch, heardPch, joins, moves, passes, Cause, nothing, joining, paged, moving, numbered, numbering, Content, contentOf}
-use Rattle.receiver.specs.One.{hasSegments, mayLead, showsNln, showsPages, hears, goneBy, forgottenBy, listedIn, Sight, mine, nlnSeen, pageSeen, causeSeen, sightOf}
+use Rattle.isolation.specs.One.{hasSegments, mayLead, showsNln, showsPages, hears, goneBy, forgottenBy, listedIn, Sight, mine, nlnSeen, pageSeen, causeSeen, sightOf}
 use Rattle.receiver.specs.Model.{keyOf}
 
 -- ## The tables
 

@@ -6,18 +6,18 @@ use Prim.Native.Nat.{ℕ, _^_, _≤_, _<_}
 use lib.ListN.{length}
 use borrow.Author.Tests.{eq-eqb}
 use Rattle.csn1.specs.declared.Refusal.{Refusal}
 use Rattle.receiver.specs.declared.Receiver.{Receiver}
 use Rattle.receiver.specs.declared.Setup.{Setup}
 use Rattle.receiver.specs.Channels.{Channel}
 use Rattle.receiver.specs.Model.{indexOf, startedOf}
 use Rattle.receiver.specs.Step.{Event, refusalOf, stepOf}
-use Rattle.receiver.specs.One.{One, sightOf, stepBetween, accepts, seen, spared, passed, stepSaid, sees, oneAfter}
-use Rattle.receiver.specs.Calls.{timerOf, lastTick, callAfter, leftBy}
-use Rattle.receiver.specs.Promises.{answersOn, Ticks, after, heldOf}
-use Rattle.receiver.proofs.Places.{timerIn}
-use Rattle.receiver.proofs.Grounds.{refused-as}
-use Rattle.receiver.proofs.Isolation.{view, Good, leftIn, accepted, accepts-same, stepped, left-same, step-said, step-good, viewed, after-keeps, tick-after}
-use Rattle.receiver.proofs.Beginning.{started, started-good, started-view}
+use Rattle.isolation.specs.One.{One, sightOf, stepBetween, accepts, seen, spared, passed, stepSaid, sees, oneAfter}
+use Rattle.isolation.specs.Calls.{timerOf, lastTick, callAfter, leftBy}
+use Rattle.isolation.specs.Promises.{answersOn, Ticks, after, heldOf}
+use Rattle.isolation.proofs.Places.{timerIn}
+use Rattle.isolation.proofs.Grounds.{refused-as}
+use Rattle.isolation.proofs.Isolation.{view, Good, leftIn, accepted, accepts-same, stepped, left-same, step-said, step-good, viewed, after-keeps, tick-after}
+use Rattle.isolation.proofs.Beginning.{started, started-good, started-view}
 
 -- an event that is not refused is accepted
 pub not-refused : (r : Receiver) (e : Event) → stepOf r e .refusal .number ≡ 0 → accepts (r .tick) e ≡ true

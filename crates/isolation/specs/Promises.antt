@@ -13,18 +13,18 @@ use Rattle.call.specs.declared.Call.{Call}
 use Rattle.nch.specs.Told.{readOf}
 use Rattle.facch.specs.Told.{readOf as readFacch}
 use Rattle.pch.specs.Entry.{readOf as readPch}
 use Rattle.receiver.specs.declared.Record.{Record}
 use Rattle.receiver.specs.declared.Receiver.{Receiver}
 use Rattle.receiver.specs.declared.Slot.{Slot}
 use Rattle.receiver.specs.declared.Told.{Told}
 use Rattle.receiver.specs.declared.Answer.{Answer}
 use Rattle.receiver.specs.declared.Setup.{Setup}
 use Rattle.receiver.specs.Channels.{placeOn, Channel, onPch, numberOf}
 use Rattle.receiver.specs.Model.{noRecord, emptySlot, wrapSub, keyOf, indexOf, isHeld, sweptSlots, isCiphered, agree, joinedOf, keep, startedOf}
 use Rattle.receiver.specs.Step.{Event, Happening, heardNch, heardFacch, heardPch, joins, moves, passes, refusalOf, ruleOf, stepOf}
-use Rattle.receiver.specs.One.{kindOn, Which, theFirst, theSecond, Half, One, Said, Seen, seen, sees, sightOf, heldAfter, spared, passed, stepSaid, runOne, runEach, oneAfter, fresh, hears}
-use Rattle.receiver.specs.Calls.{timerOf, notOurs, lastTick, Reply, replyBy, channelIn}
-use Rattle.receiver.specs.History.{Moment, untilEntry, pastOf, Opposite, Came-and-stayed}
+use Rattle.isolation.specs.One.{kindOn, Which, theFirst, theSecond, Half, One, Said, Seen, seen, sees, sightOf, heldAfter, spared, passed, stepSaid, runOne, runEach, oneAfter, fresh, hears}
+use Rattle.isolation.specs.Calls.{timerOf, notOurs, lastTick, Reply, replyBy, channelIn}
+use Rattle.isolation.specs.History.{Moment, untilEntry, pastOf, Opposite, Came-and-stayed}
 
 -- ## 1. Isolation
 

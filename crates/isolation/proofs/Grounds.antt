@@ -5,11 +5,11 @@ use lib.Dec.{eqb}
 use borrow.Author.Tests.{eqb-true, le-leb, lt-leb}
 use Rattle.csn1.specs.declared.Refusal.{Refusal}
 use Rattle.csn1.specs.Format.{noRefusal, ground}
 use Rattle.receiver.specs.declared.Receiver.{Receiver}
 use Rattle.receiver.specs.Model.{wrapSub, lateStep, late, lastKey}
 use Rattle.receiver.specs.Step.{Event, Happening, heardNch, heardFacch, heardPch, joins, moves, passes, groundsOf, refusalOf, stepOf}
-use Rattle.receiver.specs.Promises.{Ground}
-use Rattle.receiver.proofs.Dropping.{by-test}
+use Rattle.isolation.specs.Promises.{Ground}
+use Rattle.receiver.proofs.Cases.{by-test}
 
 -- a refusal is its number alone, so that number 0 is no refusal
 no-number : (w : Refusal) → w .number ≡ 0 → noRefusal ≡ w

@@ -8,10 +8,10 @@ use native.Mathlib.Omega.{arith}
 use lib.ListN.{length, getD, drop, length-drop}
 use lib.Seq.{getD-drop}
 use Rattle.csn1.specs.Told.{asBit}
 use Rattle.receiver.specs.declared.Slot.{Slot}
 use Rattle.receiver.specs.Channels.{channels, placeOn, Channel, everyChannel, numberOf}
 use Rattle.receiver.specs.Model.{emptySlot, countAt}
-use Rattle.receiver.specs.Calls.{sumOver, totalOver}
+use Rattle.isolation.specs.Calls.{sumOver, totalOver}
 
 -- channels whose numbers go up from n
 abbrev Numbered : ℕ → List Channel → Type 0

@@ -6,11 +6,11 @@ use mathlib.Core.Bool.{true, false}
 use mathlib.Core.Option.{Option, none, some}
 use Prim.Native.Nat.{ℕ, _+_, _-_, _≤_, _<_}
 use lib.ListN.{take}
 use Rattle.receiver.specs.declared.Record.{Record}
 use Rattle.receiver.specs.Model.{agree}
 use Rattle.receiver.specs.Channels.{Channel}
 use Rattle.receiver.specs.Step.{Cause, nothing, joining, paged, moving, numbered}
-use Rattle.receiver.specs.One.{mayLead, goneBy, Kind, clear, piece, first, second, bare, unusable, kindOn, Which, theFirst, theSecond, Half, Known, knownAfter, Seen}
+use Rattle.isolation.specs.One.{mayLead, goneBy, Kind, clear, piece, first, second, bare, unusable, kindOn, Which, theFirst, theSecond, Half, Known, knownAfter, Seen}
 
 -- ## Moments
 

@@ -3,36 +3,24 @@ use mathlib.Core.Path.{_≡_, refl, sym, ap, ap₂, _∙_}
 use mathlib.Core.Bool.{true, false}
 use mathlib.Core.List.{List, [], _∷_}
 use mathlib.Core.Option.{Option}
-use Prim.Native.Nat.{ℕ, zero, suc, _+_, _^_, _≤_, _<_}
-use native.Mathlib.Nat.{add-zero, add-suc, suc-add}
+use Prim.Native.Nat.{ℕ, _^_, _≤_, _<_}
 use native.Mathlib.Omega.{arith}
 use lib.Dec.{eqb}
 use lib.ListN.{length, getD, length-set}
 use lib.Seq.{getD-set-same, getD-set-other}
 use borrow.Author.Tests.{eqb-true, eqb-false, lt-ltb}
 use Rattle.receiver.specs.declared.Record.{Record}
 use Rattle.receiver.specs.declared.Slot.{Slot}
 use Rattle.receiver.specs.declared.Told.{Told}
-use Rattle.receiver.specs.Model.{emptySlot, keyOf, indexOf, mapAt, meetOf}
+use Rattle.receiver.specs.Model.{emptySlot, keyOf, indexOf, meetOf}
 use Rattle.receiver.specs.Step.{placeOf, ours, metAt, slotsAfter, toldOf, allAfter, allTold}
 use Rattle.receiver.specs.Channels.{keyCount, places, placeOn, Channel, numberOf}
-use Rattle.receiver.specs.One.{Half, Said, Heard, meetOne, mine, heldAfter, saidOf}
-use Rattle.receiver.specs.Promises.{under, heldOf}
-use Rattle.receiver.proofs.Places.{place-lt, same-place, same-side}
+use Rattle.isolation.specs.One.{Half, Said, Heard, meetOne, mine, heldAfter, saidOf}
+use Rattle.isolation.specs.Promises.{under, heldOf}
+use Rattle.isolation.proofs.Places.{place-lt, same-place, same-side}
 use Rattle.receiver.proofs.Keys.{same-index}
-use Rattle.receiver.proofs.Meets.{meet-same, Sound, meet-sound}
-use Rattle.receiver.proofs.Dropping.{by-test}
-
--- ## Lists
-
-pub getD-mapAt : {A B : Type 0} (f : ℕ → A → B) (k : ℕ) (l : List A) (i : ℕ) (a : A) (b : B) → i < length l → getD (mapAt f k l) i b ≡ f (k + i) (getD l i a)
-getD-mapAt f k [] i a b h = absurd (omega arith)
-getD-mapAt f k (x ∷ l) zero a b h = rw add-zero
-getD-mapAt f k (x ∷ l) (suc i) a b h = rw (getD-mapAt f (suc k) l i a b (omega arith), suc-add, ← add-suc)
-
-pub length-mapAt : {A B : Type 0} (f : ℕ → A → B) (k : ℕ) (l : List A) → length (mapAt f k l) ≡ length l
-length-mapAt f k [] = refl
-length-mapAt f k (x ∷ l) = ap suc (length-mapAt f (suc k) l)
+use Rattle.isolation.proofs.Meets.{meet-same, Sound, meet-sound}
+use Rattle.receiver.proofs.Cases.{by-test}
 
 -- ## The place of a key on a channel
 

@@ -10,15 +10,15 @@ use lib.Dec.{ltb, eqb}
 use lib.ListN.{take}
 use borrow.Author.Tests.{ltb-true, lt-ltb, eqb-true, eq-eqb}
 use Rattle.bits.specs.Field.{pick}
 use Rattle.receiver.specs.declared.Record.{Record}
 use Rattle.receiver.specs.Model.{agree, joinedOf}
 use Rattle.receiver.specs.Channels.{Channel}
 use Rattle.receiver.specs.Step.{Cause, nothing, joining, paged, moving, numbered}
-use Rattle.receiver.specs.One.{mayLead, goneBy, Kind, clear, piece, first, second, bare, unusable, kindOn, Which, theFirst, theSecond, Half, One, Known, says, newHalf}
-use Rattle.receiver.specs.One.{met, meetKind, meetOne, Seen, aged, changed, heldAfter, sparedBy, spared, passed, stepOne, oneAfter, fresh}
-use Rattle.receiver.specs.History.{Moment, wait, happens, entry, followed, opened, untilEntry, afterEvent, pastOf, lastKnown, took, elapsed, Opposite}
-use Rattle.receiver.specs.History.{Storable, Same-nln, Leaves, Spares, Begins, younger, Standing, All-spare, Came-and-stayed}
-use Rattle.receiver.specs.Promises.{heldBefore}
+use Rattle.isolation.specs.One.{mayLead, goneBy, Kind, clear, piece, first, second, bare, unusable, kindOn, Which, theFirst, theSecond, Half, One, Known, says, newHalf}
+use Rattle.isolation.specs.One.{met, meetKind, meetOne, Seen, aged, changed, heldAfter, sparedBy, spared, passed, stepOne, oneAfter, fresh}
+use Rattle.isolation.specs.History.{Moment, wait, happens, entry, followed, opened, untilEntry, afterEvent, pastOf, lastKnown, took, elapsed, Opposite}
+use Rattle.isolation.specs.History.{Storable, Same-nln, Leaves, Spares, Begins, younger, Standing, All-spare, Came-and-stayed}
+use Rattle.isolation.specs.Promises.{heldBefore}
 
 -- ## The history told from its end, and from the coming of the half
 

@@ -6,23 +6,24 @@ use lib.Dec.{eqb}
 use lib.ListN.{getD}
 use borrow.Author.Tests.{eqb-false}
 use Rattle.csn1.specs.declared.Refusal.{Refusal}
 use Rattle.receiver.specs.Model.{noRecord, timerAt, sweptSlots, expiredOf, droppedOf, startedOf}
 use Rattle.receiver.specs.Step.{refusalOf, ruleOf, stepOf}
-use Rattle.receiver.specs.One.{Half, One, Said, sees, seen, spared, passed, stepSaid, oneAfter, fresh}
-use Rattle.receiver.specs.History.{Moment, untilEntry, pastOf}
-use Rattle.receiver.specs.Calls.{timerOf, notOurs, lastTick, callAfter}
-use Rattle.receiver.specs.Promises.{No-call-disturbs-another, No-call-disturbs-another-at-any-event}
-use Rattle.receiver.specs.Promises.{An-entry-joins-exactly-where-the-opposite-half-is-held, What-is-held-came-and-stayed, An-entry-joins-exactly-where-the-opposite-half-came-and-stayed, A-refused-event-changes-nothing}
-use Rattle.receiver.specs.Promises.{saidAt, heardAt, A-call-joins-exactly-when, A-reply-and-a-receiver-are-an-answer, The-answer-is-the-calls}
-use Rattle.receiver.specs.Promises.{The-number-is-on-its-ground, The-wrapped-difference-is-the-sum, Every-lost-half-is-counted-once, Expiries-and-drops-are-counted-apart}
-use Rattle.receiver.proofs.Dropping.{by-test, expired-all, dropped-all, lost-all}
-use Rattle.receiver.proofs.Joining.{young-aged, young-spared, joins-only, joins-then}
-use Rattle.receiver.proofs.Grounds.{refused-as, late-first, in-time, on-ground}
-use Rattle.receiver.proofs.History.{came, stayed, held-after, held-until}
-use Rattle.receiver.proofs.Isolation.{isolated, answers-flat, says-flat, viewed}
-use Rattle.receiver.proofs.Calls.{state, said-is, long, not-refused}
-use Rattle.receiver.proofs.Replies.{reply}
-use Rattle.receiver.proofs.Beginning.{started, starts, started-good, started-view}
+use Rattle.isolation.specs.One.{Half, One, Said, sees, seen, spared, passed, stepSaid, oneAfter, fresh}
+use Rattle.isolation.specs.History.{Moment, untilEntry, pastOf}
+use Rattle.isolation.specs.Calls.{timerOf, notOurs, lastTick, callAfter}
+use Rattle.isolation.specs.Promises.{No-call-disturbs-another, No-call-disturbs-another-at-any-event}
+use Rattle.isolation.specs.Promises.{An-entry-joins-exactly-where-the-opposite-half-is-held, What-is-held-came-and-stayed, An-entry-joins-exactly-where-the-opposite-half-came-and-stayed, A-refused-event-changes-nothing}
+use Rattle.isolation.specs.Promises.{saidAt, heardAt, A-call-joins-exactly-when, A-reply-and-a-receiver-are-an-answer, The-answer-is-the-calls}
+use Rattle.isolation.specs.Promises.{The-number-is-on-its-ground, The-wrapped-difference-is-the-sum, Every-lost-half-is-counted-once, Expiries-and-drops-are-counted-apart}
+use Rattle.isolation.proofs.Dropping.{expired-all, dropped-all, lost-all}
+use Rattle.receiver.proofs.Cases.{by-test}
+use Rattle.isolation.proofs.Joining.{young-aged, young-spared, joins-only, joins-then}
+use Rattle.isolation.proofs.Grounds.{refused-as, late-first, in-time, on-ground}
+use Rattle.isolation.proofs.History.{came, stayed, held-after, held-until}
+use Rattle.isolation.proofs.Isolation.{isolated, answers-flat, says-flat, viewed}
+use Rattle.isolation.proofs.Calls.{state, said-is, long, not-refused}
+use Rattle.isolation.proofs.Replies.{reply}
+use Rattle.isolation.proofs.Beginning.{started, starts, started-good, started-view}
 
 pub no-call-disturbs-another-at-any-event : No-call-disturbs-another-at-any-event
 no-call-disturbs-another-at-any-event s keys t z key h c es ts =

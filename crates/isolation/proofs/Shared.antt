@@ -8,11 +8,11 @@ use borrow.Author.Tests.{eqb-true, eq-eqb, le-leb, lt-leb}
 use Rattle.bits.proofs.Answers.{both-true}
 use Rattle.csn1.specs.Told.{asBit}
 use Rattle.call.specs.declared.Call.{Call}
 use Rattle.receiver.specs.Model.{sameReference, agree, joinedOf}
-use Rattle.receiver.specs.Promises.{Same-reference, A-key-is-twice-the-reference-plus-the-service, A-key-tells-reference-and-service-apart}
-use Rattle.receiver.specs.Promises.{A-call-is-ciphered-by-its-key-number, Full-references-agree-in-all-bits, A-record-is-its-three-parts}
-use Rattle.receiver.specs.Promises.{The-rest-is-of-the-first-half, The-rand-is-of-the-second-half, The-count-is-of-the-second-half-or-the-first}
-use Rattle.receiver.proofs.Dropping.{by-test}
+use Rattle.isolation.specs.Promises.{Same-reference, A-key-is-twice-the-reference-plus-the-service, A-key-tells-reference-and-service-apart}
+use Rattle.isolation.specs.Promises.{A-call-is-ciphered-by-its-key-number, Full-references-agree-in-all-bits, A-record-is-its-three-parts}
+use Rattle.isolation.specs.Promises.{The-rest-is-of-the-first-half, The-rand-is-of-the-second-half, The-count-is-of-the-second-half-or-the-first}
+use Rattle.receiver.proofs.Cases.{by-test}
 
 -- ## Keys
 

@@ -9,13 +9,13 @@ use lib.Dec.{ltb, eqb}
 use lib.ListN.{length, take, getD}
 use borrow.Author.Tests.{ltb-true}
 use Rattle.bits.specs.Field.{pick}
 use Rattle.receiver.specs.declared.Record.{Record}
 use Rattle.receiver.specs.Model.{agree, joinedOf}
 use Rattle.receiver.specs.Channels.{Channel}
 use Rattle.receiver.specs.Step.{Cause, nothing, joining, paged, moving, numbered}
-use Rattle.receiver.specs.One.{mayLead, goneBy, Kind, clear, piece, first, second, bare, unusable, kindOn, Which, theFirst, theSecond, Half, One, Said, Heard, met, meetKind, says, newHalf, meetOne, Sight, aged, changed, heldAfter, saidOf, sparedBy, spared}
-use Rattle.receiver.specs.History.{Opposite}
-use Rattle.receiver.specs.Promises.{Opposite-held, joinedWith}
+use Rattle.isolation.specs.One.{mayLead, goneBy, Kind, clear, piece, first, second, bare, unusable, kindOn, Which, theFirst, theSecond, Half, One, Said, Heard, met, meetKind, says, newHalf, meetOne, Sight, aged, changed, heldAfter, saidOf, sparedBy, spared}
+use Rattle.isolation.specs.History.{Opposite}
+use Rattle.isolation.specs.Promises.{Opposite-held, joinedWith}
 
 -- ## One entry
 

@@ -11,19 +11,19 @@ use borrow.Author.Tests.{leb-true}
 use Rattle.bits.specs.Field.{pick}
 use Rattle.csn1.specs.Format.{ground}
 use Rattle.bits.proofs.Answers.{both-true}
 use Rattle.receiver.specs.declared.Receiver.{Receiver}
 use Rattle.receiver.specs.declared.Setup.{Setup}
 use Rattle.receiver.specs.Channels.{keyCount, places, Channel}
 use Rattle.receiver.specs.Model.{emptySlot, indexOf, newReceiver, keyPlaces, longestTimer, isTimer, keysRight, setupRight, startedOf}
-use Rattle.receiver.specs.One.{showsNln, fresh}
-use Rattle.receiver.specs.Calls.{timerOf}
-use Rattle.receiver.proofs.Meets.{empty-sound}
-use Rattle.receiver.proofs.Dropping.{by-test}
-use Rattle.receiver.proofs.Standing.{placeAt}
-use Rattle.receiver.proofs.Places.{for-each, place-lt}
+use Rattle.isolation.specs.One.{showsNln, fresh}
+use Rattle.isolation.specs.Calls.{timerOf}
+use Rattle.isolation.proofs.Meets.{empty-sound}
+use Rattle.receiver.proofs.Cases.{by-test}
+use Rattle.isolation.proofs.Standing.{placeAt}
+use Rattle.isolation.proofs.Places.{for-each, place-lt}
 use Rattle.receiver.proofs.Keys.{lent-index}
 use Rattle.receiver.proofs.KeyPlaces.{length-keys}
-use Rattle.receiver.proofs.Isolation.{view, Good}
+use Rattle.isolation.proofs.Isolation.{view, Good}
 
 -- ## What is asked of a setup
 

@@ -7,16 +7,16 @@ use native.Mathlib.Omega.{arith}
 use lib.Dec.{eqb}
 use Rattle.bits.specs.Field.{both, pick}
 use Rattle.csn1.specs.Told.{there}
 use Rattle.receiver.specs.declared.Record.{Record}
 use Rattle.receiver.specs.declared.Slot.{Slot}
 use Rattle.receiver.specs.declared.Met.{Met}
 use Rattle.receiver.specs.Channels.{Channel, numberOf, leads}
 use Rattle.receiver.specs.Model.{emptySlot, wrapSub, classOf, isCiphered, agree, joinedOf, only, complete, storing, meetHalf, meetOf}
-use Rattle.receiver.specs.One.{hasSegments, mayLead, Kind, clear, piece, first, second, bare, unusable, withSegments, withoutSegments, kindOn}
-use Rattle.receiver.specs.One.{theFirst, theSecond, Half, Heard, says, newHalf, met, meetKind, meetOne}
-use Rattle.receiver.specs.Promises.{halfOf, heldOf}
-use Rattle.receiver.proofs.Tables.{asks-same, leads-same}
-use Rattle.receiver.proofs.Clock.{ageless}
+use Rattle.isolation.specs.One.{hasSegments, mayLead, Kind, clear, piece, first, second, bare, unusable, withSegments, withoutSegments, kindOn}
+use Rattle.isolation.specs.One.{theFirst, theSecond, Half, Heard, says, newHalf, met, meetKind, meetOne}
+use Rattle.isolation.specs.Promises.{halfOf, heldOf}
+use Rattle.isolation.proofs.Tables.{asks-same, leads-same}
+use Rattle.isolation.proofs.Clock.{ageless}
 
 -- ## What an entry is: the tests against the tables
 

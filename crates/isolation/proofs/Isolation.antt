@@ -12,26 +12,28 @@ use borrow.Author.Tests.{leb-false, ltb-true, lt-ltb, le-ltb, leb-true, eqb-true
 use Rattle.bits.specs.Field.{both, pick}
 use Rattle.csn1.specs.Format.{ground}
 use Rattle.bits.proofs.Answers.{both-true}
 use Rattle.receiver.specs.declared.Slot.{Slot}
 use Rattle.receiver.specs.declared.Receiver.{Receiver}
 use Rattle.receiver.specs.declared.Cell.{Cell}
 use Rattle.receiver.specs.declared.Answer.{Answer}
 use Rattle.receiver.specs.declared.Rule.{Rule}
 use Rattle.receiver.specs.Channels.{keyCount, places, Channel, numberOf, hasPages}
 use Rattle.receiver.specs.Model.{emptySlot, noNln, longestTimer, wrapSub, lateStep, late, indexOf, spares, timerAt, keptOf, sweptSlots}
 use Rattle.receiver.specs.Step.{Event, Cause, nothing, joining, paged, moving, numbered, Content, contentOf, changes, cellAfter, taking, sparing}
 use Rattle.receiver.specs.Step.{ruleBy, ruleOf, groundsOf, refusalOf, refusedWith, acceptedAs, stepOf}
-use Rattle.receiver.specs.One.{showsNln, hears, goneBy, forgottenBy, Half, Known, One, Said, Sight, sightOf, stepBetween, accepts, sees, seen, aged, knownAfter}
-use Rattle.receiver.specs.One.{heldAfter, saidOf, sparedBy, spared, passed, stepOne, stepSaid, runOne, runEach, oneAfter}
-use Rattle.receiver.specs.Calls.{channelIn, clockAfter}
-use Rattle.receiver.specs.Promises.{under, answersOn, answers, answersEach, Ticks, after, heldOf, slotIn}
-use Rattle.receiver.proofs.Tables.{same, shows-same, drops-same, forgets-same, shown, showing, heard-same, sight-same}
-use Rattle.receiver.proofs.Places.{place-lt, timerIn, timer-at, spares-at}
+use Rattle.isolation.specs.One.{showsNln, hears, goneBy, forgottenBy, Half, Known, One, Said, Sight, sightOf, stepBetween, accepts, sees, seen, aged, knownAfter}
+use Rattle.isolation.specs.One.{heldAfter, saidOf, sparedBy, spared, passed, stepOne, stepSaid, runOne, runEach, oneAfter}
+use Rattle.isolation.specs.Calls.{channelIn, clockAfter}
+use Rattle.isolation.specs.Promises.{under, answersOn, answers, answersEach, Ticks, after, heldOf, slotIn}
+use Rattle.isolation.proofs.Tables.{same, shows-same, drops-same, forgets-same, shown, showing, heard-same, sight-same}
+use Rattle.isolation.proofs.Places.{place-lt, timerIn, timer-at, spares-at}
 use Rattle.receiver.proofs.Keys.{same-index}
-use Rattle.receiver.proofs.Meets.{Sound}
-use Rattle.receiver.proofs.Dropping.{by-test, kept-held, kept-sound}
-use Rattle.receiver.proofs.Standing.{getD-mapAt, length-mapAt, placeAt, length-all, other-channel, entries}
+use Rattle.isolation.proofs.Meets.{Sound}
+use Rattle.isolation.proofs.Dropping.{kept-held, kept-sound}
+use Rattle.receiver.proofs.Cases.{by-test}
+use Rattle.isolation.proofs.Standing.{placeAt, length-all, other-channel, entries}
+use Rattle.receiver.proofs.Loops.{getD-mapAt, length-mapAt}
 use Rattle.receiver.proofs.Accepted.{Low, low, few, told-back}
 
 -- ## What a call sees of the receiver
 

@@ -9,21 +9,17 @@ use lib.Dec.{leb, ltb, eqb}
 use borrow.Author.Tests.{leb-true, leb-false, lt-ltb, le-ltb, eqb-true, eqb-false, ne-eqb, not-true, not-false}
 use Rattle.bits.specs.Field.{both, pick}
 use Rattle.csn1.specs.Told.{asBit}
 use Rattle.receiver.specs.declared.Record.{Record}
 use Rattle.receiver.specs.declared.Slot.{Slot}
 use Rattle.receiver.specs.declared.Rule.{Rule}
 use Rattle.receiver.specs.Model.{emptySlot, longestTimer, wrapSub, lateStep, keep, spares, isHeld, ranOutOf, takenOf, keptOf, mapAt, countAt}
-use Rattle.receiver.specs.One.{Half, aged}
-use Rattle.receiver.specs.Calls.{lost}
-use Rattle.receiver.specs.Promises.{halfOf, heldOf, lostBetween}
-use Rattle.receiver.proofs.Places.{spares-keep}
-use Rattle.receiver.proofs.Clock.{elapsed}
-use Rattle.receiver.proofs.Meets.{Sound, empty-sound}
-
--- a case split on a test that keeps what the test says
-pub by-test : {P : Type 0} (b : Bool) → (b ≡ true → P) → (b ≡ false → P) → P
-by-test true f g = f refl
-by-test false f g = g refl
+use Rattle.isolation.specs.One.{Half, aged}
+use Rattle.isolation.specs.Calls.{lost}
+use Rattle.isolation.specs.Promises.{halfOf, heldOf, lostBetween}
+use Rattle.isolation.proofs.Places.{spares-keep}
+use Rattle.isolation.proofs.Clock.{elapsed}
+use Rattle.isolation.proofs.Meets.{Sound, empty-sound}
+use Rattle.receiver.proofs.Cases.{by-test}
 
 -- ## A half by the sum of steps
 

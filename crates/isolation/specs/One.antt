@@ -1,5 +1,5 @@
 -- The receiver of one call on one channel, and what it sees of the events. It is written apart from the receiver, with tables of its own for what tells the
--- channels apart and for what each event shows, discards and forgets. What both share, and no more: the types Record, Channel, Move, Event, Happening and Cause; a message
+-- channels apart and for what each event shows, discards and forgets. What both share, and no more: the types Record, Channel (with byChannel, a value for each), Move, Event, Happening and Cause; a message
 -- as it is read, and its entries (readOf, nchEntries, facchEntries, pchEntries, noRecord); an entry's key (keyOf), whether it is ciphered (isCiphered), the comparison of references
 -- (agree) and the joined record (joinedOf); and what beside the clock refuses an event (groundsOf). Assumes nothing.
 use mathlib.Core.List.{List, [], _∷_, _++_}
@@ -12,75 +12,55 @@ use Rattle.csn1.specs.Told.{there}
 use Rattle.nch.specs.Told.{readOf}
 use Rattle.facch.specs.Told.{readOf as readFacch}
 use Rattle.pch.specs.Entry.{readOf as readPch}
 use Rattle.receiver.specs.declared.Record.{Record}
 use Rattle.receiver.specs.Model.{noRecord, keyOf, isCiphered, agree, joinedOf}
 use Rattle.receiver.specs.declared.Move.{Move}
 use Rattle.receiver.specs.declared.Move.the-variants.{Reselection, Handover, Reconfiguration, LeftIdle}
-use Rattle.receiver.specs.Channels.{Channel, onNch, onFacch, onPch}
+use Rattle.receiver.specs.Channels.{byChannel, Channel, onNch, onFacch, onPch}
 use Rattle.receiver.specs.Entries.{nchEntries, facchEntries, pchEntries}
 use Rattle.receiver.specs.Step.{Event, Happening, heardNch, heardFacch, heardPch, joins, moves, passes, Cause, nothing, joining, paged, moving, numbered, groundsOf}
 
--- ## What tells the channels apart
+-- ## What tells the channels apart: NCH, FACCH, PCH
 
 -- halves are told apart by Segment Id too
 abbrev pub hasSegments : Channel → Bool
-hasSegments onNch = true
-hasSegments onFacch = false
-hasSegments onPch = false
+hasSegments c = byChannel c true false false
 
 -- a second half may come first
 abbrev pub mayLead : Channel → Bool
-mayLead onNch = true
-mayLead onFacch = false
-mayLead onPch = true
+mayLead c = byChannel c true false true
 
 -- an NLN is shown
 abbrev pub showsNln : Channel → Bool
-showsNln onNch = true
-showsNln onFacch = false
-showsNln onPch = false
+showsNln c = byChannel c true false false
 
 -- an entry of the PCH under any key is shown
 abbrev pub showsPages : Channel → Bool
-showsPages onNch = false
-showsPages onFacch = false
-showsPages onPch = true
+showsPages c = byChannel c false false true
 
 -- a message on the second is heard on the first
 abbrev pub hears : Channel → Channel → Bool
-hears onNch onNch = true
-hears onNch onFacch = false
-hears onNch onPch = false
-hears onFacch onNch = false
-hears onFacch onFacch = true
-hears onFacch onPch = false
-hears onPch onNch = false
-hears onPch onFacch = false
-hears onPch onPch = true
+hears onNch d = byChannel d true false false
+hears onFacch d = byChannel d false true false
+hears onPch d = byChannel d false false true
 
--- ## What a move of the mobile does
+-- ## What a move of the mobile does: reselection, handover, reconfiguration, leaving idle mode
+
+abbrev pub byMove : Bool → Bool → Bool → Bool → Move → Bool
+byMove r h c i Reselection = r
+byMove r h c i Handover = h
+byMove r h c i Reconfiguration = c
+byMove r h c i LeftIdle = i
 
 -- it discards the channel's halves
 abbrev pub goneBy : Channel → Move → Bool
-goneBy onNch Reselection = true
-goneBy onNch Handover = false
-goneBy onNch Reconfiguration = false
-goneBy onNch LeftIdle = false
-goneBy onFacch Reselection = false
-goneBy onFacch Handover = true
-goneBy onFacch Reconfiguration = true
-goneBy onFacch LeftIdle = false
-goneBy onPch Reselection = true
-goneBy onPch Handover = false
-goneBy onPch Reconfiguration = false
-goneBy onPch LeftIdle = true
+goneBy onNch = byMove true false false false
+goneBy onFacch = byMove false true true false
+goneBy onPch = byMove true false false true
 
 -- it makes the NLN unknown
 abbrev pub forgottenBy : Move → Bool
-forgottenBy Reselection = true
-forgottenBy Handover = false
-forgottenBy Reconfiguration = false
-forgottenBy LeftIdle = false
+forgottenBy = byMove true false false false
 
 -- ## What an entry is (document 01, "What each notified call is told")
 

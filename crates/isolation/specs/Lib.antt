@@ -1,0 +1,4 @@
+pub mod One
+pub mod Calls
+pub mod History
+pub mod Promises
