@@ -3,24 +3,31 @@
 # make test      the gate: layout, audit, tests, and every proof from nothing; its last line is 'N passed, M failed'
 # make lib       the C library: target/lib/libasternhaken.a
 # make drive     target/drive: the C library by lines, a command to a line, as vectors/README.md says
-# make install   header, archive and pkg-config file, into PREFIX (/usr/local); DESTDIR, if there is one, goes before it
+# make install   header, archive, shared library, pkg-config file, man page and Python module, into PREFIX (/usr/local); DESTDIR, if there is one, goes before it
+# make uninstall takes away what make install of this version brought, from the same PREFIX and DESTDIR
 MAKEFLAGS += --no-print-directory
-VERSION = 0.1.0
 PREFIX = /usr/local
 prefix := $(abspath $(PREFIX))
+there = $(DESTDIR)$(prefix)
+
+# The version stands in the header, and nowhere else.
+number = $(shell sed -n 's/^.define ASTERNHAKEN_VERSION_$1 //p' include/asternhaken.h)
+major := $(call number,MAJOR)
+version := $(major).$(call number,MINOR).$(call number,PATCH)
 
 # The archive of rt staticlib is for x86-64. On another processor, programs of this machine link one that is made of the same module.
 ASTERNHAKEN_LIB ?= $(if $(filter x86_64,$(shell uname -m)),target/lib,target/native)
 archive := $(ASTERNHAKEN_LIB)/libasternhaken.a
 
+need_cc = command -v $(firstword $(CC)) > /dev/null || { apt-get -qq update && apt-get -qq install -y gcc libc6-dev; }
 # A program of one C file over the library.
-compile = @command -v cc > /dev/null || { apt-get -qq update && apt-get -qq install -y gcc libc6-dev; }; \
-    mkdir -p $(dir $2) && cc -std=c99 -O2 -Iinclude $1 $(archive) -o $2
+compile = @$(need_cc); mkdir -p $(dir $2) && $(CC) -std=c99 -O2 -Iinclude $1 $(archive) -o $2
 # All steps use one target/, so make takes them one after the other.
 one_by_one = @case ' $(MAKEFLAGS)' in *' -j'*) echo 'make -j changes nothing here: rt proves side by side by itself, as many crates as RT_JOBS says.' >&2 ;; esac
 
 .NOTPARALLEL:
-.PHONY: help test demo lib drive install
+.DELETE_ON_ERROR:
+.PHONY: help test demo lib drive install uninstall
 
 help:
 	@sed -n 's/^# make/make/p' Makefile
@@ -31,14 +38,25 @@ test:
 
 lib: $(archive)
 
-target/lib/libasternhaken.a: crates.txt $(shell find crates -name '*.rt' -o -name '*.antt')
+# The proved functions alone. What is plain C (c/) is put beside them afterwards, so that a new sentence there proves nothing again.
+target/proved/x86_64.a: crates.txt $(shell find crates -name '*.rt' -o -name '*.antt')
 	$(one_by_one)
 	@tools/library $@ >&2
 
-target/native/libasternhaken.a: target/lib/libasternhaken.a tools/native-archive
-	@mkdir -p $(@D)
+# The crates of exported functions, as tools/library names them.
+parts := $(shell sed -n "s/^parts='\(.*\)'$$/\1/p" tools/library)
+
+target/proved/native.a: target/proved/x86_64.a tools/native-archive
 	@rm -f $@
-	@for part in host host_codecs; do tools/native-archive $@ $$part >&2 || exit; done
+	@for part in $(parts); do tools/native-archive $@ $$part >&2 || exit; done
+
+plain := $(wildcard c/*.c) include/asternhaken.h tools/plain-c
+
+target/lib/libasternhaken.a: target/proved/x86_64.a $(plain)
+	@tools/plain-c $< $@ x86_64
+
+target/native/libasternhaken.a: target/proved/native.a target/lib/libasternhaken.a $(plain)
+	@tools/plain-c $< $@ $(shell uname -m)
 
 demo: $(archive)
 	$(call compile,examples/control_room.c,target/demo/control_room)
@@ -47,10 +65,31 @@ demo: $(archive)
 drive: $(archive)
 	$(call compile,tests/drive.c,target/drive)
 
+# What is installed, each by its place in PREFIX: what install brings, uninstall takes away, and a folder only where it is ours alone.
+so := lib/libasternhaken.so
+ours := share/asternhaken
+installed := include/asternhaken.h lib/libasternhaken.a $(so) $(so).$(major) $(so).$(version) lib/pkgconfig/asternhaken.pc share/man/man3/asternhaken.3 \
+    $(addprefix $(ours)/,asternhaken.py control_room.py control_room.c live_list.c sample.txt)
+# A file with the version and the place of installation put in.
+filled = sed -e 's|@VERSION@|$(version)|g' -e 's|@PREFIX@|$(prefix)|g' $1 > '$(there)/$2' && chmod 644 '$(there)/$2'
+
 install: $(archive)
-	@install -d '$(DESTDIR)$(prefix)/include' '$(DESTDIR)$(prefix)/lib/pkgconfig'
-	@install -m 644 include/asternhaken.h '$(DESTDIR)$(prefix)/include'
-	@install -m 644 '$(archive)' '$(DESTDIR)$(prefix)/lib'
-	@printf '%s\n' 'prefix=$(prefix)' '' 'Name: asternhaken' 'Description: notifications of group calls in a GSM cell, read and followed' \
-	    'Version: $(VERSION)' 'Cflags: -I$${prefix}/include' 'Libs: -L$${prefix}/lib -lasternhaken' > '$(DESTDIR)$(prefix)/lib/pkgconfig/asternhaken.pc'
-	@echo '$(archive) and its header are in $(DESTDIR)$(prefix)'
+	@$(need_cc)
+	@install -d $(foreach folder,$(sort $(dir $(installed))),'$(there)/$(folder)')
+	@install -m 644 include/asternhaken.h '$(there)/include'
+	@install -m 644 '$(archive)' '$(there)/lib'
+	@$(CC) -shared -nostartfiles -Wl,-soname,libasternhaken.so.$(major) -Wl,--version-script=c/asternhaken.map -Wl,-z,defs -Wl,-z,now \
+	    -Wl,--whole-archive '$(archive)' -Wl,--no-whole-archive -o '$(there)/$(so).$(version)'
+	@chmod 644 '$(there)/$(so).$(version)'
+	@ln -sf libasternhaken.so.$(version) '$(there)/$(so).$(major)'
+	@ln -sf libasternhaken.so.$(major) '$(there)/$(so)'
+	@$(call filled,c/asternhaken.pc.in,lib/pkgconfig/asternhaken.pc)
+	@$(call filled,docs/asternhaken.3,share/man/man3/asternhaken.3)
+	@install -m 644 python/asternhaken.py examples/control_room.py examples/control_room.c examples/live_list.c examples/sample.txt '$(there)/$(ours)'
+	@echo 'Asternhaken $(version), of $(archive), is in $(there). Where that is searched for shared libraries, run ldconfig once.'
+
+# Python keeps its own form of the module beside it.
+uninstall:
+	@[ ! -d '$(there)' ] || { cd '$(there)' && rm -f $(installed) $(ours)/__pycache__/asternhaken.*.pyc; }
+	@[ ! -d '$(there)/$(ours)/__pycache__' ] || rmdir --ignore-fail-on-non-empty '$(there)/$(ours)/__pycache__'
+	@[ ! -d '$(there)/$(ours)' ] || rmdir --ignore-fail-on-non-empty '$(there)/$(ours)'

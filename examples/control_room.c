@@ -18,17 +18,17 @@
 #include <string.h>
 
 enum {
-    LINE = 4096,                             /* characters of a line at most */
-    WORDS = LINE / 2,                        /* so many words fit on it at most */
-    NAME = 12,                               /* characters of a name at most */
-    PARTS = ASTERNHAKEN_HR_AMR_CONFIG + 1    /* of an answer */
+    LINE = 4096,      /* characters of a line at most */
+    WORDS = LINE / 2, /* so many words fit on it at most */
+    NAME = 12         /* characters of a name at most */
 };
 
-/* A call that is followed, with all parts of its last complete record, when it came and in which cell; its told number is 0 until one came. */
+/* A call that is followed, with its last complete record, when that came and in which cell. */
 struct call {
     uint32_t key, tick, cell;
     char name[NAME + 1];
-    uint64_t parts[PARTS];
+    int is_complete;
+    struct asternhaken_record record;
 };
 
 static uint8_t state[ASTERNHAKEN_STATE_LENGTH];
@@ -38,13 +38,6 @@ static uint32_t cells; /* that were left: a channel is of use only in its cell *
 static int is_set_up;
 
 /* ---- Showing ---- */
-
-static uint64_t part(uint32_t entry, uint32_t which)
-{
-    uint64_t value;
-    asternhaken_read(state, sizeof state, entry, which, &value);
-    return value;
-}
 
 static const char *name_of(uint64_t key)
 {
@@ -74,11 +67,11 @@ static void show_lost(uint64_t n, const char *how)
     printf("%llu %s %s", (unsigned long long)n, n == 1 ? "half" : "halves", how);
 }
 
-static void show_frequencies(const uint64_t *p)
+static void show_frequencies(const struct asternhaken_record *r)
 {
-    unsigned long long frequencies = p[ASTERNHAKEN_FREQUENCIES];
-    if (p[ASTERNHAKEN_SHORT_LIST]) printf(", hops by the list %016llx", frequencies);
-    else printf(", hops by the allocation %0*llx", 2 * (int)p[ASTERNHAKEN_ALLOCATION_OCTETS], frequencies);
+    unsigned long long frequencies = r->frequencies;
+    if (r->short_list) printf(", hops by the list %016llx", frequencies);
+    else printf(", hops by the allocation %0*llx", 2 * (int)r->allocation_octets, frequencies);
 }
 
 /* The list of calls, each as it was last complete. */
@@ -86,20 +79,20 @@ static void show_list(void)
 {
     printf("\nCall list\n");
     for (size_t i = 0; i < n_calls; i++) {
-        const uint64_t *p = calls[i].parts;
+        const struct asternhaken_record *r = &calls[i].record;
         printf("  ");
         show_call(calls[i].key);
-        if (p[ASTERNHAKEN_TOLD] == ASTERNHAKEN_NOT_OURS) {
+        if (!calls[i].is_complete) {
             printf("  not complete yet\n");
             continue;
         }
-        printf("  channel %06llx since %lu, priority %d", (unsigned long long)p[ASTERNHAKEN_CHANNEL], (unsigned long)calls[i].tick, (int)p[ASTERNHAKEN_PRIORITY]);
+        printf("  channel %06llx since %lu, priority %d", (unsigned long long)r->channel, (unsigned long)calls[i].tick, (int)r->priority);
         if (calls[i].cell != cells) printf(", in a cell left since");
-        if (p[ASTERNHAKEN_EMERGENCY]) printf(", EMERGENCY");
-        if (p[ASTERNHAKEN_HOPS]) show_frequencies(p);
-        if (p[ASTERNHAKEN_CIPHER_KEY_NUMBER]) printf(", ciphered with key %d", (int)p[ASTERNHAKEN_CIPHER_KEY_NUMBER]);
-        if (p[ASTERNHAKEN_RAND_GIVEN]) printf(", VSTK_RAND %09llx", (unsigned long long)p[ASTERNHAKEN_VSTK_RAND]);
-        if (p[ASTERNHAKEN_COUNTED]) printf(", count %d", (int)p[ASTERNHAKEN_CELL_GLOBAL_COUNT]);
+        if (r->emergency) printf(", EMERGENCY");
+        if (r->hops) show_frequencies(r);
+        if (r->cipher_key_number) printf(", ciphered with key %d", (int)r->cipher_key_number);
+        if (r->rand_given) printf(", VSTK_RAND %09llx", (unsigned long long)r->vstk_rand);
+        if (r->count_given) printf(", count %d", (int)r->cell_global_count);
         printf("\n");
     }
 }
@@ -107,25 +100,25 @@ static void show_list(void)
 /* ---- Events ---- */
 
 /* Keeps the record of a complete call. */
-static void keep(uint32_t entry, uint32_t tick)
+static void keep(const struct asternhaken_entry *entry, uint32_t tick)
 {
     for (size_t i = 0; i < n_calls; i++) {
-        if (calls[i].key != part(entry, ASTERNHAKEN_KEY_OF)) continue;
+        if (calls[i].key != entry->key) continue;
         calls[i].tick = tick;
         calls[i].cell = cells;
-        for (uint32_t p = 0; p < PARTS; p++) calls[i].parts[p] = part(entry, p);
+        calls[i].is_complete = 1;
+        calls[i].record = entry->record;
     }
 }
 
-static void show_entry(uint32_t entry, uint32_t tick)
+static void show_entry(const struct asternhaken_entry *entry, uint32_t tick)
 {
-    uint64_t told = part(entry, ASTERNHAKEN_TOLD);
-    show_call(part(entry, ASTERNHAKEN_KEY_OF));
-    if (told < ASTERNHAKEN_CLEAR || told > ASTERNHAKEN_JOINED) {
-        printf("  %d %s", (int)told, asternhaken_told_word(told));
+    show_call(entry->key);
+    if (entry->told < ASTERNHAKEN_TOLD_CLEAR || entry->told > ASTERNHAKEN_TOLD_JOINED) {
+        printf("  %d %s", (int)entry->told, asternhaken_told_word(entry->told));
         return;
     }
-    printf("  %d %-19s  %06llx", (int)told, asternhaken_told_word(told), (unsigned long long)part(entry, ASTERNHAKEN_CHANNEL));
+    printf("  %d %-19s  %06llx", (int)entry->told, asternhaken_told_word(entry->told), (unsigned long long)entry->record.channel);
     keep(entry, tick);
 }
 
@@ -142,15 +135,17 @@ static void show_answer(uint32_t result, uint32_t tick, const char *word)
         show_refusal(ASTERNHAKEN_REFUSAL(result));
         return;
     }
-    uint64_t expired = part(0, ASTERNHAKEN_EXPIRED), dropped = part(0, ASTERNHAKEN_DROPPED);
-    uint32_t count = (uint32_t)part(0, ASTERNHAKEN_COUNT);
-    if (expired) show_lost(expired, "ran out");
-    if (expired && dropped) printf(", ");
-    if (dropped) show_lost(dropped, "dropped");
-    if (!expired && !dropped && !count) printf("-");
-    for (uint32_t entry = 0; entry < count; entry++) {
-        if (entry || expired || dropped) next_line();
-        show_entry(entry, tick);
+    struct asternhaken_answer answer;
+    struct asternhaken_entry entry;
+    asternhaken_answer_get(state, sizeof state, &answer);
+    if (answer.expired) show_lost(answer.expired, "ran out");
+    if (answer.expired && answer.dropped) printf(", ");
+    if (answer.dropped) show_lost(answer.dropped, "dropped");
+    if (!answer.expired && !answer.dropped && !answer.entry_count) printf("-");
+    for (uint32_t i = 0; i < answer.entry_count; i++) {
+        if (i || answer.expired || answer.dropped) next_line();
+        asternhaken_entry_get(state, sizeof state, i, &entry);
+        show_entry(&entry, tick);
     }
     printf("\n");
 }
@@ -271,12 +266,12 @@ static int pch_part(char *word, struct asternhaken_pch_entry *entry)
         if (digit(*at) < 0) return 0;
         value = 16 * value + (uint64_t)digit(*at);
     }
-    if (!strcmp(word, "full")) entry->full = 1, entry->reference = value;
-    else if (!strcmp(word, "channel")) entry->described = 1, entry->channel = value;
+    if (!strcmp(word, "full")) entry->reference_given = 1, entry->reference = value;
+    else if (!strcmp(word, "channel")) entry->channel_given = 1, entry->channel = value;
     else if (!strcmp(word, "allocation")) entry->hops = 1, entry->allocation_octets = (digits + 1) / 2, entry->frequencies = value;
     else if (!strcmp(word, "list")) entry->hops = entry->short_list = 1, entry->frequencies = value;
     else if (!strcmp(word, "rand")) entry->rand_given = 1, entry->vstk_rand = value;
-    else if (!strcmp(word, "count")) entry->counted = 1, entry->cell_global_count = value;
+    else if (!strcmp(word, "count")) entry->count_given = 1, entry->cell_global_count = value;
     else return 0;
     return 1;
 }
@@ -291,7 +286,7 @@ static const char *paging_channel(char **words, size_t n, uint32_t tick)
     entry.key = key;
     for (size_t i = 3; i < n; i++)
         if (!pch_part(words[i], &entry)) return "PART is no ciphered, full=, channel=, allocation=, list=, rand= or count= with up to 16 digits";
-    show_answer(asternhaken_pch(state, sizeof state, tick, &entry.key, ASTERNHAKEN_PCH_NUMBERS), tick, words[0]);
+    show_answer(asternhaken_pch_put(state, sizeof state, tick, &entry), tick, words[0]);
     return NULL;
 }
 

@@ -4,29 +4,73 @@
  *
  *     uint8_t state[ASTERNHAKEN_STATE_LENGTH];
  *     uint32_t keys[2] = { ASTERNHAKEN_KEY(1234, 1), ASTERNHAKEN_KEY(1234, 0) };
- *     asternhaken_setup(state, sizeof state, keys, 2, tick, ASTERNHAKEN_T3206, ASTERNHAKEN_T3208, ASTERNHAKEN_T3210);
- *     if (ASTERNHAKEN_REFUSAL(asternhaken_nch(state, sizeof state, tick, octets, 20)) == ASTERNHAKEN_ACCEPTED) {
- *         uint64_t count, told;
- *         asternhaken_read(state, sizeof state, 0, ASTERNHAKEN_COUNT, &count);
- *         asternhaken_read(state, sizeof state, 0, ASTERNHAKEN_TOLD, &told);
+ *     uint32_t result = asternhaken_setup(state, sizeof state, keys, 2, tick, ASTERNHAKEN_T3206, ASTERNHAKEN_T3208, ASTERNHAKEN_T3210);
+ *     ...
+ *     result = asternhaken_nch(state, sizeof state, tick, octets, 20);
+ *     if (ASTERNHAKEN_REFUSAL(result) == ASTERNHAKEN_ACCEPTED) {
+ *         uint64_t count;
+ *         struct asternhaken_entry entry;
+ *         asternhaken_read(state, sizeof state, 0, ASTERNHAKEN_PART_ENTRY_COUNT, &count);
+ *         for (uint32_t i = 0; i < count; i++) asternhaken_entry_get(state, sizeof state, i, &entry), show(entry.key, entry.told, entry.record.channel);
  *     }
  *
  * Every function answers for every input; nothing has to be checked before a call. No pointer may be null, not even to lend nothing; lent memory must be
  * as long as the length beside it says, and what one call lends to be written must not overlap anything else lent to it. Nothing is kept between calls
  * but what stands in the state, so each state may be used by a thread of its own, and a state may be copied, saved and sent.
  *
- * Every function answers with a refusal number in the low octet of its result, and ASTERNHAKEN_ACCEPTED (0) where it refuses nothing. The upper bits
- * are 0 today and kept for later parts of an answer: compare with ASTERNHAKEN_REFUSAL(result). A refused event leaves every octet of the state as it
- * was, the clock included. The octets of the state are laid out in docs/STATE.md. */
+ * Every function that is lent something, but for asternhaken_is_set_up, answers with a refusal number in the low octet of its result, and ASTERNHAKEN_ACCEPTED (0)
+ * where it refuses nothing. The upper bits are 0 today and kept for later parts of an answer: compare with ASTERNHAKEN_REFUSAL(result). A refused event leaves every
+ * octet of the state as it was, the clock included. The octets of the state are laid out in docs/STATE.md; docs/C-API.md tells a host's programmer the rest.
+ *
+ * Names: ASTERNHAKEN_REFUSED_ is a refusal number, ASTERNHAKEN_TOLD_ a told number, ASTERNHAKEN_PART_ a part for asternhaken_read, ASTERNHAKEN_PCH_ a number of a PCH entry.
+ * A flag that says whether something is there ends in _GIVEN, or _given: channel_given stands beside channel. What is not there is 0.
+ * Each struct is made of uint64_t alone and has the layout of the array of numbers that it stands for; get, put, decode and encode are for structs, read, write and numbers for arrays. */
 #ifndef ASTERNHAKEN_H
 #define ASTERNHAKEN_H
 
 #include <stddef.h>
 #include <stdint.h>
 
+/* A result that must not be ignored, where the compiler can be told. */
+#if (defined __cplusplus && __cplusplus >= 201703L) || (defined __STDC_VERSION__ && __STDC_VERSION__ >= 202311L)
+#define ASTERNHAKEN_MUST_USE [[nodiscard]]
+#elif defined __GNUC__
+#define ASTERNHAKEN_MUST_USE __attribute__((warn_unused_result))
+#else
+#define ASTERNHAKEN_MUST_USE
+#endif
+
+/* A struct has the size of so many numbers, or the header does not compile. */
+#if defined __cplusplus && __cplusplus >= 201103L
+#define ASTERNHAKEN_SIZE_(name, numbers) static_assert(sizeof(struct name) == (numbers) * sizeof(uint64_t), "struct " #name)
+#elif defined __STDC_VERSION__ && __STDC_VERSION__ >= 201112L
+#define ASTERNHAKEN_SIZE_(name, numbers) _Static_assert(sizeof(struct name) == (numbers) * sizeof(uint64_t), "struct " #name)
+#else
+#define ASTERNHAKEN_SIZE_(name, numbers) typedef char name##_size_[sizeof(struct name) == (numbers) * sizeof(uint64_t) ? 1 : -1]
+#endif
+
+/* A struct as the array of its numbers. */
+#ifdef __cplusplus
+#define ASTERNHAKEN_AS_(type, pointer) reinterpret_cast<type *>(pointer)
+#else
+#define ASTERNHAKEN_AS_(type, pointer) ((type *)(pointer))
+#endif
+
 #ifdef __cplusplus
 extern "C" {
 #endif
+
+/* The version of this header, in three numbers. Everything else that names a version follows from them: the text, the number, the library's file names, the pkg-config file. */
+#define ASTERNHAKEN_VERSION_MAJOR 0
+#define ASTERNHAKEN_VERSION_MINOR 2
+#define ASTERNHAKEN_VERSION_PATCH 0
+#define ASTERNHAKEN_VERSION_NUMBER (ASTERNHAKEN_VERSION_MAJOR * 10000 + ASTERNHAKEN_VERSION_MINOR * 100 + ASTERNHAKEN_VERSION_PATCH)
+#define ASTERNHAKEN_VERSION ASTERNHAKEN_TEXT_(ASTERNHAKEN_VERSION_MAJOR, ASTERNHAKEN_VERSION_MINOR, ASTERNHAKEN_VERSION_PATCH) /* as "1.2.3" */
+#define ASTERNHAKEN_TEXT_(major, minor, patch) ASTERNHAKEN_DOTS_(major, minor, patch)
+#define ASTERNHAKEN_DOTS_(major, minor, patch) #major "." #minor "." #patch
+
+/* The number of the library that is linked; that of the header is ASTERNHAKEN_VERSION_NUMBER. */
+uint32_t asternhaken_version(void);
 
 /* Sizes and limits. */
 #define ASTERNHAKEN_STATE_LENGTH 10040 /* octets of the lent state */
@@ -42,6 +86,10 @@ extern "C" {
 #define ASTERNHAKEN_FACCH_SHORTEST 2   /* octets of a FACCH message */
 #define ASTERNHAKEN_FACCH_LONGEST 23
 #define ASTERNHAKEN_PCH_NUMBERS 14     /* numbers of a PCH entry */
+#define ASTERNHAKEN_RECORD_NUMBERS 30  /* numbers of a record: the parts from ASTERNHAKEN_PART_CALL_REFERENCE on */
+#define ASTERNHAKEN_ENTRY_NUMBERS 32   /* numbers of an entry of an answer: the parts from ASTERNHAKEN_PART_KEY on */
+#define ASTERNHAKEN_HELD_NUMBERS 34    /* numbers of a half that is held */
+#define ASTERNHAKEN_NEVER 4294967295u  /* ms: no half is held, and none will run out */
 
 /* A subscription's key: the reference (at most 99,999,999) times 2 plus the service flag, 1 for VGCS and 0 for VBS. */
 #define ASTERNHAKEN_KEY(reference, vgcs) ((uint32_t)(reference) * 2u + (uint32_t)(vgcs))
@@ -51,76 +99,76 @@ extern "C" {
 
 enum asternhaken_refusal {
     ASTERNHAKEN_ACCEPTED = 0,
-    ASTERNHAKEN_MESSAGE_LENGTH = 1,    /* an NCH message not of 20 octets, a FACCH message not of 2 to 23 */
-    ASTERNHAKEN_RAN_OUT = 2,           /* the bits ran out inside a part */
-    ASTERNHAKEN_ALLOCATION_LENGTH = 3, /* a mobile allocation's length is not 1 to 8 */
-    ASTERNHAKEN_REFERENCE = 4,         /* a reference above 99,999,999, in a message or a call reference element; a key above 199,999,999, joined or on the PCH */
-    ASTERNHAKEN_HOPPING = 5,           /* the hopping bit is unlike the hopping flag */
-    ASTERNHAKEN_RANDOM_ENTRIES = 6,    /* NCH: more random entries than ciphered calls, reduced references included */
-    ASTERNHAKEN_EMERGENCY_MARKS = 7,   /* NCH: more emergency marks than described calls */
-    ASTERNHAKEN_PAGING = 8,            /* FACCH: the paging branch */
-    ASTERNHAKEN_CLOCK = 9,             /* a clock step of 2^31 ms or more: after such a pause, set up anew */
-    ASTERNHAKEN_SETUP = 10,            /* over 50 keys, a key above 199,999,999, a repeat, a timer outside 1 to 60,000 */
-    ASTERNHAKEN_FORM_SIZE = 11,        /* a written form over 160 bits, or a write buffer not of the form's exact size */
-    ASTERNHAKEN_RANGE = 12,            /* a field out of its range; to write, anything but zero in an absent part or an unused place; PCH: parts that do not fit each other */
-    ASTERNHAKEN_LENGTH = 13            /* an element, an array to write, a PCH entry or the lent state of a wrong length; a cause that never ends */
+    ASTERNHAKEN_REFUSED_MESSAGE_LENGTH = 1,    /* an NCH message not of 20 octets, a FACCH message not of 2 to 23 */
+    ASTERNHAKEN_REFUSED_RAN_OUT = 2,           /* the bits ran out inside a part */
+    ASTERNHAKEN_REFUSED_ALLOCATION_LENGTH = 3, /* a mobile allocation's length is not 1 to 8 */
+    ASTERNHAKEN_REFUSED_REFERENCE = 4,         /* a reference above 99,999,999, in a message or a call reference element; a key above 199,999,999, joined or on the PCH */
+    ASTERNHAKEN_REFUSED_HOPPING = 5,           /* the hopping bit is unlike the hopping flag */
+    ASTERNHAKEN_REFUSED_RANDOM_ENTRIES = 6,    /* NCH: more random entries than ciphered calls, reduced references included */
+    ASTERNHAKEN_REFUSED_EMERGENCY_MARKS = 7,   /* NCH: more emergency marks than described calls */
+    ASTERNHAKEN_REFUSED_PAGING = 8,            /* FACCH: the paging branch */
+    ASTERNHAKEN_REFUSED_CLOCK = 9,             /* a clock step of 2^31 ms or more: after such a pause, set up anew */
+    ASTERNHAKEN_REFUSED_SETUP = 10,            /* over 50 keys, a key above 199,999,999, a repeat, a timer outside 1 to 60,000 */
+    ASTERNHAKEN_REFUSED_FORM_SIZE = 11,        /* a written form over 160 bits, or a write buffer not of the form's exact size */
+    ASTERNHAKEN_REFUSED_RANGE = 12,            /* a field out of its range; to write, anything but zero in an absent part or an unused place; PCH: parts that do not fit each other */
+    ASTERNHAKEN_REFUSED_LENGTH = 13            /* an element, an array to write, a PCH entry or the lent state of a wrong length; a cause that never ends */
 };
 
 /* What an entry of a message is told. Only 1 to 3 carry a record. */
 enum asternhaken_told {
-    ASTERNHAKEN_NOT_OURS = 0,            /* its key is not subscribed */
-    ASTERNHAKEN_CLEAR = 1,               /* complete: not ciphered, with a channel */
-    ASTERNHAKEN_ONE_PIECE = 2,           /* complete: ciphered, with channel and VSTK_RAND in one message */
-    ASTERNHAKEN_JOINED = 3,              /* complete: the missing half came */
-    ASTERNHAKEN_HALF_STORED = 4,         /* one half, kept until the other comes or it is dropped */
-    ASTERNHAKEN_HALF_HELD = 5,           /* the same half again; the one held and its timer stay */
-    ASTERNHAKEN_NO_CHANNEL = 6,          /* a call without a channel, and no second half */
-    ASTERNHAKEN_UNUSABLE = 7,            /* any other case, or a half whose reference disagrees with the one held */
-    ASTERNHAKEN_SECOND_BEFORE_FIRST = 8  /* FACCH: a second half with no first one held; nothing is stored */
+    ASTERNHAKEN_TOLD_NOT_OURS = 0,           /* its key is not subscribed */
+    ASTERNHAKEN_TOLD_CLEAR = 1,              /* complete: not ciphered, with a channel */
+    ASTERNHAKEN_TOLD_ONE_PIECE = 2,          /* complete: ciphered, with channel and VSTK_RAND in one message */
+    ASTERNHAKEN_TOLD_JOINED = 3,             /* complete: the missing half came */
+    ASTERNHAKEN_TOLD_HALF_STORED = 4,        /* one half, kept until the other comes or it is dropped */
+    ASTERNHAKEN_TOLD_HALF_HELD = 5,          /* the same half again; the one held and its timer stay */
+    ASTERNHAKEN_TOLD_NO_CHANNEL = 6,         /* a call without a channel, and no second half */
+    ASTERNHAKEN_TOLD_UNUSABLE = 7,           /* any other case, or a half whose reference disagrees with the one held */
+    ASTERNHAKEN_TOLD_SECOND_BEFORE_FIRST = 8 /* FACCH: a second half with no first one held; nothing is stored */
 };
 
 /* Parts for asternhaken_read. What a part is not there for reads as 0. */
 enum asternhaken_part {
     /* of the last accepted event; the entry is not looked at */
-    ASTERNHAKEN_EXPIRED = 0, /* halves that ran out at this event */
-    ASTERNHAKEN_DROPPED = 1, /* halves that the event itself dropped */
-    ASTERNHAKEN_COUNT = 2,   /* its entries, 0 to 9; entries are numbered from 0 */
+    ASTERNHAKEN_PART_EXPIRED = 0,     /* halves that ran out at this event */
+    ASTERNHAKEN_PART_DROPPED = 1,     /* halves that the event itself dropped */
+    ASTERNHAKEN_PART_ENTRY_COUNT = 2, /* its entries, 0 to 9; entries are numbered from 0 */
     /* of an entry */
-    ASTERNHAKEN_KEY_OF = 3,  /* reference times 2 plus service flag */
-    ASTERNHAKEN_TOLD = 4,    /* enum asternhaken_told */
+    ASTERNHAKEN_PART_KEY = 3,  /* reference times 2 plus service flag */
+    ASTERNHAKEN_PART_TOLD = 4, /* enum asternhaken_told */
     /* of its record, where it was told 1 to 3 */
-    ASTERNHAKEN_CALL_REFERENCE = 5,
-    ASTERNHAKEN_CHANNEL = 6,       /* Channel Description, 24 bits */
-    ASTERNHAKEN_FREQUENCIES = 7,   /* the octets of a Mobile Allocation, the first the highest, or the 64 bits of a Frequency Short List, as one number */
-    ASTERNHAKEN_VSTK_RAND = 8,     /* 36 bits */
+    ASTERNHAKEN_PART_CALL_REFERENCE = 5,
+    ASTERNHAKEN_PART_CHANNEL = 6,     /* Channel Description, 24 bits */
+    ASTERNHAKEN_PART_FREQUENCIES = 7, /* the octets of a Mobile Allocation, the first the highest, or the 64 bits of a Frequency Short List, as one number */
+    ASTERNHAKEN_PART_VSTK_RAND = 8,   /* 36 bits */
     /* flags, 0 or 1 */
-    ASTERNHAKEN_FULL = 9,          /* a full reference of 36 bits, not a reduced one */
-    ASTERNHAKEN_VGCS = 10,         /* the service flag: 1 VGCS, 0 VBS */
-    ASTERNHAKEN_ACKNOWLEDGED = 11, /* the acknowledgement flag */
-    ASTERNHAKEN_DESCRIBED = 12,    /* a channel description is there */
-    ASTERNHAKEN_HOPS = 13,         /* the channel hops */
-    ASTERNHAKEN_SHORT_LIST = 14,   /* the frequencies are a short list, not a mobile allocation */
-    ASTERNHAKEN_SEGMENTED = 15,    /* a Segment Id is there */
-    ASTERNHAKEN_SEGMENT_ID = 16,
-    ASTERNHAKEN_RAND_GIVEN = 17,   /* a VSTK_RAND is there */
-    ASTERNHAKEN_EMERGENCY = 18,
-    ASTERNHAKEN_COUNTED = 19,      /* a CELL_GLOBAL_COUNT is there */
-    ASTERNHAKEN_B22_COUNT = 20,
-    ASTERNHAKEN_UPLINK_GIVEN = 21, /* a Priority Uplink Access is there */
-    ASTERNHAKEN_UPLINK_ACCESS = 22,
-    ASTERNHAKEN_AMR = 23,          /* AMR parts are there */
-    ASTERNHAKEN_FR_AMR_GIVEN = 24,
-    ASTERNHAKEN_HR_AMR_GIVEN = 25,
-    ASTERNHAKEN_SMS = 26,          /* the two SMS bits are there */
-    ASTERNHAKEN_SMS_CONFIDENTIALITY = 27,
-    ASTERNHAKEN_SMS_PRIVACY = 28,
+    ASTERNHAKEN_PART_FULL = 9,           /* a full reference of 36 bits, not a reduced one */
+    ASTERNHAKEN_PART_VGCS = 10,          /* the service flag: 1 VGCS, 0 VBS */
+    ASTERNHAKEN_PART_ACKNOWLEDGED = 11,  /* the acknowledgement flag */
+    ASTERNHAKEN_PART_CHANNEL_GIVEN = 12, /* a channel description is there */
+    ASTERNHAKEN_PART_HOPS = 13,          /* the channel hops */
+    ASTERNHAKEN_PART_SHORT_LIST = 14,    /* the frequencies are a short list, not a mobile allocation */
+    ASTERNHAKEN_PART_SEGMENT_GIVEN = 15, /* a Segment Id is there */
+    ASTERNHAKEN_PART_SEGMENT_ID = 16,
+    ASTERNHAKEN_PART_RAND_GIVEN = 17,    /* a VSTK_RAND is there */
+    ASTERNHAKEN_PART_EMERGENCY = 18,
+    ASTERNHAKEN_PART_COUNT_GIVEN = 19,   /* a CELL_GLOBAL_COUNT is there */
+    ASTERNHAKEN_PART_B22_COUNT = 20,
+    ASTERNHAKEN_PART_UPLINK_GIVEN = 21,  /* a Priority Uplink Access is there */
+    ASTERNHAKEN_PART_UPLINK_ACCESS = 22,
+    ASTERNHAKEN_PART_AMR_GIVEN = 23,     /* AMR parts are there */
+    ASTERNHAKEN_PART_FR_AMR_GIVEN = 24,
+    ASTERNHAKEN_PART_HR_AMR_GIVEN = 25,
+    ASTERNHAKEN_PART_SMS_GIVEN = 26,     /* the two SMS bits are there */
+    ASTERNHAKEN_PART_SMS_CONFIDENTIALITY = 27,
+    ASTERNHAKEN_PART_SMS_PRIVACY = 28,
     /* small numbers */
-    ASTERNHAKEN_PRIORITY = 29,          /* 0 to 7 */
-    ASTERNHAKEN_CIPHER_KEY_NUMBER = 30, /* 0 is not ciphered */
-    ASTERNHAKEN_ALLOCATION_OCTETS = 31, /* the octets of a Mobile Allocation, 1 to 8 */
-    ASTERNHAKEN_CELL_GLOBAL_COUNT = 32, /* 0 to 3 */
-    ASTERNHAKEN_FR_AMR_CONFIG = 33,
-    ASTERNHAKEN_HR_AMR_CONFIG = 34
+    ASTERNHAKEN_PART_PRIORITY = 29,          /* 0 to 7 */
+    ASTERNHAKEN_PART_CIPHER_KEY_NUMBER = 30, /* 0 is not ciphered */
+    ASTERNHAKEN_PART_ALLOCATION_OCTETS = 31, /* the octets of a Mobile Allocation, 1 to 8 */
+    ASTERNHAKEN_PART_CELL_GLOBAL_COUNT = 32, /* 0 to 3 */
+    ASTERNHAKEN_PART_FR_AMR_CONFIG = 33,
+    ASTERNHAKEN_PART_HR_AMR_CONFIG = 34
 };
 
 /* The numbers of a PCH entry. What stands behind a flag of 0 is not looked at, nor is what the description does not use: behind a hopping flag of 0 the short list flag, the
@@ -128,9 +176,9 @@ enum asternhaken_part {
 enum asternhaken_pch_number {
     ASTERNHAKEN_PCH_KEY = 0,               /* reference times 2 plus service flag */
     ASTERNHAKEN_PCH_CIPHERED = 1,          /* flag; with a full reference, as its cipher key number says */
-    ASTERNHAKEN_PCH_FULL = 2,              /* a full reference is there: needed for a description */
+    ASTERNHAKEN_PCH_REFERENCE_GIVEN = 2,   /* a full reference is there: needed for a description */
     ASTERNHAKEN_PCH_REFERENCE = 3,         /* its 36 bits as one number: reference 27, service flag 1 (both as in the key), acknowledgement flag 1, priority 3, cipher key number 4 */
-    ASTERNHAKEN_PCH_DESCRIBED = 4,         /* a channel description is there */
+    ASTERNHAKEN_PCH_CHANNEL_GIVEN = 4,     /* a channel description is there */
     ASTERNHAKEN_PCH_CHANNEL = 5,           /* Channel Description, 24 bits; bit 11 as the hopping flag */
     ASTERNHAKEN_PCH_HOPS = 6,              /* the hopping flag */
     ASTERNHAKEN_PCH_SHORT_LIST = 7,        /* the frequencies are a short list, not a mobile allocation */
@@ -138,136 +186,398 @@ enum asternhaken_pch_number {
     ASTERNHAKEN_PCH_FREQUENCIES = 9,       /* the octets of a Mobile Allocation, the first the highest, or the 64 bits of a Frequency Short List, as one number */
     ASTERNHAKEN_PCH_RAND_GIVEN = 10,       /* a VSTK_RAND is there */
     ASTERNHAKEN_PCH_VSTK_RAND = 11,        /* 36 bits */
-    ASTERNHAKEN_PCH_COUNTED = 12,          /* a CELL_GLOBAL_COUNT is there */
+    ASTERNHAKEN_PCH_COUNT_GIVEN = 12,      /* a CELL_GLOBAL_COUNT is there */
     ASTERNHAKEN_PCH_CELL_GLOBAL_COUNT = 13 /* 0 to 3 */
 };
 
-/* The same numbers by name. With such an entry, asternhaken_pch(state, sizeof state, tick, &entry.key, ASTERNHAKEN_PCH_NUMBERS) hands it in. */
+/* The same numbers by name; asternhaken_pch_put hands such an entry in. */
 struct asternhaken_pch_entry {
-    uint64_t key, ciphered, full, reference;
-    uint64_t described, channel, hops, short_list, allocation_octets, frequencies;
-    uint64_t rand_given, vstk_rand, counted, cell_global_count;
+    uint64_t key, ciphered, reference_given, reference;
+    uint64_t channel_given, channel, hops, short_list, allocation_octets, frequencies;
+    uint64_t rand_given, vstk_rand, count_given, cell_global_count;
 };
+ASTERNHAKEN_SIZE_(asternhaken_pch_entry, ASTERNHAKEN_PCH_NUMBERS);
+
+/* The parts of the last accepted event by name. */
+struct asternhaken_answer {
+    uint64_t expired, dropped, entry_count;
+};
+
+/* The parts of a record by name: where enum asternhaken_part has ASTERNHAKEN_PART_VSTK_RAND, it has vstk_rand, and in the same order. */
+struct asternhaken_record {
+    uint64_t call_reference, channel, frequencies, vstk_rand;
+    uint64_t full, vgcs, acknowledged, channel_given, hops, short_list, segment_given, segment_id, rand_given, emergency;
+    uint64_t count_given, b22_count, uplink_given, uplink_access, amr_given, fr_amr_given, hr_amr_given, sms_given, sms_confidentiality, sms_privacy;
+    uint64_t priority, cipher_key_number, allocation_octets, cell_global_count, fr_amr_config, hr_amr_config;
+};
+ASTERNHAKEN_SIZE_(asternhaken_record, ASTERNHAKEN_RECORD_NUMBERS);
+
+/* An entry of the answer: what it is told, and its record where that is 1 to 3, else zeros. */
+struct asternhaken_entry {
+    uint64_t key;  /* reference times 2 plus service flag */
+    uint64_t told; /* enum asternhaken_told */
+    struct asternhaken_record record;
+};
+ASTERNHAKEN_SIZE_(asternhaken_entry, ASTERNHAKEN_ENTRY_NUMBERS);
+
+/* What a half came on, and which it is. */
+enum asternhaken_on { ASTERNHAKEN_ON_NCH = 0, ASTERNHAKEN_ON_FACCH = 1, ASTERNHAKEN_ON_PCH = 2 };
+enum asternhaken_half { ASTERNHAKEN_FIRST_HALF = 1, ASTERNHAKEN_SECOND_HALF = 2 };
+
+/* A half that is held. */
+struct asternhaken_held {
+    uint64_t key;     /* of its subscription */
+    uint64_t on;      /* enum asternhaken_on */
+    uint64_t half;    /* enum asternhaken_half; in octets that no setup left, it may be another number, but not 0 */
+    uint64_t ms_left; /* from the last accepted event: it runs out at the first event so much later */
+    struct asternhaken_record record;
+};
+ASTERNHAKEN_SIZE_(asternhaken_held, ASTERNHAKEN_HELD_NUMBERS);
 
 /* ---- The receiver ---- */
 
 /* Makes the lent octets a receiver that holds nothing, whatever they held. The place of a subscription is its place among the keys. */
-uint32_t asternhaken_setup(uint8_t *state, size_t state_length, const uint32_t *keys, size_t n_keys, uint32_t tick, uint32_t t3206, uint32_t t3208, uint32_t t3210);
+ASTERNHAKEN_MUST_USE uint32_t asternhaken_setup(uint8_t *state, size_t state_length, const uint32_t *keys, size_t n_keys, uint32_t tick, uint32_t t3206, uint32_t t3208, uint32_t t3210);
+
+/* 1 where the lent octets have the mark of an accepted setup of this layout, which events leave; else 0, as for another length. It is no ground of refusal: events answer octets
+ * that nobody set up too, and their entries are then mostly not ours. */
+uint32_t asternhaken_is_set_up(const uint8_t *state, size_t state_length);
 
 /* The events. tick is a millisecond counter of 32 bits that wraps. */
-uint32_t asternhaken_nch(uint8_t *state, size_t state_length, uint32_t tick, const uint8_t *octets, size_t n);   /* NT/N Rest Octets came */
-uint32_t asternhaken_facch(uint8_t *state, size_t state_length, uint32_t tick, const uint8_t *octets, size_t n); /* NOTIFICATION/FACCH came */
-uint32_t asternhaken_pch(uint8_t *state, size_t state_length, uint32_t tick, const uint64_t *entry, size_t n);   /* a notification came on the paging channel */
-uint32_t asternhaken_joined(uint8_t *state, size_t state_length, uint32_t tick, uint32_t key);                   /* the call of this key was joined */
-uint32_t asternhaken_reselected(uint8_t *state, size_t state_length, uint32_t tick);                             /* another cell was selected: its first NLN is no change */
-uint32_t asternhaken_handed_over(uint8_t *state, size_t state_length, uint32_t tick);
-uint32_t asternhaken_reconfigured(uint8_t *state, size_t state_length, uint32_t tick);
-uint32_t asternhaken_left_idle(uint8_t *state, size_t state_length, uint32_t tick);                              /* idle mode was left */
-uint32_t asternhaken_tick(uint8_t *state, size_t state_length, uint32_t tick);                                   /* time passed */
 
-/* One number of the answer to the last accepted event; after a refused event that is still the answer to the one before. What is not there is 0, and so
- * is everything after a setup. A state of another length is ASTERNHAKEN_LENGTH, and the value is then 0. */
+/* NT/N Rest Octets came: 20 octets, those behind the pseudo length, 06 and 20 of the block of 23. */
+ASTERNHAKEN_MUST_USE uint32_t asternhaken_nch(uint8_t *state, size_t state_length, uint32_t tick, const uint8_t *octets, size_t n);
+/* NOTIFICATION/FACCH came: 2 to 23 octets, from the message's first on. */
+ASTERNHAKEN_MUST_USE uint32_t asternhaken_facch(uint8_t *state, size_t state_length, uint32_t tick, const uint8_t *octets, size_t n);
+/* A notification came on the paging channel: its numbers in the order of enum asternhaken_pch_number. */
+ASTERNHAKEN_MUST_USE uint32_t asternhaken_pch(uint8_t *state, size_t state_length, uint32_t tick, const uint64_t *entry, size_t n);
+/* The call of this key was joined. */
+ASTERNHAKEN_MUST_USE uint32_t asternhaken_joined(uint8_t *state, size_t state_length, uint32_t tick, uint32_t key);
+/* Another cell was selected: its first NLN is no change. */
+ASTERNHAKEN_MUST_USE uint32_t asternhaken_reselected(uint8_t *state, size_t state_length, uint32_t tick);
+ASTERNHAKEN_MUST_USE uint32_t asternhaken_handed_over(uint8_t *state, size_t state_length, uint32_t tick);
+ASTERNHAKEN_MUST_USE uint32_t asternhaken_reconfigured(uint8_t *state, size_t state_length, uint32_t tick);
+/* Idle mode was left. */
+ASTERNHAKEN_MUST_USE uint32_t asternhaken_left_idle(uint8_t *state, size_t state_length, uint32_t tick);
+/* Time passed. */
+ASTERNHAKEN_MUST_USE uint32_t asternhaken_tick(uint8_t *state, size_t state_length, uint32_t tick);
+
+ASTERNHAKEN_MUST_USE static inline uint32_t asternhaken_pch_put(uint8_t *state, size_t state_length, uint32_t tick, const struct asternhaken_pch_entry *entry)
+{
+    return asternhaken_pch(state, state_length, tick, ASTERNHAKEN_AS_(const uint64_t, entry), ASTERNHAKEN_PCH_NUMBERS);
+}
+
+/* The answer to the last accepted event; after a refused event that is still the answer to the one before. What is not there is 0, and so is everything
+ * after a setup. A state of another length is ASTERNHAKEN_REFUSED_LENGTH, and everything is then 0; nothing else is refused. */
+
+/* One number of it. */
 uint32_t asternhaken_read(const uint8_t *state, size_t state_length, uint32_t entry, uint32_t part, uint64_t *value);
+/* All numbers of an entry, as struct asternhaken_entry has them: as many as there are places, and zeros beyond them. */
+uint32_t asternhaken_entry_numbers(const uint8_t *state, size_t state_length, uint32_t entry, uint64_t *numbers, size_t n);
+
+static inline uint32_t asternhaken_answer_get(const uint8_t *state, size_t state_length, struct asternhaken_answer *into)
+{
+    asternhaken_read(state, state_length, 0, ASTERNHAKEN_PART_EXPIRED, &into->expired);
+    asternhaken_read(state, state_length, 0, ASTERNHAKEN_PART_DROPPED, &into->dropped);
+    return asternhaken_read(state, state_length, 0, ASTERNHAKEN_PART_ENTRY_COUNT, &into->entry_count);
+}
+
+static inline uint32_t asternhaken_entry_get(const uint8_t *state, size_t state_length, uint32_t entry, struct asternhaken_entry *into)
+{
+    return asternhaken_entry_numbers(state, state_length, entry, ASTERNHAKEN_AS_(uint64_t, into), ASTERNHAKEN_ENTRY_NUMBERS);
+}
+
+/* What the state holds. A state of another length is ASTERNHAKEN_REFUSED_LENGTH, and every number is then 0; nothing else is refused. */
+
+/* How many halves are held. */
+uint32_t asternhaken_held_count(const uint8_t *state, size_t state_length, uint64_t *count);
+/* All numbers of one, as struct asternhaken_held has them: as many as there are places, and zeros beyond them. i counts from 0, by the subscriptions' places and NCH, FACCH, PCH
+ * for each; from the count on, all is 0. */
+uint32_t asternhaken_held_numbers(const uint8_t *state, size_t state_length, uint32_t i, uint64_t *numbers, size_t n);
+/* In how many ms from the last accepted event the next half runs out; ASTERNHAKEN_NEVER where none is held. */
+uint32_t asternhaken_next_expiry(const uint8_t *state, size_t state_length, uint64_t *ms);
+
+static inline uint32_t asternhaken_held_get(const uint8_t *state, size_t state_length, uint32_t i, struct asternhaken_held *into)
+{
+    return asternhaken_held_numbers(state, state_length, i, ASTERNHAKEN_AS_(uint64_t, into), ASTERNHAKEN_HELD_NUMBERS);
+}
 
 /* ---- The codecs, for test rigs ----
  *
- * A record is an array of numbers, in the order given here; a flag is 0 or 1. A reader fills the lent array from its start with as many numbers as it
- * has places, and with zeros beyond them; a refused reading is all zeros. A writer takes an array of exactly the record's length (another is
- * ASTERNHAKEN_LENGTH), then a number that its field cannot hold is ASTERNHAKEN_RANGE, then the writer's own grounds follow (a
- * cause without a septet, or of over 255 octets, is ASTERNHAKEN_LENGTH even beside such a number); a refused writing leaves the lent octets untouched. */
+ * A record is an array of numbers, in the order given here; a flag is 0 or 1. What is only read (how many bits were used, what a cause means) stands first, so that a field which is
+ * added behind moves nothing; a writer does not look at it. A reader fills the lent array from its start with as many numbers as it has places, and with zeros beyond them; a refused
+ * reading is all zeros. A writer takes an array of exactly the same length (another is ASTERNHAKEN_REFUSED_LENGTH), then a number that its field cannot hold is
+ * ASTERNHAKEN_REFUSED_RANGE, then the writer's own grounds follow (a cause without a septet, or of over 255 octets, is ASTERNHAKEN_REFUSED_LENGTH even beside such a number); a
+ * refused writing leaves the lent octets untouched. Elements are whole octets or halves of one, and their readers count no bits.
+ *
+ * The same by structs, each the array with names: decode fills one, encode writes what stands in one. */
+
+/* A call of a message. */
+struct asternhaken_call {
+    uint64_t call_reference, vgcs, acknowledged, priority, cipher_key_number;
+    uint64_t channel_given, channel, hops, short_list, allocation_octets, frequencies;
+};
 
 /* NT/N Rest Octets:
- *   0 NLN there, 1 NLN, 2 how many calls, then four calls of eleven numbers (from 3):
- *       +0 reference, +1 service flag, +2 acknowledgement flag, +3 priority, +4 cipher key number, +5 described,
+ *   0 the number of bits used (when read), 1 NLN there, 2 NLN, 3 how many calls, then four calls of eleven numbers (from 4):
+ *       +0 reference, +1 service flag, +2 acknowledgement flag, +3 priority, +4 cipher key number, +5 channel description there,
  *       +6 channel description, +7 hopping, +8 short list, +9 octets of the mobile allocation, +10 frequencies;
- *   47 Release 6 there, 48 count there, 49 CELL_GLOBAL_COUNT, 50 how many reduced references, then five of two numbers (from 51):
+ *   48 Release 6 there, 49 count there, 50 CELL_GLOBAL_COUNT, 51 how many reduced references, then five of two numbers (from 52):
  *       +0 reference, +1 service flag;
- *   61 how many random entries, then nine of three numbers (from 62): +0 Segment Id, +1 VSTK_RAND there, +2 VSTK_RAND;
- *   89 Release 7 there, 90 how many emergency marks, 91 to 94 the marks, 95 uplink there, 96 Priority Uplink Access, 97 AMR there,
- *   98 FR AMR there, 99 FR AMR Config, 100 HR AMR there, 101 HR AMR Config, 102 SMS there, 103 SMS Data Confidentiality, 104 SMS Guaranteed Privacy.
- * Behind them, when read: 105 the number of bits used. */
-#define ASTERNHAKEN_NCH_NUMBERS 105
-#define ASTERNHAKEN_NCH_USED 105
-uint32_t asternhaken_nch_read(const uint8_t *octets, size_t n, uint64_t *numbers, size_t n_numbers);
-uint32_t asternhaken_nch_write(const uint64_t *numbers, size_t n_numbers, uint8_t *octets, size_t n);
+ *   62 how many random entries, then nine of three numbers (from 63): +0 Segment Id, +1 VSTK_RAND there, +2 VSTK_RAND;
+ *   90 Release 7 there, 91 how many emergency marks, 92 to 95 the marks, 96 uplink there, 97 Priority Uplink Access, 98 AMR there,
+ *   99 FR AMR there, 100 FR AMR Config, 101 HR AMR there, 102 HR AMR Config, 103 SMS there, 104 SMS Data Confidentiality, 105 SMS Guaranteed Privacy. */
+#define ASTERNHAKEN_NCH_NUMBERS 106
+#define ASTERNHAKEN_NCH_USED 0
+ASTERNHAKEN_MUST_USE uint32_t asternhaken_nch_read(const uint8_t *octets, size_t n, uint64_t *numbers, size_t n_numbers);
+ASTERNHAKEN_MUST_USE uint32_t asternhaken_nch_write(const uint64_t *numbers, size_t n_numbers, uint8_t *octets, size_t n);
 
-/* NOTIFICATION/FACCH: 0 to 10 a call as above; 11 Release 6 there, 12 count there, 13 CELL_GLOBAL_COUNT, 14 B22_COUNT, 15 VSTK_RAND there,
- * 16 VSTK_RAND; 17 Release 7 there, 18 Priority Uplink Access, 19 emergency, 20 Paging Cause there. Behind them: 21 the number of bits used. */
-#define ASTERNHAKEN_FACCH_NUMBERS 21
-#define ASTERNHAKEN_FACCH_USED 21
-uint32_t asternhaken_facch_read(const uint8_t *octets, size_t n, uint64_t *numbers, size_t n_numbers);
+struct asternhaken_reduced {
+    uint64_t call_reference, vgcs;
+};
+struct asternhaken_random {
+    uint64_t segment_id, rand_given, vstk_rand;
+};
+struct asternhaken_nch_message {
+    uint64_t used; /* bits, when read */
+    uint64_t nln_given, nln;
+    uint64_t n_calls;
+    struct asternhaken_call calls[4];
+    uint64_t release_6_given, count_given, cell_global_count;
+    uint64_t n_reduced;
+    struct asternhaken_reduced reduced[5];
+    uint64_t n_random;
+    struct asternhaken_random random[9];
+    uint64_t release_7_given;
+    uint64_t n_emergency_marks, emergency_marks[4];
+    uint64_t uplink_given, uplink_access, amr_given, fr_amr_given, fr_amr_config, hr_amr_given, hr_amr_config, sms_given, sms_confidentiality, sms_privacy;
+};
+ASTERNHAKEN_SIZE_(asternhaken_nch_message, ASTERNHAKEN_NCH_NUMBERS);
+
+ASTERNHAKEN_MUST_USE static inline uint32_t asternhaken_nch_decode(const uint8_t *octets, size_t n, struct asternhaken_nch_message *into)
+{
+    return asternhaken_nch_read(octets, n, ASTERNHAKEN_AS_(uint64_t, into), ASTERNHAKEN_NCH_NUMBERS);
+}
+
+ASTERNHAKEN_MUST_USE static inline uint32_t asternhaken_nch_encode(const struct asternhaken_nch_message *from, uint8_t *octets, size_t n)
+{
+    return asternhaken_nch_write(ASTERNHAKEN_AS_(const uint64_t, from), ASTERNHAKEN_NCH_NUMBERS, octets, n);
+}
+
+/* NOTIFICATION/FACCH: 0 the number of bits used; 1 to 11 a call as above; 12 Release 6 there, 13 count there, 14 CELL_GLOBAL_COUNT, 15 B22_COUNT, 16 VSTK_RAND there,
+ * 17 VSTK_RAND; 18 Release 7 there, 19 Priority Uplink Access, 20 emergency, 21 Paging Cause there. */
+#define ASTERNHAKEN_FACCH_NUMBERS 22
+#define ASTERNHAKEN_FACCH_USED 0
+ASTERNHAKEN_MUST_USE uint32_t asternhaken_facch_read(const uint8_t *octets, size_t n, uint64_t *numbers, size_t n_numbers);
+
+struct asternhaken_facch_message {
+    uint64_t used; /* bits */
+    struct asternhaken_call call;
+    uint64_t release_6_given, count_given, cell_global_count, b22_count, rand_given, vstk_rand;
+    uint64_t release_7_given, uplink_access, emergency, paging_cause_given;
+};
+ASTERNHAKEN_SIZE_(asternhaken_facch_message, ASTERNHAKEN_FACCH_NUMBERS);
+
+ASTERNHAKEN_MUST_USE static inline uint32_t asternhaken_facch_decode(const uint8_t *octets, size_t n, struct asternhaken_facch_message *into)
+{
+    return asternhaken_facch_read(octets, n, ASTERNHAKEN_AS_(uint64_t, into), ASTERNHAKEN_FACCH_NUMBERS);
+}
 
 /* Elements of 44.068, clause 9. */
 
 /* Message type: 0 send sequence number, 1 message type (31 to 36 or 38 to 3B hex). */
 #define ASTERNHAKEN_MESSAGE_TYPE_NUMBERS 2
-uint32_t asternhaken_message_type_read(uint8_t octet, uint64_t *numbers, size_t n_numbers);
-uint32_t asternhaken_message_type_write(const uint64_t *numbers, size_t n_numbers, uint8_t *octet);
+ASTERNHAKEN_MUST_USE uint32_t asternhaken_message_type_read(uint8_t octet, uint64_t *numbers, size_t n_numbers);
+ASTERNHAKEN_MUST_USE uint32_t asternhaken_message_type_write(const uint64_t *numbers, size_t n_numbers, uint8_t *octet);
+
+struct asternhaken_message_type {
+    uint64_t send_sequence_number, message_type;
+};
+ASTERNHAKEN_SIZE_(asternhaken_message_type, ASTERNHAKEN_MESSAGE_TYPE_NUMBERS);
+
+ASTERNHAKEN_MUST_USE static inline uint32_t asternhaken_message_type_decode(uint8_t octet, struct asternhaken_message_type *into)
+{
+    return asternhaken_message_type_read(octet, ASTERNHAKEN_AS_(uint64_t, into), ASTERNHAKEN_MESSAGE_TYPE_NUMBERS);
+}
+
+ASTERNHAKEN_MUST_USE static inline uint32_t asternhaken_message_type_encode(const struct asternhaken_message_type *from, uint8_t *octet)
+{
+    return asternhaken_message_type_write(ASTERNHAKEN_AS_(const uint64_t, from), ASTERNHAKEN_MESSAGE_TYPE_NUMBERS, octet);
+}
 
 /* Call reference, four octets: 0 reference, 1 priority there, 2 priority (1 to 7; 0 beside a 1 is the reserved one, which is read and not written). */
 #define ASTERNHAKEN_CALL_REFERENCE_NUMBERS 3
-uint32_t asternhaken_call_reference_read(const uint8_t *octets, size_t n, uint64_t *numbers, size_t n_numbers);
-uint32_t asternhaken_call_reference_write(const uint64_t *numbers, size_t n_numbers, uint8_t *octets, size_t n);
+ASTERNHAKEN_MUST_USE uint32_t asternhaken_call_reference_read(const uint8_t *octets, size_t n, uint64_t *numbers, size_t n_numbers);
+ASTERNHAKEN_MUST_USE uint32_t asternhaken_call_reference_write(const uint64_t *numbers, size_t n_numbers, uint8_t *octets, size_t n);
+
+struct asternhaken_call_reference {
+    uint64_t call_reference, priority_given, priority;
+};
+ASTERNHAKEN_SIZE_(asternhaken_call_reference, ASTERNHAKEN_CALL_REFERENCE_NUMBERS);
+
+ASTERNHAKEN_MUST_USE static inline uint32_t asternhaken_call_reference_decode(const uint8_t *octets, size_t n, struct asternhaken_call_reference *into)
+{
+    return asternhaken_call_reference_read(octets, n, ASTERNHAKEN_AS_(uint64_t, into), ASTERNHAKEN_CALL_REFERENCE_NUMBERS);
+}
+
+ASTERNHAKEN_MUST_USE static inline uint32_t asternhaken_call_reference_encode(const struct asternhaken_call_reference *from, uint8_t *octets, size_t n)
+{
+    return asternhaken_call_reference_write(ASTERNHAKEN_AS_(const uint64_t, from), ASTERNHAKEN_CALL_REFERENCE_NUMBERS, octets, n);
+}
 
 /* Call state, a half octet: 0 state, 0 to 11; 12 stands for every reserved one, which is read and not written. */
 #define ASTERNHAKEN_CALL_STATE_NUMBERS 1
-uint32_t asternhaken_call_state_read(uint8_t half, uint64_t *numbers, size_t n_numbers);
-uint32_t asternhaken_call_state_write(const uint64_t *numbers, size_t n_numbers, uint8_t *half);
+ASTERNHAKEN_MUST_USE uint32_t asternhaken_call_state_read(uint8_t half, uint64_t *numbers, size_t n_numbers);
+ASTERNHAKEN_MUST_USE uint32_t asternhaken_call_state_write(const uint64_t *numbers, size_t n_numbers, uint8_t *half);
 
-/* Cause, 1 to 255 octets: 0 how many septets, 1 to 255 the septets, 256 how many diagnostics, 257 to 511 the diagnostics.
- * Behind them, when read: 512 is 1 for a specific cause and 2 for an unspecific one, 513 the number of a specific one. */
-#define ASTERNHAKEN_CAUSE_NUMBERS 512
-#define ASTERNHAKEN_CAUSE_MEANING 512
-#define ASTERNHAKEN_CAUSE_VALUE 513
-uint32_t asternhaken_cause_read(const uint8_t *octets, size_t n, uint64_t *numbers, size_t n_numbers);
-uint32_t asternhaken_cause_write(const uint64_t *numbers, size_t n_numbers, uint8_t *octets, size_t n);
+struct asternhaken_call_state {
+    uint64_t call_state;
+};
+ASTERNHAKEN_SIZE_(asternhaken_call_state, ASTERNHAKEN_CALL_STATE_NUMBERS);
+
+ASTERNHAKEN_MUST_USE static inline uint32_t asternhaken_call_state_decode(uint8_t half, struct asternhaken_call_state *into)
+{
+    return asternhaken_call_state_read(half, ASTERNHAKEN_AS_(uint64_t, into), ASTERNHAKEN_CALL_STATE_NUMBERS);
+}
+
+ASTERNHAKEN_MUST_USE static inline uint32_t asternhaken_call_state_encode(const struct asternhaken_call_state *from, uint8_t *half)
+{
+    return asternhaken_call_state_write(ASTERNHAKEN_AS_(const uint64_t, from), ASTERNHAKEN_CALL_STATE_NUMBERS, half);
+}
+
+/* Cause, 1 to 255 octets: 0 is 1 for a specific cause and 2 for an unspecific one, 1 the number of a specific one (both when read); 2 how many septets, 3 to 257 the septets,
+ * 258 how many diagnostics, 259 to 513 the diagnostics. */
+#define ASTERNHAKEN_CAUSE_NUMBERS 514
+#define ASTERNHAKEN_CAUSE_MEANING 0
+#define ASTERNHAKEN_CAUSE_VALUE 1
+ASTERNHAKEN_MUST_USE uint32_t asternhaken_cause_read(const uint8_t *octets, size_t n, uint64_t *numbers, size_t n_numbers);
+ASTERNHAKEN_MUST_USE uint32_t asternhaken_cause_write(const uint64_t *numbers, size_t n_numbers, uint8_t *octets, size_t n);
+
+struct asternhaken_cause {
+    uint64_t meaning, value; /* when read */
+    uint64_t n_septets, septets[255];
+    uint64_t n_diagnostics, diagnostics[255];
+};
+ASTERNHAKEN_SIZE_(asternhaken_cause, ASTERNHAKEN_CAUSE_NUMBERS);
+
+ASTERNHAKEN_MUST_USE static inline uint32_t asternhaken_cause_decode(const uint8_t *octets, size_t n, struct asternhaken_cause *into)
+{
+    return asternhaken_cause_read(octets, n, ASTERNHAKEN_AS_(uint64_t, into), ASTERNHAKEN_CAUSE_NUMBERS);
+}
+
+ASTERNHAKEN_MUST_USE static inline uint32_t asternhaken_cause_encode(const struct asternhaken_cause *from, uint8_t *octets, size_t n)
+{
+    return asternhaken_cause_write(ASTERNHAKEN_AS_(const uint64_t, from), ASTERNHAKEN_CAUSE_NUMBERS, octets, n);
+}
 
 /* Originator indication, a half octet: 0 OI. */
 #define ASTERNHAKEN_ORIGINATOR_NUMBERS 1
-uint32_t asternhaken_originator_read(uint8_t half, uint64_t *numbers, size_t n_numbers);
-uint32_t asternhaken_originator_write(const uint64_t *numbers, size_t n_numbers, uint8_t *half);
+ASTERNHAKEN_MUST_USE uint32_t asternhaken_originator_read(uint8_t half, uint64_t *numbers, size_t n_numbers);
+ASTERNHAKEN_MUST_USE uint32_t asternhaken_originator_write(const uint64_t *numbers, size_t n_numbers, uint8_t *half);
+
+struct asternhaken_originator {
+    uint64_t oi;
+};
+ASTERNHAKEN_SIZE_(asternhaken_originator, ASTERNHAKEN_ORIGINATOR_NUMBERS);
+
+ASTERNHAKEN_MUST_USE static inline uint32_t asternhaken_originator_decode(uint8_t half, struct asternhaken_originator *into)
+{
+    return asternhaken_originator_read(half, ASTERNHAKEN_AS_(uint64_t, into), ASTERNHAKEN_ORIGINATOR_NUMBERS);
+}
+
+ASTERNHAKEN_MUST_USE static inline uint32_t asternhaken_originator_encode(const struct asternhaken_originator *from, uint8_t *half)
+{
+    return asternhaken_originator_write(ASTERNHAKEN_AS_(const uint64_t, from), ASTERNHAKEN_ORIGINATOR_NUMBERS, half);
+}
 
 /* State attributes, a half octet: 0 DA, 1 UA, 2 COMM, 3 OI. */
 #define ASTERNHAKEN_STATE_ATTRIBUTES_NUMBERS 4
-uint32_t asternhaken_state_attributes_read(uint8_t half, uint64_t *numbers, size_t n_numbers);
-uint32_t asternhaken_state_attributes_write(const uint64_t *numbers, size_t n_numbers, uint8_t *half);
+ASTERNHAKEN_MUST_USE uint32_t asternhaken_state_attributes_read(uint8_t half, uint64_t *numbers, size_t n_numbers);
+ASTERNHAKEN_MUST_USE uint32_t asternhaken_state_attributes_write(const uint64_t *numbers, size_t n_numbers, uint8_t *half);
+
+struct asternhaken_state_attributes {
+    uint64_t da, ua, comm, oi;
+};
+ASTERNHAKEN_SIZE_(asternhaken_state_attributes, ASTERNHAKEN_STATE_ATTRIBUTES_NUMBERS);
+
+ASTERNHAKEN_MUST_USE static inline uint32_t asternhaken_state_attributes_decode(uint8_t half, struct asternhaken_state_attributes *into)
+{
+    return asternhaken_state_attributes_read(half, ASTERNHAKEN_AS_(uint64_t, into), ASTERNHAKEN_STATE_ATTRIBUTES_NUMBERS);
+}
+
+ASTERNHAKEN_MUST_USE static inline uint32_t asternhaken_state_attributes_encode(const struct asternhaken_state_attributes *from, uint8_t *half)
+{
+    return asternhaken_state_attributes_write(ASTERNHAKEN_AS_(const uint64_t, from), ASTERNHAKEN_STATE_ATTRIBUTES_NUMBERS, half);
+}
 
 /* SMS indications, a half octet: 0 DC, 1 GP. */
 #define ASTERNHAKEN_SMS_NUMBERS 2
-uint32_t asternhaken_sms_read(uint8_t half, uint64_t *numbers, size_t n_numbers);
-uint32_t asternhaken_sms_write(const uint64_t *numbers, size_t n_numbers, uint8_t *half);
+ASTERNHAKEN_MUST_USE uint32_t asternhaken_sms_read(uint8_t half, uint64_t *numbers, size_t n_numbers);
+ASTERNHAKEN_MUST_USE uint32_t asternhaken_sms_write(const uint64_t *numbers, size_t n_numbers, uint8_t *half);
+
+struct asternhaken_sms {
+    uint64_t dc, gp;
+};
+ASTERNHAKEN_SIZE_(asternhaken_sms, ASTERNHAKEN_SMS_NUMBERS);
+
+ASTERNHAKEN_MUST_USE static inline uint32_t asternhaken_sms_decode(uint8_t half, struct asternhaken_sms *into)
+{
+    return asternhaken_sms_read(half, ASTERNHAKEN_AS_(uint64_t, into), ASTERNHAKEN_SMS_NUMBERS);
+}
+
+ASTERNHAKEN_MUST_USE static inline uint32_t asternhaken_sms_encode(const struct asternhaken_sms *from, uint8_t *half)
+{
+    return asternhaken_sms_write(ASTERNHAKEN_AS_(const uint64_t, from), ASTERNHAKEN_SMS_NUMBERS, half);
+}
 
 /* Talker priority, a half octet: 0 priority, 0 normal, 1 privileged, 2 emergency. */
 #define ASTERNHAKEN_TALKER_NUMBERS 1
-uint32_t asternhaken_talker_read(uint8_t half, uint64_t *numbers, size_t n_numbers);
-uint32_t asternhaken_talker_write(const uint64_t *numbers, size_t n_numbers, uint8_t *half);
+ASTERNHAKEN_MUST_USE uint32_t asternhaken_talker_read(uint8_t half, uint64_t *numbers, size_t n_numbers);
+ASTERNHAKEN_MUST_USE uint32_t asternhaken_talker_write(const uint64_t *numbers, size_t n_numbers, uint8_t *half);
+
+struct asternhaken_talker {
+    uint64_t priority;
+};
+ASTERNHAKEN_SIZE_(asternhaken_talker, ASTERNHAKEN_TALKER_NUMBERS);
+
+ASTERNHAKEN_MUST_USE static inline uint32_t asternhaken_talker_decode(uint8_t half, struct asternhaken_talker *into)
+{
+    return asternhaken_talker_read(half, ASTERNHAKEN_AS_(uint64_t, into), ASTERNHAKEN_TALKER_NUMBERS);
+}
+
+ASTERNHAKEN_MUST_USE static inline uint32_t asternhaken_talker_encode(const struct asternhaken_talker *from, uint8_t *half)
+{
+    return asternhaken_talker_write(ASTERNHAKEN_AS_(const uint64_t, from), ASTERNHAKEN_TALKER_NUMBERS, half);
+}
 
 /* Originator-to-dispatcher, five octets: 0 to 11 the twelve ASCII digits. */
 #define ASTERNHAKEN_DIGITS_NUMBERS 12
-uint32_t asternhaken_digits_read(const uint8_t *octets, size_t n, uint64_t *numbers, size_t n_numbers);
-uint32_t asternhaken_digits_write(const uint64_t *numbers, size_t n_numbers, uint8_t *octets, size_t n);
+ASTERNHAKEN_MUST_USE uint32_t asternhaken_digits_read(const uint8_t *octets, size_t n, uint64_t *numbers, size_t n_numbers);
+ASTERNHAKEN_MUST_USE uint32_t asternhaken_digits_write(const uint64_t *numbers, size_t n_numbers, uint8_t *octets, size_t n);
 
-/* ---- Words ---- */
+struct asternhaken_digits {
+    uint64_t digits[12];
+};
+ASTERNHAKEN_SIZE_(asternhaken_digits, ASTERNHAKEN_DIGITS_NUMBERS);
 
-/* A word for a refusal number. */
-static inline const char *asternhaken_refusal_word(uint32_t refusal)
+ASTERNHAKEN_MUST_USE static inline uint32_t asternhaken_digits_decode(const uint8_t *octets, size_t n, struct asternhaken_digits *into)
 {
-    static const char *const words[14] = {
-        "accepted", "message length", "bits ran out", "allocation length", "reference", "hopping", "random entries",
-        "emergency marks", "paging", "clock", "setup", "form size", "range", "length"
-    };
-    return refusal < 14 ? words[refusal] : "unknown";
+    return asternhaken_digits_read(octets, n, ASTERNHAKEN_AS_(uint64_t, into), ASTERNHAKEN_DIGITS_NUMBERS);
 }
 
-/* A word for a told number. */
-static inline const char *asternhaken_told_word(uint64_t told)
+ASTERNHAKEN_MUST_USE static inline uint32_t asternhaken_digits_encode(const struct asternhaken_digits *from, uint8_t *octets, size_t n)
 {
-    static const char *const words[9] = {
-        "not ours", "complete, clear", "complete, one piece", "complete, joined", "half stored", "half held already",
-        "no channel", "unusable", "second before first"
-    };
-    return told < 9 ? words[told] : "unknown";
+    return asternhaken_digits_write(ASTERNHAKEN_AS_(const uint64_t, from), ASTERNHAKEN_DIGITS_NUMBERS, octets, n);
 }
+
+/* ---- Words ----
+ *
+ * A short word and a sentence for each refusal number and each told number, to be shown or logged. They answer for every number: one that this version does not
+ * know has the word "unknown" and a sentence that says so. The texts are constant; they are for people, and a program goes by the numbers. */
+const char *asternhaken_refusal_word(uint32_t refusal);
+const char *asternhaken_refusal_sentence(uint32_t refusal);
+const char *asternhaken_told_word(uint64_t told);
+const char *asternhaken_told_sentence(uint64_t told);
 
 #ifdef __cplusplus
 }

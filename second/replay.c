@@ -11,13 +11,19 @@
 #include <stdlib.h>
 #include <string.h>
 
-enum { FUNCTIONS = 32, STATE = 255, GUARD = 16, SHOWN = 20 };
+enum { STATE = 255, GUARD = 16, SHOWN = 20 };
 
 /* In the order of src/ffi.rs. */
-enum { SETUP, NCH, FACCH, PCH, JOINED, RESELECTED, HANDED_OVER, RECONFIGURED, LEFT_IDLE, TICK, READ };
+enum {
+    SETUP, NCH, FACCH, PCH, JOINED, RESELECTED, HANDED_OVER, RECONFIGURED, LEFT_IDLE, TICK, READ, ENTRY_NUMBERS, HELD_NUMBERS, HELD_COUNT, NEXT_EXPIRY, IS_SET_UP,
+    NCH_READ, NCH_WRITE, FACCH_READ, MESSAGE_TYPE_READ, MESSAGE_TYPE_WRITE, CALL_REFERENCE_READ, CALL_REFERENCE_WRITE, CALL_STATE_READ, CALL_STATE_WRITE,
+    CAUSE_READ, CAUSE_WRITE, ORIGINATOR_READ, ORIGINATOR_WRITE, STATE_ATTRIBUTES_READ, STATE_ATTRIBUTES_WRITE, SMS_READ, SMS_WRITE, TALKER_READ, TALKER_WRITE,
+    DIGITS_READ, DIGITS_WRITE, FUNCTIONS
+};
 
 static const char *const names[FUNCTIONS] = {
-    "setup", "nch", "facch", "pch", "joined", "reselected", "handed_over", "reconfigured", "left_idle", "tick", "read", "nch_read", "nch_write", "facch_read",
+    "setup", "nch", "facch", "pch", "joined", "reselected", "handed_over", "reconfigured", "left_idle", "tick", "read", "entry_numbers", "held_numbers", "held_count",
+    "next_expiry", "is_set_up", "nch_read", "nch_write", "facch_read",
     "message_type_read", "message_type_write", "call_reference_read", "call_reference_write", "call_state_read", "call_state_write",
     "cause_read", "cause_write", "originator_read", "originator_write", "state_attributes_read", "state_attributes_write", "sms_read",
     "sms_write", "talker_read", "talker_write", "digits_read", "digits_write"
@@ -141,14 +147,23 @@ static void state_call(unsigned function)
     give_back(&octets);
 }
 
-static void read_call(void)
+/* What looks at the state: it fills numbers, or answers alone. */
+static void view_call(unsigned function)
 {
-    static struct lent value;
-    uint32_t entry = small(), part = small();
-    if (!value.at) value = lend(sizeof(uint64_t));
-    memset(value.at, 0x5a, value.size);
-    uint32_t refusal = asternhaken_read(state.at, state.size, entry, part, (uint64_t *)(void *)value.at);
-    compare(READ, refusal, &value, 1);
+    uint32_t a = function <= HELD_NUMBERS ? small() : 0, b = function <= HELD_NUMBERS ? small() : 0, refusal;
+    struct lent into = lend((function == IS_SET_UP ? 0 : function == ENTRY_NUMBERS || function == HELD_NUMBERS ? b : 1) * sizeof(uint64_t));
+    uint64_t *numbers = (uint64_t *)(void *)into.at;
+    memset(into.at, 0x5a, into.size);
+    switch (function) {
+    case READ: refusal = asternhaken_read(state.at, state.size, a, b, numbers); break;
+    case ENTRY_NUMBERS: refusal = asternhaken_entry_numbers(state.at, state.size, a, numbers, b); break;
+    case HELD_NUMBERS: refusal = asternhaken_held_numbers(state.at, state.size, a, numbers, b); break;
+    case HELD_COUNT: refusal = asternhaken_held_count(state.at, state.size, numbers); break;
+    case NEXT_EXPIRY: refusal = asternhaken_next_expiry(state.at, state.size, numbers); break;
+    default: refusal = asternhaken_is_set_up(state.at, state.size);
+    }
+    compare(function, refusal, &into, 1);
+    give_back(&into);
 }
 
 /* ---- The codecs: a reader fills numbers, a writer octets; an octet is given by itself or lent by itself ---- */
@@ -192,27 +207,27 @@ static void octet_writer(unsigned function, uint32_t (*writer)(const uint64_t *,
 static void codec_call(unsigned f)
 {
     switch (f) {
-    case 11: octets_reader(f, asternhaken_nch_read); break;
-    case 12: octets_writer(f, asternhaken_nch_write); break;
-    case 13: octets_reader(f, asternhaken_facch_read); break;
-    case 14: octet_reader(f, asternhaken_message_type_read); break;
-    case 15: octet_writer(f, asternhaken_message_type_write); break;
-    case 16: octets_reader(f, asternhaken_call_reference_read); break;
-    case 17: octets_writer(f, asternhaken_call_reference_write); break;
-    case 18: octet_reader(f, asternhaken_call_state_read); break;
-    case 19: octet_writer(f, asternhaken_call_state_write); break;
-    case 20: octets_reader(f, asternhaken_cause_read); break;
-    case 21: octets_writer(f, asternhaken_cause_write); break;
-    case 22: octet_reader(f, asternhaken_originator_read); break;
-    case 23: octet_writer(f, asternhaken_originator_write); break;
-    case 24: octet_reader(f, asternhaken_state_attributes_read); break;
-    case 25: octet_writer(f, asternhaken_state_attributes_write); break;
-    case 26: octet_reader(f, asternhaken_sms_read); break;
-    case 27: octet_writer(f, asternhaken_sms_write); break;
-    case 28: octet_reader(f, asternhaken_talker_read); break;
-    case 29: octet_writer(f, asternhaken_talker_write); break;
-    case 30: octets_reader(f, asternhaken_digits_read); break;
-    case 31: octets_writer(f, asternhaken_digits_write); break;
+    case NCH_READ: octets_reader(f, asternhaken_nch_read); break;
+    case NCH_WRITE: octets_writer(f, asternhaken_nch_write); break;
+    case FACCH_READ: octets_reader(f, asternhaken_facch_read); break;
+    case MESSAGE_TYPE_READ: octet_reader(f, asternhaken_message_type_read); break;
+    case MESSAGE_TYPE_WRITE: octet_writer(f, asternhaken_message_type_write); break;
+    case CALL_REFERENCE_READ: octets_reader(f, asternhaken_call_reference_read); break;
+    case CALL_REFERENCE_WRITE: octets_writer(f, asternhaken_call_reference_write); break;
+    case CALL_STATE_READ: octet_reader(f, asternhaken_call_state_read); break;
+    case CALL_STATE_WRITE: octet_writer(f, asternhaken_call_state_write); break;
+    case CAUSE_READ: octets_reader(f, asternhaken_cause_read); break;
+    case CAUSE_WRITE: octets_writer(f, asternhaken_cause_write); break;
+    case ORIGINATOR_READ: octet_reader(f, asternhaken_originator_read); break;
+    case ORIGINATOR_WRITE: octet_writer(f, asternhaken_originator_write); break;
+    case STATE_ATTRIBUTES_READ: octet_reader(f, asternhaken_state_attributes_read); break;
+    case STATE_ATTRIBUTES_WRITE: octet_writer(f, asternhaken_state_attributes_write); break;
+    case SMS_READ: octet_reader(f, asternhaken_sms_read); break;
+    case SMS_WRITE: octet_writer(f, asternhaken_sms_write); break;
+    case TALKER_READ: octet_reader(f, asternhaken_talker_read); break;
+    case TALKER_WRITE: octet_writer(f, asternhaken_talker_write); break;
+    case DIGITS_READ: octets_reader(f, asternhaken_digits_read); break;
+    case DIGITS_WRITE: octets_writer(f, asternhaken_digits_write); break;
     default: printf("there is no function %u\n0 passed, 1 failed\n", f); exit(1);
     }
 }
@@ -225,7 +240,7 @@ int main(int argc, char **argv)
     while ((function = getchar()) != EOF) {
         if (function == STATE) state_is_untouched(), give_back(&state), state = lend_record(small());
         else if (function < READ) state_call((unsigned)function);
-        else if (function == READ) read_call();
+        else if (function < NCH_READ) view_call((unsigned)function);
         else codec_call((unsigned)function);
     }
     state_is_untouched();

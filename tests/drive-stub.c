@@ -52,7 +52,7 @@ uint32_t __wrap_asternhaken_read(const uint8_t *state, size_t state_length, uint
 {
     uint32_t result = __real_asternhaken_read(state, state_length, entry, part, value);
     if (seeded("reading a part writes the state")) ((uint8_t *)state)[state_length - 1] ^= 128;
-    if (part == ASTERNHAKEN_EMERGENCY && seeded("a part is another")) ++*value;
+    if (part == ASTERNHAKEN_PART_EMERGENCY && seeded("a part is another")) ++*value;
     return result;
 }
 

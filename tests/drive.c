@@ -332,34 +332,37 @@ static uint32_t say_result(uint32_t result)
     return ASTERNHAKEN_REFUSAL(result);
 }
 
-/* Behind the numbers of the record stands how many bits were used. */
+/* Before the numbers of the record stands how many bits were used. */
+enum { USED = 0, RECORD = 1 };
+typedef char both_have_it_there[ASTERNHAKEN_NCH_USED == USED && ASTERNHAKEN_FACCH_USED == USED ? 1 : -1];
+
 static void read_record(reader *read, size_t n_numbers, const struct run *record)
 {
     size_t n;
     take(); /* VERSION */
     uint8_t *octets = take_octets(&n);
-    uint64_t *numbers = lend_numbers(n_numbers + 1);
+    uint64_t *numbers = lend_numbers(n_numbers);
     if (!understood()) return;
-    say_result(WATCHED(read(octets, n, numbers, n_numbers + 1), numbers, CLEARS));
-    say_number(numbers[n_numbers]);
-    say_record(numbers, record);
+    say_result(WATCHED(read(octets, n, numbers, n_numbers), numbers, CLEARS));
+    say_number(numbers[USED]);
+    say_record(numbers + RECORD, record);
 }
 
 static void nch(void) { read_record(asternhaken_nch_read, ASTERNHAKEN_NCH_NUMBERS, nch_record); }
 static void facch(void) { read_record(asternhaken_facch_read, ASTERNHAKEN_FACCH_NUMBERS, facch_record); }
 
-/* A writer says nothing of the bits used: they are those that the reader uses of what was written. */
+/* A writer says nothing of the bits used, nor looks at their place, which is left as it was painted: they are those that the reader uses of what was written. */
 static void write_record(writer *write, reader *read, size_t n_numbers, const struct run *record)
 {
     size_t size = (size_t)take_u32();
     uint8_t *octets = (uint8_t *)lend("octets", size);
-    uint64_t *numbers = lend_numbers(n_numbers), *again = lend_numbers(n_numbers + 1);
-    take_record(numbers, record);
+    uint64_t *numbers = lend_numbers(n_numbers), *again = lend_numbers(n_numbers);
+    take_record(numbers + RECORD, record);
     if (!understood()) return;
     uint32_t result = WATCHED(write(numbers, n_numbers, octets, size), octets, LEAVES);
     say_number(result);
-    if (result == ASTERNHAKEN_ACCEPTED) WATCHED(read(octets, size, again, n_numbers + 1), again, CLEARS);
-    say_number(result == ASTERNHAKEN_ACCEPTED ? again[n_numbers] : 0);
+    if (result == ASTERNHAKEN_ACCEPTED) WATCHED(read(octets, size, again, n_numbers), again, CLEARS);
+    say_number(result == ASTERNHAKEN_ACCEPTED ? again[USED] : 0);
     say_octets(octets, result == ASTERNHAKEN_ACCEPTED ? size : 0);
 }
 
@@ -469,16 +472,17 @@ static void call_reference(void)
     for (size_t i = 0; numbers && i < ASTERNHAKEN_CALL_REFERENCE_NUMBERS; i++) say_number(numbers[i]);
 }
 
-enum { CAUSE_OCTETS = 255, DIAGNOSTICS = 1 + CAUSE_OCTETS }; /* places of the cause's numbers */
+/* Places of the cause's numbers: what it means, then how many septets and the septets, then the same of diagnostics. */
+enum { CAUSE_OCTETS = 255, SEPTETS = 2, DIAGNOSTICS = SEPTETS + 1 + CAUSE_OCTETS };
 
 static void cause(void)
 {
     uint32_t result;
-    uint64_t *numbers = read_element(asternhaken_cause_read, ASTERNHAKEN_CAUSE_VALUE + 1, &result);
+    uint64_t *numbers = read_element(asternhaken_cause_read, ASTERNHAKEN_CAUSE_NUMBERS, &result);
     if (!numbers) return;
     say_number(numbers[ASTERNHAKEN_CAUSE_MEANING] == 1);
     say_number(numbers[ASTERNHAKEN_CAUSE_VALUE]);
-    for (size_t i = 0; i < count_of(numbers[0], CAUSE_OCTETS, "septets"); i++) say_number(numbers[1 + i]);
+    for (size_t i = 0; i < count_of(numbers[SEPTETS], CAUSE_OCTETS, "septets"); i++) say_number(numbers[SEPTETS + 1 + i]);
     say_as_octets(numbers + DIAGNOSTICS + 1, count_of(numbers[DIAGNOSTICS], CAUSE_OCTETS, "diagnostics"));
 }
 
@@ -517,7 +521,7 @@ static void wcause(void)
 {
     size_t size = take_u32();
     uint64_t *numbers = lend_numbers(ASTERNHAKEN_CAUSE_NUMBERS);
-    take_counted(numbers);
+    take_counted(numbers + SEPTETS);
     take_counted(numbers + DIAGNOSTICS);
     write_element(asternhaken_cause_write, numbers, ASTERNHAKEN_CAUSE_NUMBERS, size);
 }
@@ -554,7 +558,7 @@ enum { CIPHERED = ASTERNHAKEN_PARTS };
 
 static uint64_t part(uint32_t entry, uint32_t which)
 {
-    if (which == CIPHERED) return part(entry, ASTERNHAKEN_CIPHER_KEY_NUMBER) != 0;
+    if (which == CIPHERED) return part(entry, ASTERNHAKEN_PART_CIPHER_KEY_NUMBER) != 0;
     paint(value, sizeof *value);
     if (WATCHED(asternhaken_read(state, LENGTH, entry, which, value), value, CLEARS) != ASTERNHAKEN_ACCEPTED) fault("asternhaken_read refuses", "state", 0);
     return *value;
@@ -562,28 +566,28 @@ static uint64_t part(uint32_t entry, uint32_t which)
 
 /* The parts of a complete record, in the order of call_record. */
 static const uint32_t record_parts[] = {
-    ASTERNHAKEN_KEY_OF, ASTERNHAKEN_FULL,
-    ASTERNHAKEN_CALL_REFERENCE, ASTERNHAKEN_VGCS, ASTERNHAKEN_ACKNOWLEDGED, ASTERNHAKEN_PRIORITY, ASTERNHAKEN_CIPHER_KEY_NUMBER, ASTERNHAKEN_DESCRIBED,
-    ASTERNHAKEN_CHANNEL, ASTERNHAKEN_HOPS, ASTERNHAKEN_SHORT_LIST, ASTERNHAKEN_ALLOCATION_OCTETS, ASTERNHAKEN_FREQUENCIES,
+    ASTERNHAKEN_PART_KEY, ASTERNHAKEN_PART_FULL,
+    ASTERNHAKEN_PART_CALL_REFERENCE, ASTERNHAKEN_PART_VGCS, ASTERNHAKEN_PART_ACKNOWLEDGED, ASTERNHAKEN_PART_PRIORITY, ASTERNHAKEN_PART_CIPHER_KEY_NUMBER, ASTERNHAKEN_PART_CHANNEL_GIVEN,
+    ASTERNHAKEN_PART_CHANNEL, ASTERNHAKEN_PART_HOPS, ASTERNHAKEN_PART_SHORT_LIST, ASTERNHAKEN_PART_ALLOCATION_OCTETS, ASTERNHAKEN_PART_FREQUENCIES,
     CIPHERED,
-    ASTERNHAKEN_SEGMENTED, ASTERNHAKEN_SEGMENT_ID,
-    ASTERNHAKEN_RAND_GIVEN, ASTERNHAKEN_VSTK_RAND,
-    ASTERNHAKEN_EMERGENCY,
-    ASTERNHAKEN_COUNTED, ASTERNHAKEN_CELL_GLOBAL_COUNT, ASTERNHAKEN_B22_COUNT,
-    ASTERNHAKEN_UPLINK_GIVEN, ASTERNHAKEN_UPLINK_ACCESS,
-    ASTERNHAKEN_AMR, ASTERNHAKEN_FR_AMR_GIVEN, ASTERNHAKEN_FR_AMR_CONFIG, ASTERNHAKEN_HR_AMR_GIVEN, ASTERNHAKEN_HR_AMR_CONFIG,
-    ASTERNHAKEN_SMS, ASTERNHAKEN_SMS_CONFIDENTIALITY, ASTERNHAKEN_SMS_PRIVACY
+    ASTERNHAKEN_PART_SEGMENT_GIVEN, ASTERNHAKEN_PART_SEGMENT_ID,
+    ASTERNHAKEN_PART_RAND_GIVEN, ASTERNHAKEN_PART_VSTK_RAND,
+    ASTERNHAKEN_PART_EMERGENCY,
+    ASTERNHAKEN_PART_COUNT_GIVEN, ASTERNHAKEN_PART_CELL_GLOBAL_COUNT, ASTERNHAKEN_PART_B22_COUNT,
+    ASTERNHAKEN_PART_UPLINK_GIVEN, ASTERNHAKEN_PART_UPLINK_ACCESS,
+    ASTERNHAKEN_PART_AMR_GIVEN, ASTERNHAKEN_PART_FR_AMR_GIVEN, ASTERNHAKEN_PART_FR_AMR_CONFIG, ASTERNHAKEN_PART_HR_AMR_GIVEN, ASTERNHAKEN_PART_HR_AMR_CONFIG,
+    ASTERNHAKEN_PART_SMS_GIVEN, ASTERNHAKEN_PART_SMS_CONFIDENTIALITY, ASTERNHAKEN_PART_SMS_PRIVACY
 };
 
 enum { RECORD_PARTS = sizeof record_parts / sizeof *record_parts };
 
 static void say_entry(uint32_t entry)
 {
-    uint64_t told = part(entry, ASTERNHAKEN_TOLD), numbers[RECORD_PARTS];
+    uint64_t told = part(entry, ASTERNHAKEN_PART_TOLD), numbers[RECORD_PARTS];
     say("|");
-    say_number(part(entry, ASTERNHAKEN_KEY_OF));
+    say_number(part(entry, ASTERNHAKEN_PART_KEY));
     say_number(told);
-    if (told < ASTERNHAKEN_CLEAR || told > ASTERNHAKEN_JOINED) return;
+    if (told < ASTERNHAKEN_TOLD_CLEAR || told > ASTERNHAKEN_TOLD_JOINED) return;
     for (size_t i = 0; i < RECORD_PARTS; i++) numbers[i] = part(entry, record_parts[i]);
     say_record(numbers, call_record);
 }
@@ -591,9 +595,9 @@ static void say_entry(uint32_t entry)
 static void say_answer(uint32_t result)
 {
     int accepted = say_result(result) == ASTERNHAKEN_ACCEPTED;
-    size_t count = accepted ? count_of(part(0, ASTERNHAKEN_COUNT), ASTERNHAKEN_ENTRIES, "entries") : 0;
-    say_number(accepted ? part(0, ASTERNHAKEN_DROPPED) : 0);
-    say_number(accepted ? part(0, ASTERNHAKEN_EXPIRED) : 0);
+    size_t count = accepted ? count_of(part(0, ASTERNHAKEN_PART_ENTRY_COUNT), ASTERNHAKEN_ENTRIES, "entries") : 0;
+    say_number(accepted ? part(0, ASTERNHAKEN_PART_DROPPED) : 0);
+    say_number(accepted ? part(0, ASTERNHAKEN_PART_EXPIRED) : 0);
     for (uint32_t entry = 0; entry < count; entry++) say_entry(entry);
 }
 

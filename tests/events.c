@@ -23,39 +23,39 @@ static void show_if(uint32_t entry, const char *word, uint32_t there, uint32_t w
 
 static void show_channel(uint32_t e)
 {
-    if (!part(e, ASTERNHAKEN_DESCRIBED)) {
+    if (!part(e, ASTERNHAKEN_PART_CHANNEL_GIVEN)) {
         printf(" channel -");
         return;
     }
-    printf(" channel %06llx", part(e, ASTERNHAKEN_CHANNEL));
-    if (!part(e, ASTERNHAKEN_HOPS)) return;
-    if (part(e, ASTERNHAKEN_SHORT_LIST)) {
-        printf(" list %016llx", part(e, ASTERNHAKEN_FREQUENCIES));
+    printf(" channel %06llx", part(e, ASTERNHAKEN_PART_CHANNEL));
+    if (!part(e, ASTERNHAKEN_PART_HOPS)) return;
+    if (part(e, ASTERNHAKEN_PART_SHORT_LIST)) {
+        printf(" list %016llx", part(e, ASTERNHAKEN_PART_FREQUENCIES));
         return;
     }
-    int octets = (int)part(e, ASTERNHAKEN_ALLOCATION_OCTETS);
-    printf(" allocation %d %0*llx", octets, 2 * octets, part(e, ASTERNHAKEN_FREQUENCIES));
+    int octets = (int)part(e, ASTERNHAKEN_PART_ALLOCATION_OCTETS);
+    printf(" allocation %d %0*llx", octets, 2 * octets, part(e, ASTERNHAKEN_PART_FREQUENCIES));
 }
 
 static void show_record(uint32_t e)
 {
-    printf(" call %llu %llu %llu %llu %llu", part(e, ASTERNHAKEN_CALL_REFERENCE), part(e, ASTERNHAKEN_VGCS), part(e, ASTERNHAKEN_ACKNOWLEDGED),
-           part(e, ASTERNHAKEN_PRIORITY), part(e, ASTERNHAKEN_CIPHER_KEY_NUMBER));
+    printf(" call %llu %llu %llu %llu %llu", part(e, ASTERNHAKEN_PART_CALL_REFERENCE), part(e, ASTERNHAKEN_PART_VGCS), part(e, ASTERNHAKEN_PART_ACKNOWLEDGED),
+           part(e, ASTERNHAKEN_PART_PRIORITY), part(e, ASTERNHAKEN_PART_CIPHER_KEY_NUMBER));
     show_channel(e);
-    show_if(e, " segment", ASTERNHAKEN_SEGMENTED, ASTERNHAKEN_SEGMENT_ID);
-    if (part(e, ASTERNHAKEN_RAND_GIVEN)) printf(" rand %09llx", part(e, ASTERNHAKEN_VSTK_RAND));
+    show_if(e, " segment", ASTERNHAKEN_PART_SEGMENT_GIVEN, ASTERNHAKEN_PART_SEGMENT_ID);
+    if (part(e, ASTERNHAKEN_PART_RAND_GIVEN)) printf(" rand %09llx", part(e, ASTERNHAKEN_PART_VSTK_RAND));
     else printf(" rand -");
-    printf(" emergency %llu", part(e, ASTERNHAKEN_EMERGENCY));
-    show_if(e, " count", ASTERNHAKEN_COUNTED, ASTERNHAKEN_CELL_GLOBAL_COUNT);
-    if (part(e, ASTERNHAKEN_COUNTED)) printf(" %llu", part(e, ASTERNHAKEN_B22_COUNT));
-    show_if(e, " uplink", ASTERNHAKEN_UPLINK_GIVEN, ASTERNHAKEN_UPLINK_ACCESS);
+    printf(" emergency %llu", part(e, ASTERNHAKEN_PART_EMERGENCY));
+    show_if(e, " count", ASTERNHAKEN_PART_COUNT_GIVEN, ASTERNHAKEN_PART_CELL_GLOBAL_COUNT);
+    if (part(e, ASTERNHAKEN_PART_COUNT_GIVEN)) printf(" %llu", part(e, ASTERNHAKEN_PART_B22_COUNT));
+    show_if(e, " uplink", ASTERNHAKEN_PART_UPLINK_GIVEN, ASTERNHAKEN_PART_UPLINK_ACCESS);
     printf(" amr");
-    if (part(e, ASTERNHAKEN_AMR)) {
-        show_if(e, "", ASTERNHAKEN_FR_AMR_GIVEN, ASTERNHAKEN_FR_AMR_CONFIG);
-        show_if(e, "", ASTERNHAKEN_HR_AMR_GIVEN, ASTERNHAKEN_HR_AMR_CONFIG);
+    if (part(e, ASTERNHAKEN_PART_AMR_GIVEN)) {
+        show_if(e, "", ASTERNHAKEN_PART_FR_AMR_GIVEN, ASTERNHAKEN_PART_FR_AMR_CONFIG);
+        show_if(e, "", ASTERNHAKEN_PART_HR_AMR_GIVEN, ASTERNHAKEN_PART_HR_AMR_CONFIG);
     } else printf(" -");
-    show_if(e, " sms", ASTERNHAKEN_SMS, ASTERNHAKEN_SMS_CONFIDENTIALITY);
-    if (part(e, ASTERNHAKEN_SMS)) printf(" %llu", part(e, ASTERNHAKEN_SMS_PRIVACY));
+    show_if(e, " sms", ASTERNHAKEN_PART_SMS_GIVEN, ASTERNHAKEN_PART_SMS_CONFIDENTIALITY);
+    if (part(e, ASTERNHAKEN_PART_SMS_GIVEN)) printf(" %llu", part(e, ASTERNHAKEN_PART_SMS_PRIVACY));
 }
 
 static void show_answer(uint32_t result)
@@ -64,11 +64,11 @@ static void show_answer(uint32_t result)
         printf("%lu 0 0 0\n", (unsigned long)result);
         return;
     }
-    uint32_t count = (uint32_t)part(0, ASTERNHAKEN_COUNT);
-    printf("0 %llu %llu %lu\n", part(0, ASTERNHAKEN_EXPIRED), part(0, ASTERNHAKEN_DROPPED), (unsigned long)count);
+    uint32_t count = (uint32_t)part(0, ASTERNHAKEN_PART_ENTRY_COUNT);
+    printf("0 %llu %llu %lu\n", part(0, ASTERNHAKEN_PART_EXPIRED), part(0, ASTERNHAKEN_PART_DROPPED), (unsigned long)count);
     for (uint32_t e = 0; e < count; e++) {
-        printf("  %llu %llu", part(e, ASTERNHAKEN_KEY_OF), part(e, ASTERNHAKEN_TOLD));
-        if (part(e, ASTERNHAKEN_TOLD) >= ASTERNHAKEN_CLEAR && part(e, ASTERNHAKEN_TOLD) <= ASTERNHAKEN_JOINED) show_record(e);
+        printf("  %llu %llu", part(e, ASTERNHAKEN_PART_KEY), part(e, ASTERNHAKEN_PART_TOLD));
+        if (part(e, ASTERNHAKEN_PART_TOLD) >= ASTERNHAKEN_TOLD_CLEAR && part(e, ASTERNHAKEN_PART_TOLD) <= ASTERNHAKEN_TOLD_JOINED) show_record(e);
         printf("\n");
     }
 }

@@ -1,10 +1,11 @@
-/* Holds include/asternhaken.h and docs/STATE.md to the archive, since nothing else does: every function with a known answer, every size and limit, each
- * refusal and told number by its constant, each part of an answer, the state octet by octet. What is lent comes from the heap and has its exact
+/* Holds include/asternhaken.h and docs/STATE.md to the archive, since nothing else does: every function with a known answer (those that view a state stand in tests/views.c), every
+ * size and limit, each refusal and told number by its constant, each part of an answer, each struct member by its place, the state octet by octet. What is lent comes from the heap and has its exact
  * length, so that valgrind sees a step past it. The last line is 'N passed, M failed'.
  *
  * The messages were made from document 01 by hand and by the vectors' authors; the fields of each stand beside it. */
 #include <asternhaken.h>
 
+#include <stddef.h>
 #include <stdio.h>
 #include <stdlib.h>
 #include <string.h>
@@ -36,7 +37,7 @@ static void *lent(size_t size)
 
 static uint8_t *octets_of(const char *hex, size_t *n)
 {
-    uint8_t *octets = lent(strlen(hex) / 2);
+    uint8_t *octets = (uint8_t *)lent(strlen(hex) / 2);
     unsigned octet;
     for (*n = 0; sscanf(hex + 2 * *n, "%2x", &octet) == 1; ++*n) octets[*n] = (uint8_t)octet;
     return octets;
@@ -61,7 +62,7 @@ static int all_zero(const uint64_t *numbers, size_t n)
 /* ---- One receiver, in octets that held anything before ---- */
 
 /* docs/STATE.md: where the blocks begin; places of a subscription, three for each. */
-enum { NLN = 16, KEYS = 24, KINDS = 224, TICKS = 376, RECORDS = 976, EXPIRED = 9376, COUNT = 9384, ENTRIES = 9392, RECORD = 56, ENTRY = 72 };
+enum { NLN = 16, MARK = 20, KEYS = 24, KINDS = 224, TICKS = 376, RECORDS = 976, EXPIRED = 9376, COUNT = 9384, ENTRIES = 9392, RECORD = 56, ENTRY = 72 };
 enum { ON_NCH, ON_FACCH, ON_PCH, CHANNELS };
 #define PLACE(subscription, channel) (CHANNELS * (subscription) + (channel))
 #define KIND(subscription, channel) state[KINDS + PLACE(subscription, channel)]
@@ -74,7 +75,7 @@ enum { YARD = 9422, DISPATCHER = 9423 };
 
 static uint32_t set_up(const uint32_t *keys, size_t n, uint32_t tick, uint32_t t3206, uint32_t t3208, uint32_t t3210)
 {
-    uint32_t *copy = lent(n * sizeof *keys);
+    uint32_t *copy = (uint32_t *)lent(n * sizeof *keys);
     memcpy(copy, keys, n * sizeof *keys);
     uint32_t result = asternhaken_setup(state, LENGTH, copy, n, tick, t3206, t3208, t3210);
     CHECK(!memcmp(copy, keys, n * sizeof *keys));
@@ -109,17 +110,17 @@ static uint32_t facch(uint32_t tick, const char *hex)
 
 static uint32_t pch(uint32_t tick, const struct asternhaken_pch_entry *entry)
 {
-    uint64_t *numbers = lent(sizeof *entry);
-    memcpy(numbers, entry, sizeof *entry);
-    uint32_t result = asternhaken_pch(state, LENGTH, tick, numbers, ASTERNHAKEN_PCH_NUMBERS);
-    CHECK(!memcmp(numbers, entry, sizeof *entry));
-    free(numbers);
+    struct asternhaken_pch_entry *copy = (struct asternhaken_pch_entry *)lent(sizeof *entry);
+    memcpy(copy, entry, sizeof *entry);
+    uint32_t result = asternhaken_pch_put(state, LENGTH, tick, copy);
+    CHECK(!memcmp(copy, entry, sizeof *entry));
+    free(copy);
     return result;
 }
 
 static uint64_t part(uint32_t entry, uint32_t which)
 {
-    uint64_t *value = lent(sizeof *value), number;
+    uint64_t *value = (uint64_t *)lent(sizeof *value), number;
     *value = 0xdeadbeef;
     if (asternhaken_read(state, LENGTH, entry, which, value) != ASTERNHAKEN_ACCEPTED) check(0, "asternhaken_read refuses", __LINE__);
     number = *value;
@@ -127,15 +128,19 @@ static uint64_t part(uint32_t entry, uint32_t which)
     return number;
 }
 
-/* An answer's first three parts. */
+/* An answer's first three parts, one by one and as a struct. */
 static int answers(uint64_t expired, uint64_t dropped, uint64_t count)
 {
-    return part(0, ASTERNHAKEN_EXPIRED) == expired && part(0, ASTERNHAKEN_DROPPED) == dropped && part(0, ASTERNHAKEN_COUNT) == count;
+    struct asternhaken_answer *all = (struct asternhaken_answer *)lent(sizeof *all);
+    memset(all, 0xff, sizeof *all);
+    int same_by_name = asternhaken_answer_get(state, LENGTH, all) == ASTERNHAKEN_ACCEPTED && all->expired == expired && all->dropped == dropped && all->entry_count == count;
+    free(all);
+    return same_by_name && part(0, ASTERNHAKEN_PART_EXPIRED) == expired && part(0, ASTERNHAKEN_PART_DROPPED) == dropped && part(0, ASTERNHAKEN_PART_ENTRY_COUNT) == count;
 }
 
 static int tells(uint32_t entry, uint64_t key, uint64_t told)
 {
-    return part(entry, ASTERNHAKEN_KEY_OF) == key && part(entry, ASTERNHAKEN_TOLD) == told;
+    return part(entry, ASTERNHAKEN_PART_KEY) == key && part(entry, ASTERNHAKEN_PART_TOLD) == told;
 }
 
 #define ACCEPTED(call) CHECK((call) == ASTERNHAKEN_ACCEPTED)
@@ -175,11 +180,11 @@ static const struct asternhaken_pch_entry strange = { 1630, 0, 0, 0, 0, 0, 0, 0,
 #define FACCH_CAUSED "045f5e0ffffe2c7fff8000000000000001ec48d159e257"
 
 static const uint64_t nch_parts[35] = {
-    0, 0, 1, 199999999, ASTERNHAKEN_ONE_PIECE, 99999999, 0x71f3c5, 0x5a, 0xfedcba987,
+    0, 0, 1, 199999999, ASTERNHAKEN_TOLD_ONE_PIECE, 99999999, 0x71f3c5, 0x5a, 0xfedcba987,
     1, 1, 1, 1, 1, 0, 1, 0, 1, 1, 1, 0, 1, 1, 1, 1, 1, 1, 1, 1, 7, 15, 1, 3, 5, 11
 };
 static const uint64_t facch_parts[35] = {
-    0, 0, 1, 199999999, ASTERNHAKEN_ONE_PIECE, 99999999, 0x8b1fff, 0x8000000000000001, 0x123456789,
+    0, 0, 1, 199999999, ASTERNHAKEN_TOLD_ONE_PIECE, 99999999, 0x8b1fff, 0x8000000000000001, 0x123456789,
     1, 1, 1, 1, 1, 1, 0, 0, 1, 1, 1, 1, 1, 1, 0, 0, 0, 0, 0, 0, 7, 15, 0, 2, 0, 0
 };
 
@@ -187,7 +192,7 @@ static const struct asternhaken_pch_entry pch_whole = {
     199999999, 1, 1, (uint64_t)199999999 << 8 | 0xff, 1, 0x8b1fff, 1, 1, 0, 0x8000000000000001, 1, 0x123456789, 1, 3
 };
 static const uint64_t pch_parts[35] = {
-    0, 0, 1, 199999999, ASTERNHAKEN_ONE_PIECE, 99999999, 0x8b1fff, 0x8000000000000001, 0x123456789,
+    0, 0, 1, 199999999, ASTERNHAKEN_TOLD_ONE_PIECE, 99999999, 0x8b1fff, 0x8000000000000001, 0x123456789,
     1, 1, 1, 1, 1, 1, 0, 0, 1, 0, 1, 0, 0, 0, 0, 0, 0, 0, 0, 0, 7, 15, 0, 3, 0, 0
 };
 
@@ -202,17 +207,17 @@ static void setups(void)
     CHECK(ASTERNHAKEN_T3206 == 10000 && ASTERNHAKEN_T3208 == 5000 && ASTERNHAKEN_T3210 == 5000);
 
     fresh(77);
-    REFUSED(set_up(keys, 51, 5, 5000, 5000, 5000), ASTERNHAKEN_SETUP);
-    REFUSED(set_up(two_keys, 2, 5, 0, 5000, 5000), ASTERNHAKEN_SETUP);
-    REFUSED(set_up(two_keys, 2, 5, ASTERNHAKEN_LONGEST + 1, 5000, 5000), ASTERNHAKEN_SETUP);
-    REFUSED(set_up(two_keys, 2, 5, 5000, 0, 5000), ASTERNHAKEN_SETUP);
-    REFUSED(set_up(two_keys, 2, 5, 5000, ASTERNHAKEN_LONGEST + 1, 5000), ASTERNHAKEN_SETUP);
-    REFUSED(set_up(two_keys, 2, 5, 5000, 5000, 0), ASTERNHAKEN_SETUP);
-    REFUSED(set_up(two_keys, 2, 5, 5000, 5000, ASTERNHAKEN_LONGEST + 1), ASTERNHAKEN_SETUP);
+    REFUSED(set_up(keys, 51, 5, 5000, 5000, 5000), ASTERNHAKEN_REFUSED_SETUP);
+    REFUSED(set_up(two_keys, 2, 5, 0, 5000, 5000), ASTERNHAKEN_REFUSED_SETUP);
+    REFUSED(set_up(two_keys, 2, 5, ASTERNHAKEN_LONGEST + 1, 5000, 5000), ASTERNHAKEN_REFUSED_SETUP);
+    REFUSED(set_up(two_keys, 2, 5, 5000, 0, 5000), ASTERNHAKEN_REFUSED_SETUP);
+    REFUSED(set_up(two_keys, 2, 5, 5000, ASTERNHAKEN_LONGEST + 1, 5000), ASTERNHAKEN_REFUSED_SETUP);
+    REFUSED(set_up(two_keys, 2, 5, 5000, 5000, 0), ASTERNHAKEN_REFUSED_SETUP);
+    REFUSED(set_up(two_keys, 2, 5, 5000, 5000, ASTERNHAKEN_LONGEST + 1), ASTERNHAKEN_REFUSED_SETUP);
     keys[49] = keys[0];
-    REFUSED(set_up(keys, 50, 5, 5000, 5000, 5000), ASTERNHAKEN_SETUP);
+    REFUSED(set_up(keys, 50, 5, 5000, 5000, 5000), ASTERNHAKEN_REFUSED_SETUP);
     keys[49] = ASTERNHAKEN_LAST_KEY + 1;
-    REFUSED(set_up(keys, 50, 5, 5000, 5000, 5000), ASTERNHAKEN_SETUP);
+    REFUSED(set_up(keys, 50, 5, 5000, 5000, 5000), ASTERNHAKEN_REFUSED_SETUP);
     keys[49] = 0;
     ACCEPTED(set_up(keys, ASTERNHAKEN_KEYS, 5, 1, ASTERNHAKEN_LONGEST, 1));
     ACCEPTED(set_up(keys, ASTERNHAKEN_KEYS, 5, ASTERNHAKEN_LONGEST, 1, ASTERNHAKEN_LONGEST));
@@ -223,29 +228,32 @@ static void setups(void)
 /* A state of a wrong length is refused before anything else is looked at, and not touched. */
 static void wrong_length(size_t length)
 {
-    uint8_t *octets = lent(length), *copy = lent(length);
-    uint32_t *keys = lent(sizeof *keys);
-    uint8_t *message = lent(1);
-    uint64_t *value = lent(sizeof *value);
+    uint8_t *octets = (uint8_t *)lent(length), *copy = (uint8_t *)lent(length);
+    uint32_t *keys = (uint32_t *)lent(sizeof *keys);
+    uint8_t *message = (uint8_t *)lent(1);
+    uint64_t *value = (uint64_t *)lent(sizeof *value);
     memcpy(octets, state, length < LENGTH ? length : LENGTH);
     if (length > LENGTH) memset(octets + LENGTH, 0, length - LENGTH);
     memcpy(copy, octets, length);
     *keys = UINT32_MAX;
     *message = 0;
     *value = UINT64_MAX;
-    CHECK(asternhaken_setup(octets, length, keys, 1, 0, 0, 0, 0) == ASTERNHAKEN_LENGTH);
-    CHECK(asternhaken_nch(octets, length, 0, message, 1) == ASTERNHAKEN_LENGTH);
-    CHECK(asternhaken_facch(octets, length, 0, message, 1) == ASTERNHAKEN_LENGTH);
-    CHECK(asternhaken_pch(octets, length, 0, value, 1) == ASTERNHAKEN_LENGTH);
-    CHECK(asternhaken_joined(octets, length, 0, UINT32_MAX) == ASTERNHAKEN_LENGTH);
-    CHECK(asternhaken_reselected(octets, length, 0) == ASTERNHAKEN_LENGTH);
-    CHECK(asternhaken_handed_over(octets, length, 0) == ASTERNHAKEN_LENGTH);
-    CHECK(asternhaken_reconfigured(octets, length, 0) == ASTERNHAKEN_LENGTH);
-    CHECK(asternhaken_left_idle(octets, length, 0) == ASTERNHAKEN_LENGTH);
-    CHECK(asternhaken_tick(octets, length, 0) == ASTERNHAKEN_LENGTH);
+    CHECK(asternhaken_setup(octets, length, keys, 1, 0, 0, 0, 0) == ASTERNHAKEN_REFUSED_LENGTH);
+    CHECK(asternhaken_nch(octets, length, 0, message, 1) == ASTERNHAKEN_REFUSED_LENGTH);
+    CHECK(asternhaken_facch(octets, length, 0, message, 1) == ASTERNHAKEN_REFUSED_LENGTH);
+    CHECK(asternhaken_pch(octets, length, 0, value, 1) == ASTERNHAKEN_REFUSED_LENGTH);
+    CHECK(asternhaken_joined(octets, length, 0, UINT32_MAX) == ASTERNHAKEN_REFUSED_LENGTH);
+    CHECK(asternhaken_reselected(octets, length, 0) == ASTERNHAKEN_REFUSED_LENGTH);
+    CHECK(asternhaken_handed_over(octets, length, 0) == ASTERNHAKEN_REFUSED_LENGTH);
+    CHECK(asternhaken_reconfigured(octets, length, 0) == ASTERNHAKEN_REFUSED_LENGTH);
+    CHECK(asternhaken_left_idle(octets, length, 0) == ASTERNHAKEN_REFUSED_LENGTH);
+    CHECK(asternhaken_tick(octets, length, 0) == ASTERNHAKEN_REFUSED_LENGTH);
     *value = 7;
-    CHECK(asternhaken_read(octets, length, 0, ASTERNHAKEN_COUNT, value) == ASTERNHAKEN_LENGTH);
+    CHECK(asternhaken_read(octets, length, 0, ASTERNHAKEN_PART_ENTRY_COUNT, value) == ASTERNHAKEN_REFUSED_LENGTH);
     CHECK(*value == 0);
+    struct asternhaken_answer all = { 1, 2, 3 };
+    CHECK(asternhaken_answer_get(octets, length, &all) == ASTERNHAKEN_REFUSED_LENGTH && !all.expired && !all.dropped && !all.entry_count);
+    CHECK(asternhaken_pch_put(octets, length, 0, &yard_first) == ASTERNHAKEN_REFUSED_LENGTH);
     CHECK(!memcmp(copy, octets, length));
     free(octets), free(copy), free(keys), free(message), free(value);
 }
@@ -267,34 +275,34 @@ static void told(void)
 {
     fresh(1000);
     ACCEPTED(nch(1001, "b000065e008520918b2b2b2b2b2b2b2b2b2b2b2b")); /* 815 VBS */
-    CHECK(answers(0, 0, 1) && tells(0, 1630, ASTERNHAKEN_NOT_OURS));
+    CHECK(answers(0, 0, 1) && tells(0, 1630, ASTERNHAKEN_TOLD_NOT_OURS));
     ACCEPTED(nch(1002, "b00024cea08520918b2b2b2b2b2b2b2b2b2b2b2b")); /* key number 0, channel 0a4123 */
-    CHECK(tells(0, YARD, ASTERNHAKEN_CLEAR) && part(0, ASTERNHAKEN_CHANNEL) == 0x0a4123);
+    CHECK(tells(0, YARD, ASTERNHAKEN_TOLD_CLEAR) && part(0, ASTERNHAKEN_PART_CHANNEL) == 0x0a4123);
     ACCEPTED(nch(1003, "b00024cea385209192800000000b2b2b2b2b2b2b")); /* Segment Id 0 with VSTK_RAND 1 */
-    CHECK(tells(0, YARD, ASTERNHAKEN_ONE_PIECE) && part(0, ASTERNHAKEN_VSTK_RAND) == 1);
+    CHECK(tells(0, YARD, ASTERNHAKEN_TOLD_ONE_PIECE) && part(0, ASTERNHAKEN_PART_VSTK_RAND) == 1);
     ACCEPTED(nch(1004, YARD_FIRST));
-    CHECK(tells(0, YARD, ASTERNHAKEN_HALF_STORED) && part(0, ASTERNHAKEN_CHANNEL) == 0);
+    CHECK(tells(0, YARD, ASTERNHAKEN_TOLD_HALF_STORED) && part(0, ASTERNHAKEN_PART_CHANNEL) == 0);
     ACCEPTED(nch(1005, YARD_FIRST));
-    CHECK(tells(0, YARD, ASTERNHAKEN_HALF_HELD));
+    CHECK(tells(0, YARD, ASTERNHAKEN_TOLD_HALF_HELD));
     ACCEPTED(nch(1006, DISPATCHER_FIRST));
-    CHECK(tells(0, DISPATCHER, ASTERNHAKEN_HALF_STORED));
+    CHECK(tells(0, DISPATCHER, ASTERNHAKEN_TOLD_HALF_STORED));
     ACCEPTED(nch(1007, YARD_OTHER_SECOND));
-    CHECK(tells(0, YARD, ASTERNHAKEN_UNUSABLE));
+    CHECK(tells(0, YARD, ASTERNHAKEN_TOLD_UNUSABLE));
     ACCEPTED(nch(1008, YARD_SECOND));
-    CHECK(tells(0, YARD, ASTERNHAKEN_JOINED) && part(0, ASTERNHAKEN_CHANNEL) == 0x0a4123 && part(0, ASTERNHAKEN_VSTK_RAND) == 0x123456789);
-    CHECK(part(0, ASTERNHAKEN_COUNTED) == 1 && part(0, ASTERNHAKEN_CELL_GLOBAL_COUNT) == 1);
+    CHECK(tells(0, YARD, ASTERNHAKEN_TOLD_JOINED) && part(0, ASTERNHAKEN_PART_CHANNEL) == 0x0a4123 && part(0, ASTERNHAKEN_PART_VSTK_RAND) == 0x123456789);
+    CHECK(part(0, ASTERNHAKEN_PART_COUNT_GIVEN) == 1 && part(0, ASTERNHAKEN_PART_CELL_GLOBAL_COUNT) == 1);
     ACCEPTED(nch(1009, "b00024cea02b2b2b2b2b2b2b2b2b2b2b2b2b2b2b")); /* no channel, key number 0 */
-    CHECK(tells(0, YARD, ASTERNHAKEN_NO_CHANNEL));
+    CHECK(tells(0, YARD, ASTERNHAKEN_TOLD_NO_CHANNEL));
     ACCEPTED(facch(1010, FACCH_SECOND));
-    CHECK(tells(0, DISPATCHER, ASTERNHAKEN_SECOND_BEFORE_FIRST));
+    CHECK(tells(0, DISPATCHER, ASTERNHAKEN_TOLD_SECOND_BEFORE_FIRST));
     ACCEPTED(nch(1011, "b00024cea38520918b2b2b2b2b2b2b2b2b2b2b2b")); /* ciphered, with a channel, no random entry */
-    CHECK(tells(0, YARD, ASTERNHAKEN_UNUSABLE));
+    CHECK(tells(0, YARD, ASTERNHAKEN_TOLD_UNUSABLE));
     ACCEPTED(facch(1012, FACCH_FIRST));
-    CHECK(tells(0, DISPATCHER, ASTERNHAKEN_HALF_STORED));
+    CHECK(tells(0, DISPATCHER, ASTERNHAKEN_TOLD_HALF_STORED));
     ACCEPTED(facch(1013, FACCH_SECOND));
-    CHECK(tells(0, DISPATCHER, ASTERNHAKEN_JOINED) && part(0, ASTERNHAKEN_CHANNEL) == 0x5b8456 && part(0, ASTERNHAKEN_VSTK_RAND) == 0x555555555);
+    CHECK(tells(0, DISPATCHER, ASTERNHAKEN_TOLD_JOINED) && part(0, ASTERNHAKEN_PART_CHANNEL) == 0x5b8456 && part(0, ASTERNHAKEN_PART_VSTK_RAND) == 0x555555555);
     ACCEPTED(nch(1014, BOTH_FIRST));
-    CHECK(answers(0, 0, 2) && tells(0, YARD, ASTERNHAKEN_HALF_STORED) && tells(1, DISPATCHER, ASTERNHAKEN_HALF_HELD));
+    CHECK(answers(0, 0, 2) && tells(0, YARD, ASTERNHAKEN_TOLD_HALF_STORED) && tells(1, DISPATCHER, ASTERNHAKEN_TOLD_HALF_HELD));
     CHECK(tells(2, 0, 0) && tells(UINT32_MAX, 0, 0));
     ACCEPTED(nch(1015, NOTHING));
     CHECK(answers(0, 0, 0) && tells(0, 0, 0));
@@ -357,29 +365,29 @@ static void timers(void)
 static void refusals(void)
 {
     three_halves(1000);
-    REFUSED(nch(1001, "2b2b2b2b2b2b2b2b2b2b2b2b2b2b2b2b2b2b2b"), ASTERNHAKEN_MESSAGE_LENGTH);
-    REFUSED(nch(1001, NOTHING "2b"), ASTERNHAKEN_MESSAGE_LENGTH);
-    REFUSED(nch(1001, ""), ASTERNHAKEN_MESSAGE_LENGTH);
-    REFUSED(facch(1001, "04"), ASTERNHAKEN_MESSAGE_LENGTH);
-    REFUSED(facch(1001, FACCH_WHOLE "2b"), ASTERNHAKEN_MESSAGE_LENGTH);
+    REFUSED(nch(1001, "2b2b2b2b2b2b2b2b2b2b2b2b2b2b2b2b2b2b2b"), ASTERNHAKEN_REFUSED_MESSAGE_LENGTH);
+    REFUSED(nch(1001, NOTHING "2b"), ASTERNHAKEN_REFUSED_MESSAGE_LENGTH);
+    REFUSED(nch(1001, ""), ASTERNHAKEN_REFUSED_MESSAGE_LENGTH);
+    REFUSED(facch(1001, "04"), ASTERNHAKEN_REFUSED_MESSAGE_LENGTH);
+    REFUSED(facch(1001, FACCH_WHOLE "2b"), ASTERNHAKEN_REFUSED_MESSAGE_LENGTH);
     CHECK(ASTERNHAKEN_NCH_LENGTH == strlen(NOTHING) / 2 && ASTERNHAKEN_FACCH_LONGEST == strlen(FACCH_WHOLE) / 2 && ASTERNHAKEN_FACCH_SHORTEST == 2);
-    REFUSED(nch(1001, "0492492492492492492492492492492492492492"), ASTERNHAKEN_RAN_OUT); /* random entries to the last bit */
-    REFUSED(facch(1001, "042b"), ASTERNHAKEN_RAN_OUT);
-    REFUSED(nch(1001, "4000933a8ee3e00104808080808080808080ab2b"), ASTERNHAKEN_ALLOCATION_LENGTH); /* nine octets */
-    REFUSED(nch(1001, "ffffffffffffffffffffffffffffffffffffffff"), ASTERNHAKEN_REFERENCE);
-    REFUSED(asternhaken_joined(state, LENGTH, 1001, ASTERNHAKEN_LAST_KEY + 1), ASTERNHAKEN_REFERENCE);
-    REFUSED(nch(1001, "4000933a8e14a2462b2b2b2b2b2b2b2b2b2b2b2b"), ASTERNHAKEN_HOPPING); /* channel 0a5123, not hopping */
-    REFUSED(nch(1001, "4000933a80912b2b2b2b2b2b2b2b2b2b2b2b2b2b"), ASTERNHAKEN_RANDOM_ENTRIES); /* one, and the call is clear */
-    REFUSED(nch(1001, "4000933a80702b2b2b2b2b2b2b2b2b2b2b2b2b2b"), ASTERNHAKEN_EMERGENCY_MARKS); /* one, and no channel */
-    REFUSED(facch(1001, "0480"), ASTERNHAKEN_PAGING);
-    REFUSED(nch(999, ""), ASTERNHAKEN_CLOCK);
-    REFUSED(facch(999, ""), ASTERNHAKEN_CLOCK);
-    REFUSED(asternhaken_joined(state, LENGTH, 999, UINT32_MAX), ASTERNHAKEN_CLOCK);
-    REFUSED(asternhaken_reselected(state, LENGTH, 999), ASTERNHAKEN_CLOCK);
-    REFUSED(asternhaken_handed_over(state, LENGTH, 999), ASTERNHAKEN_CLOCK);
-    REFUSED(asternhaken_reconfigured(state, LENGTH, 999), ASTERNHAKEN_CLOCK);
-    REFUSED(asternhaken_tick(state, LENGTH, 999), ASTERNHAKEN_CLOCK);
-    REFUSED(asternhaken_tick(state, LENGTH, 1000 + 0x80000000u), ASTERNHAKEN_CLOCK); /* a step of 2^31 */
+    REFUSED(nch(1001, "0492492492492492492492492492492492492492"), ASTERNHAKEN_REFUSED_RAN_OUT); /* random entries to the last bit */
+    REFUSED(facch(1001, "042b"), ASTERNHAKEN_REFUSED_RAN_OUT);
+    REFUSED(nch(1001, "4000933a8ee3e00104808080808080808080ab2b"), ASTERNHAKEN_REFUSED_ALLOCATION_LENGTH); /* nine octets */
+    REFUSED(nch(1001, "ffffffffffffffffffffffffffffffffffffffff"), ASTERNHAKEN_REFUSED_REFERENCE);
+    REFUSED(asternhaken_joined(state, LENGTH, 1001, ASTERNHAKEN_LAST_KEY + 1), ASTERNHAKEN_REFUSED_REFERENCE);
+    REFUSED(nch(1001, "4000933a8e14a2462b2b2b2b2b2b2b2b2b2b2b2b"), ASTERNHAKEN_REFUSED_HOPPING); /* channel 0a5123, not hopping */
+    REFUSED(nch(1001, "4000933a80912b2b2b2b2b2b2b2b2b2b2b2b2b2b"), ASTERNHAKEN_REFUSED_RANDOM_ENTRIES); /* one, and the call is clear */
+    REFUSED(nch(1001, "4000933a80702b2b2b2b2b2b2b2b2b2b2b2b2b2b"), ASTERNHAKEN_REFUSED_EMERGENCY_MARKS); /* one, and no channel */
+    REFUSED(facch(1001, "0480"), ASTERNHAKEN_REFUSED_PAGING);
+    REFUSED(nch(999, ""), ASTERNHAKEN_REFUSED_CLOCK);
+    REFUSED(facch(999, ""), ASTERNHAKEN_REFUSED_CLOCK);
+    REFUSED(asternhaken_joined(state, LENGTH, 999, UINT32_MAX), ASTERNHAKEN_REFUSED_CLOCK);
+    REFUSED(asternhaken_reselected(state, LENGTH, 999), ASTERNHAKEN_REFUSED_CLOCK);
+    REFUSED(asternhaken_handed_over(state, LENGTH, 999), ASTERNHAKEN_REFUSED_CLOCK);
+    REFUSED(asternhaken_reconfigured(state, LENGTH, 999), ASTERNHAKEN_REFUSED_CLOCK);
+    REFUSED(asternhaken_tick(state, LENGTH, 999), ASTERNHAKEN_REFUSED_CLOCK);
+    REFUSED(asternhaken_tick(state, LENGTH, 1000 + 0x80000000u), ASTERNHAKEN_REFUSED_CLOCK); /* a step of 2^31 */
     ACCEPTED(asternhaken_tick(state, LENGTH, 1000 + 0x7fffffffu));
     CHECK(answers(3, 0, 0));
 }
@@ -391,20 +399,20 @@ static void paging_channel(void)
     /* either half may come first, and the key alone is enough for a second one */
     fresh(1000);
     ACCEPTED(pch(1001, &yard_first));
-    CHECK(answers(0, 0, 1) && tells(0, YARD, ASTERNHAKEN_HALF_STORED) && KIND(0, ON_PCH) == 1);
+    CHECK(answers(0, 0, 1) && tells(0, YARD, ASTERNHAKEN_TOLD_HALF_STORED) && KIND(0, ON_PCH) == 1);
     ACCEPTED(pch(1002, &yard_first));
-    CHECK(tells(0, YARD, ASTERNHAKEN_HALF_HELD));
+    CHECK(tells(0, YARD, ASTERNHAKEN_TOLD_HALF_HELD));
     ACCEPTED(pch(1003, &yard_other_second));
-    CHECK(tells(0, YARD, ASTERNHAKEN_UNUSABLE) && KIND(0, ON_PCH) == 1);
+    CHECK(tells(0, YARD, ASTERNHAKEN_TOLD_UNUSABLE) && KIND(0, ON_PCH) == 1);
     ACCEPTED(pch(1004, &yard_second));
-    CHECK(tells(0, YARD, ASTERNHAKEN_JOINED) && part(0, ASTERNHAKEN_CHANNEL) == 0x0a4123 && part(0, ASTERNHAKEN_VSTK_RAND) == 0x987654321);
-    CHECK(part(0, ASTERNHAKEN_FULL) == 1 && part(0, ASTERNHAKEN_CELL_GLOBAL_COUNT) == 2 && KIND(0, ON_PCH) == 0);
+    CHECK(tells(0, YARD, ASTERNHAKEN_TOLD_JOINED) && part(0, ASTERNHAKEN_PART_CHANNEL) == 0x0a4123 && part(0, ASTERNHAKEN_PART_VSTK_RAND) == 0x987654321);
+    CHECK(part(0, ASTERNHAKEN_PART_FULL) == 1 && part(0, ASTERNHAKEN_PART_CELL_GLOBAL_COUNT) == 2 && KIND(0, ON_PCH) == 0);
     ACCEPTED(pch(1005, &yard_second));
-    CHECK(tells(0, YARD, ASTERNHAKEN_HALF_STORED) && KIND(0, ON_PCH) == 2);
+    CHECK(tells(0, YARD, ASTERNHAKEN_TOLD_HALF_STORED) && KIND(0, ON_PCH) == 2);
     ACCEPTED(pch(1006, &yard_first));
-    CHECK(tells(0, YARD, ASTERNHAKEN_JOINED) && part(0, ASTERNHAKEN_CHANNEL) == 0x0a4123);
+    CHECK(tells(0, YARD, ASTERNHAKEN_TOLD_JOINED) && part(0, ASTERNHAKEN_PART_CHANNEL) == 0x0a4123);
     ACCEPTED(pch(1007, &dispatcher_clear));
-    CHECK(tells(0, DISPATCHER, ASTERNHAKEN_CLEAR) && part(0, ASTERNHAKEN_FREQUENCIES) == 0xa55a && part(0, ASTERNHAKEN_ALLOCATION_OCTETS) == 2);
+    CHECK(tells(0, DISPATCHER, ASTERNHAKEN_TOLD_CLEAR) && part(0, ASTERNHAKEN_PART_FREQUENCIES) == 0xa55a && part(0, ASTERNHAKEN_PART_ALLOCATION_OCTETS) == 2);
 
     /* what drops its half, and what does not */
     ACCEPTED(pch(1008, &yard_first));
@@ -416,7 +424,7 @@ static void paging_channel(void)
     CHECK(answers(0, 1, 1) && KIND(0, ON_PCH) == 0);
     ACCEPTED(pch(1011, &yard_first));
     ACCEPTED(pch(1012, &strange));
-    CHECK(answers(0, 1, 1) && tells(0, 1630, ASTERNHAKEN_NOT_OURS));
+    CHECK(answers(0, 1, 1) && tells(0, 1630, ASTERNHAKEN_TOLD_NOT_OURS));
     ACCEPTED(pch(1013, &yard_first));
     ACCEPTED(asternhaken_left_idle(state, LENGTH, 1014));
     CHECK(answers(0, 1, 0));
@@ -436,11 +444,11 @@ static void paging_channel(void)
 /* One number of a good entry is another one. */
 static void refuses_pch(size_t at, uint64_t number, uint32_t refusal)
 {
-    uint64_t *numbers = lent(sizeof dispatcher_clear);
+    uint64_t *numbers = (uint64_t *)lent(sizeof dispatcher_clear);
     memcpy(numbers, &dispatcher_clear, sizeof dispatcher_clear);
     numbers[at] = number;
     REFUSED(asternhaken_pch(state, LENGTH, 1001, numbers, ASTERNHAKEN_PCH_NUMBERS), refusal);
-    REFUSED(asternhaken_pch(state, LENGTH, 999, numbers, ASTERNHAKEN_PCH_NUMBERS), ASTERNHAKEN_CLOCK);
+    REFUSED(asternhaken_pch(state, LENGTH, 999, numbers, ASTERNHAKEN_PCH_NUMBERS), ASTERNHAKEN_REFUSED_CLOCK);
     free(numbers);
 }
 
@@ -449,33 +457,33 @@ static void pch_refusals(void)
     uint64_t numbers[ASTERNHAKEN_PCH_NUMBERS + 1] = { 0 };
     fresh(1000);
     ACCEPTED(pch(1000, &yard_first));
-    refuses_pch(ASTERNHAKEN_PCH_KEY, ASTERNHAKEN_LAST_KEY + 1, ASTERNHAKEN_REFERENCE);
-    refuses_pch(ASTERNHAKEN_PCH_KEY, YARD, ASTERNHAKEN_RANGE);
-    refuses_pch(ASTERNHAKEN_PCH_CIPHERED, 1, ASTERNHAKEN_RANGE);
-    refuses_pch(ASTERNHAKEN_PCH_CIPHERED, 2, ASTERNHAKEN_RANGE);
-    refuses_pch(ASTERNHAKEN_PCH_FULL, 0, ASTERNHAKEN_RANGE);
-    refuses_pch(ASTERNHAKEN_PCH_FULL, 2, ASTERNHAKEN_RANGE);
-    refuses_pch(ASTERNHAKEN_PCH_REFERENCE, (uint64_t)1 << 36 | DISPATCHER << 8, ASTERNHAKEN_RANGE);
-    refuses_pch(ASTERNHAKEN_PCH_DESCRIBED, 2, ASTERNHAKEN_RANGE);
-    refuses_pch(ASTERNHAKEN_PCH_CHANNEL, 0x18b1fff, ASTERNHAKEN_RANGE);
-    refuses_pch(ASTERNHAKEN_PCH_CHANNEL, 0x8b0fff, ASTERNHAKEN_HOPPING);
-    refuses_pch(ASTERNHAKEN_PCH_HOPS, 0, ASTERNHAKEN_HOPPING);
-    refuses_pch(ASTERNHAKEN_PCH_HOPS, 2, ASTERNHAKEN_RANGE);
-    refuses_pch(ASTERNHAKEN_PCH_SHORT_LIST, 2, ASTERNHAKEN_RANGE);
-    refuses_pch(ASTERNHAKEN_PCH_ALLOCATION_OCTETS, 0, ASTERNHAKEN_ALLOCATION_LENGTH);
-    refuses_pch(ASTERNHAKEN_PCH_ALLOCATION_OCTETS, 9, ASTERNHAKEN_ALLOCATION_LENGTH);
-    refuses_pch(ASTERNHAKEN_PCH_ALLOCATION_OCTETS, 1, ASTERNHAKEN_RANGE);
-    refuses_pch(ASTERNHAKEN_PCH_FREQUENCIES, 0x10000, ASTERNHAKEN_RANGE);
-    refuses_pch(ASTERNHAKEN_PCH_RAND_GIVEN, 2, ASTERNHAKEN_RANGE);
-    refuses_pch(ASTERNHAKEN_PCH_COUNTED, 2, ASTERNHAKEN_RANGE);
+    refuses_pch(ASTERNHAKEN_PCH_KEY, ASTERNHAKEN_LAST_KEY + 1, ASTERNHAKEN_REFUSED_REFERENCE);
+    refuses_pch(ASTERNHAKEN_PCH_KEY, YARD, ASTERNHAKEN_REFUSED_RANGE);
+    refuses_pch(ASTERNHAKEN_PCH_CIPHERED, 1, ASTERNHAKEN_REFUSED_RANGE);
+    refuses_pch(ASTERNHAKEN_PCH_CIPHERED, 2, ASTERNHAKEN_REFUSED_RANGE);
+    refuses_pch(ASTERNHAKEN_PCH_REFERENCE_GIVEN, 0, ASTERNHAKEN_REFUSED_RANGE);
+    refuses_pch(ASTERNHAKEN_PCH_REFERENCE_GIVEN, 2, ASTERNHAKEN_REFUSED_RANGE);
+    refuses_pch(ASTERNHAKEN_PCH_REFERENCE, (uint64_t)1 << 36 | DISPATCHER << 8, ASTERNHAKEN_REFUSED_RANGE);
+    refuses_pch(ASTERNHAKEN_PCH_CHANNEL_GIVEN, 2, ASTERNHAKEN_REFUSED_RANGE);
+    refuses_pch(ASTERNHAKEN_PCH_CHANNEL, 0x18b1fff, ASTERNHAKEN_REFUSED_RANGE);
+    refuses_pch(ASTERNHAKEN_PCH_CHANNEL, 0x8b0fff, ASTERNHAKEN_REFUSED_HOPPING);
+    refuses_pch(ASTERNHAKEN_PCH_HOPS, 0, ASTERNHAKEN_REFUSED_HOPPING);
+    refuses_pch(ASTERNHAKEN_PCH_HOPS, 2, ASTERNHAKEN_REFUSED_RANGE);
+    refuses_pch(ASTERNHAKEN_PCH_SHORT_LIST, 2, ASTERNHAKEN_REFUSED_RANGE);
+    refuses_pch(ASTERNHAKEN_PCH_ALLOCATION_OCTETS, 0, ASTERNHAKEN_REFUSED_ALLOCATION_LENGTH);
+    refuses_pch(ASTERNHAKEN_PCH_ALLOCATION_OCTETS, 9, ASTERNHAKEN_REFUSED_ALLOCATION_LENGTH);
+    refuses_pch(ASTERNHAKEN_PCH_ALLOCATION_OCTETS, 1, ASTERNHAKEN_REFUSED_RANGE);
+    refuses_pch(ASTERNHAKEN_PCH_FREQUENCIES, 0x10000, ASTERNHAKEN_REFUSED_RANGE);
+    refuses_pch(ASTERNHAKEN_PCH_RAND_GIVEN, 2, ASTERNHAKEN_REFUSED_RANGE);
+    refuses_pch(ASTERNHAKEN_PCH_COUNT_GIVEN, 2, ASTERNHAKEN_REFUSED_RANGE);
     memcpy(numbers, &dispatcher_clear, sizeof dispatcher_clear);
-    REFUSED(asternhaken_pch(state, LENGTH, 1001, numbers, ASTERNHAKEN_PCH_NUMBERS - 1), ASTERNHAKEN_LENGTH);
-    REFUSED(asternhaken_pch(state, LENGTH, 1001, numbers, ASTERNHAKEN_PCH_NUMBERS + 1), ASTERNHAKEN_LENGTH);
-    REFUSED(asternhaken_pch(state, LENGTH, 1001, numbers, 0), ASTERNHAKEN_LENGTH);
+    REFUSED(asternhaken_pch(state, LENGTH, 1001, numbers, ASTERNHAKEN_PCH_NUMBERS - 1), ASTERNHAKEN_REFUSED_LENGTH);
+    REFUSED(asternhaken_pch(state, LENGTH, 1001, numbers, ASTERNHAKEN_PCH_NUMBERS + 1), ASTERNHAKEN_REFUSED_LENGTH);
+    REFUSED(asternhaken_pch(state, LENGTH, 1001, numbers, 0), ASTERNHAKEN_REFUSED_LENGTH);
     /* the clock goes before the length of the entry, and behind that of the state */
-    REFUSED(asternhaken_pch(state, LENGTH, 999, numbers, 0), ASTERNHAKEN_CLOCK);
-    REFUSED(asternhaken_pch(state, LENGTH - 1, 999, numbers, 0), ASTERNHAKEN_LENGTH);
-    REFUSED(asternhaken_left_idle(state, LENGTH, 999), ASTERNHAKEN_CLOCK);
+    REFUSED(asternhaken_pch(state, LENGTH, 999, numbers, 0), ASTERNHAKEN_REFUSED_CLOCK);
+    REFUSED(asternhaken_pch(state, LENGTH - 1, 999, numbers, 0), ASTERNHAKEN_REFUSED_LENGTH);
+    REFUSED(asternhaken_left_idle(state, LENGTH, 999), ASTERNHAKEN_REFUSED_CLOCK);
     CHECK(sizeof(struct asternhaken_pch_entry) == ASTERNHAKEN_PCH_NUMBERS * sizeof(uint64_t) && ASTERNHAKEN_PCH_NUMBERS == 14);
 
     /* what is not looked at */
@@ -483,8 +491,8 @@ static void pch_refusals(void)
     numbers[ASTERNHAKEN_PCH_SHORT_LIST] = 1;
     numbers[ASTERNHAKEN_PCH_ALLOCATION_OCTETS] = UINT64_MAX;
     ACCEPTED(asternhaken_pch(state, LENGTH, 1000, numbers, ASTERNHAKEN_PCH_NUMBERS));
-    CHECK(tells(0, DISPATCHER, ASTERNHAKEN_CLEAR) && part(0, ASTERNHAKEN_VSTK_RAND) == 0 && part(0, ASTERNHAKEN_CELL_GLOBAL_COUNT) == 0);
-    CHECK(part(0, ASTERNHAKEN_SHORT_LIST) == 1 && part(0, ASTERNHAKEN_ALLOCATION_OCTETS) == 0 && part(0, ASTERNHAKEN_FREQUENCIES) == 0xa55a);
+    CHECK(tells(0, DISPATCHER, ASTERNHAKEN_TOLD_CLEAR) && part(0, ASTERNHAKEN_PART_VSTK_RAND) == 0 && part(0, ASTERNHAKEN_PART_CELL_GLOBAL_COUNT) == 0);
+    CHECK(part(0, ASTERNHAKEN_PART_SHORT_LIST) == 1 && part(0, ASTERNHAKEN_PART_ALLOCATION_OCTETS) == 0 && part(0, ASTERNHAKEN_PART_FREQUENCIES) == 0xa55a);
 }
 
 /* ---- Parts of an answer ---- */
@@ -504,11 +512,56 @@ static void parts(void)
     ACCEPTED(nch(6, NCH_WHOLE));
     for (uint32_t p = 0; p < 35; p++) CHECK(part(0, p) == nch_parts[p]);
     CHECK(no_parts(1, 3) && part(0, 35) == 0 && part(0, UINT32_MAX) == 0);
-    CHECK(part(9, ASTERNHAKEN_COUNT) == 1);
+    CHECK(part(9, ASTERNHAKEN_PART_ENTRY_COUNT) == 1);
     ACCEPTED(facch(7, FACCH_WHOLE));
     for (uint32_t p = 0; p < 35; p++) CHECK(part(0, p) == facch_parts[p]);
     ACCEPTED(pch(8, &pch_whole));
     for (uint32_t p = 0; p < 35; p++) CHECK(part(0, p) == pch_parts[p]);
+}
+
+/* Each member of a struct stands where the array of numbers has it. */
+#define AT(type, member, place) CHECK(offsetof(struct asternhaken_##type, member) == (size_t)(place) * sizeof(uint64_t))
+#define RECORD_AT(member, PART) AT(record, member, ASTERNHAKEN_PART_##PART - ASTERNHAKEN_PART_CALL_REFERENCE)
+#define PCH_AT(member, NUMBER) AT(pch_entry, member, ASTERNHAKEN_PCH_##NUMBER)
+
+static void members(void)
+{
+    RECORD_AT(call_reference, CALL_REFERENCE), RECORD_AT(channel, CHANNEL), RECORD_AT(frequencies, FREQUENCIES), RECORD_AT(vstk_rand, VSTK_RAND);
+    RECORD_AT(full, FULL), RECORD_AT(vgcs, VGCS), RECORD_AT(acknowledged, ACKNOWLEDGED), RECORD_AT(channel_given, CHANNEL_GIVEN), RECORD_AT(hops, HOPS);
+    RECORD_AT(short_list, SHORT_LIST), RECORD_AT(segment_given, SEGMENT_GIVEN), RECORD_AT(segment_id, SEGMENT_ID), RECORD_AT(rand_given, RAND_GIVEN);
+    RECORD_AT(emergency, EMERGENCY), RECORD_AT(count_given, COUNT_GIVEN), RECORD_AT(b22_count, B22_COUNT), RECORD_AT(uplink_given, UPLINK_GIVEN);
+    RECORD_AT(uplink_access, UPLINK_ACCESS), RECORD_AT(amr_given, AMR_GIVEN), RECORD_AT(fr_amr_given, FR_AMR_GIVEN), RECORD_AT(hr_amr_given, HR_AMR_GIVEN);
+    RECORD_AT(sms_given, SMS_GIVEN), RECORD_AT(sms_confidentiality, SMS_CONFIDENTIALITY), RECORD_AT(sms_privacy, SMS_PRIVACY), RECORD_AT(priority, PRIORITY);
+    RECORD_AT(cipher_key_number, CIPHER_KEY_NUMBER), RECORD_AT(allocation_octets, ALLOCATION_OCTETS), RECORD_AT(cell_global_count, CELL_GLOBAL_COUNT);
+    RECORD_AT(fr_amr_config, FR_AMR_CONFIG), RECORD_AT(hr_amr_config, HR_AMR_CONFIG);
+    CHECK(ASTERNHAKEN_RECORD_NUMBERS == ASTERNHAKEN_PARTS - ASTERNHAKEN_PART_CALL_REFERENCE && ASTERNHAKEN_PARTS == ASTERNHAKEN_PART_HR_AMR_CONFIG + 1);
+    CHECK(ASTERNHAKEN_ENTRY_NUMBERS == ASTERNHAKEN_PARTS - ASTERNHAKEN_PART_KEY && ASTERNHAKEN_HELD_NUMBERS == 4 + ASTERNHAKEN_RECORD_NUMBERS);
+    AT(entry, key, ASTERNHAKEN_PART_KEY - ASTERNHAKEN_PART_KEY), AT(entry, told, ASTERNHAKEN_PART_TOLD - ASTERNHAKEN_PART_KEY);
+    AT(entry, record, ASTERNHAKEN_PART_CALL_REFERENCE - ASTERNHAKEN_PART_KEY);
+    AT(held, key, 0), AT(held, on, 1), AT(held, half, 2), AT(held, ms_left, 3), AT(held, record, 4);
+    AT(answer, expired, ASTERNHAKEN_PART_EXPIRED), AT(answer, dropped, ASTERNHAKEN_PART_DROPPED), AT(answer, entry_count, ASTERNHAKEN_PART_ENTRY_COUNT);
+    PCH_AT(key, KEY), PCH_AT(ciphered, CIPHERED), PCH_AT(reference_given, REFERENCE_GIVEN), PCH_AT(reference, REFERENCE), PCH_AT(channel_given, CHANNEL_GIVEN), PCH_AT(channel, CHANNEL);
+    PCH_AT(hops, HOPS), PCH_AT(short_list, SHORT_LIST), PCH_AT(allocation_octets, ALLOCATION_OCTETS), PCH_AT(frequencies, FREQUENCIES);
+    PCH_AT(rand_given, RAND_GIVEN), PCH_AT(vstk_rand, VSTK_RAND), PCH_AT(count_given, COUNT_GIVEN), PCH_AT(cell_global_count, CELL_GLOBAL_COUNT);
+
+    /* the numbers of a message and of an element as the header counts them */
+    AT(nch_message, used, 0), AT(nch_message, nln_given, 1), AT(nch_message, nln, 2), AT(nch_message, n_calls, 3), AT(nch_message, calls, 4);
+    AT(nch_message, release_6_given, 48), AT(nch_message, count_given, 49), AT(nch_message, cell_global_count, 50), AT(nch_message, n_reduced, 51);
+    AT(nch_message, reduced, 52), AT(nch_message, n_random, 62), AT(nch_message, random, 63), AT(nch_message, release_7_given, 90);
+    AT(nch_message, n_emergency_marks, 91), AT(nch_message, emergency_marks, 92), AT(nch_message, uplink_given, 96);
+    AT(nch_message, uplink_access, 97), AT(nch_message, amr_given, 98), AT(nch_message, fr_amr_given, 99), AT(nch_message, fr_amr_config, 100);
+    AT(nch_message, hr_amr_given, 101), AT(nch_message, hr_amr_config, 102), AT(nch_message, sms_given, 103);
+    AT(nch_message, sms_confidentiality, 104), AT(nch_message, sms_privacy, 105);
+    AT(call, call_reference, 0), AT(call, vgcs, 1), AT(call, acknowledged, 2), AT(call, priority, 3), AT(call, cipher_key_number, 4), AT(call, channel_given, 5);
+    AT(call, channel, 6), AT(call, hops, 7), AT(call, short_list, 8), AT(call, allocation_octets, 9), AT(call, frequencies, 10);
+    AT(reduced, call_reference, 0), AT(reduced, vgcs, 1), AT(random, segment_id, 0), AT(random, rand_given, 1), AT(random, vstk_rand, 2);
+    AT(facch_message, used, 0), AT(facch_message, call, 1), AT(facch_message, release_6_given, 12), AT(facch_message, count_given, 13);
+    AT(facch_message, cell_global_count, 14), AT(facch_message, b22_count, 15), AT(facch_message, rand_given, 16), AT(facch_message, vstk_rand, 17);
+    AT(facch_message, release_7_given, 18), AT(facch_message, uplink_access, 19), AT(facch_message, emergency, 20), AT(facch_message, paging_cause_given, 21);
+    AT(message_type, send_sequence_number, 0), AT(message_type, message_type, 1);
+    AT(call_reference, call_reference, 0), AT(call_reference, priority_given, 1), AT(call_reference, priority, 2);
+    AT(state_attributes, da, 0), AT(state_attributes, ua, 1), AT(state_attributes, comm, 2), AT(state_attributes, oi, 3), AT(sms, dc, 0), AT(sms, gp, 1);
+    AT(cause, meaning, 0), AT(cause, value, 1), AT(cause, n_septets, 2), AT(cause, septets, 3), AT(cause, n_diagnostics, 258), AT(cause, diagnostics, 259);
 }
 
 /* ---- The state octet by octet ---- */
@@ -571,9 +624,10 @@ static void octets(void)
     put(12, 4, 3000);
     layout[NLN] = 4;
     for (size_t i = 0; i < 50; i++) put(KEYS + 4 * i, 4, i < 3 ? keys[i] : UINT32_MAX);
+    memcpy(layout + MARK, state + MARK, KEYS - MARK); /* tests/views.c has the mark */
     LAID_OUT();
 
-    /* what no event looks at stays as it is: the unused octets, the answer's entries from the second on */
+    /* what no event looks at stays as it is: the unused octets, the mark, the answer's entries from the second on */
     leave(NLN + 1, KEYS - NLN - 1, 0xa1);
     leave(KINDS + 150, TICKS - KINDS - 150, 0xa2);
     leave(COUNT + 4, ENTRIES - COUNT - 4, 0xa3);
@@ -682,7 +736,7 @@ static void made_by_hand(void)
     state[ENTRIES + 8] = 4; /* told 4 has no record */
     CHECK(no_parts(0, 5) && tells(0, 0x0102030405060708, 4) && tells(1, 0, 0));
     state[COUNT] = 200; /* any number is read as it stands, but there are nine entries */
-    CHECK(part(0, ASTERNHAKEN_COUNT) == 200);
+    CHECK(part(0, ASTERNHAKEN_PART_ENTRY_COUNT) == 200);
     CHECK(tells(ASTERNHAKEN_ENTRIES - 1, 0xeeeeeeeeeeeeeeee, 0xee) && no_parts(ASTERNHAKEN_ENTRIES, 3));
 
     /* the key stands at the places 0 and 1, of which the first counts; a kind of 9 is a second half, which 0a4123's first half joins */
@@ -693,7 +747,7 @@ static void made_by_hand(void)
     KIND(0, ON_NCH) = KIND(1, ON_NCH) = 9;
     state[RECORDS + 16] = 0x55;
     ACCEPTED(nch(99, YARD_FIRST));
-    CHECK(answers(0, 0, 1) && tells(0, YARD, ASTERNHAKEN_JOINED) && part(0, ASTERNHAKEN_VSTK_RAND) == 0x55 && KIND(0, ON_NCH) == 0 && KIND(1, ON_NCH) == 9);
+    CHECK(answers(0, 0, 1) && tells(0, YARD, ASTERNHAKEN_TOLD_JOINED) && part(0, ASTERNHAKEN_PART_VSTK_RAND) == 0x55 && KIND(0, ON_NCH) == 0 && KIND(1, ON_NCH) == 9);
 }
 
 /* ---- The codecs ---- */
@@ -724,34 +778,35 @@ static uint32_t read_facch(const char *hex, uint64_t *numbers, size_t n_numbers)
 static void nch_reader(void)
 {
     static const uint64_t call[11] = { 99999999, 1, 1, 7, 15, 1, 0x71f3c5, 1, 0, 1, 0x5a };
-    uint64_t *numbers = lent(110 * 8);
+    uint64_t *numbers = (uint64_t *)lent(110 * 8);
     ACCEPTED(read_nch(NCH_WHOLE, numbers, 110));
-    CHECK(numbers[0] == 1 && numbers[1] == 2 && numbers[2] == 1 && !memcmp(numbers + 3, call, sizeof call) && all_zero(numbers + 14, 33));
-    CHECK(numbers[47] == 1 && numbers[48] == 1 && numbers[49] == 3 && all_zero(numbers + 50, 11));
-    CHECK(numbers[61] == 1 && numbers[62] == 0 && numbers[63] == 1 && numbers[64] == 0xfedcba987 && all_zero(numbers + 65, 24));
-    CHECK(numbers[89] == 1 && numbers[90] == 1 && numbers[91] == 1 && all_zero(numbers + 92, 3) && numbers[95] == 1 && numbers[96] == 1);
-    CHECK(numbers[97] == 1 && numbers[98] == 1 && numbers[99] == 5 && numbers[100] == 1 && numbers[101] == 11);
-    CHECK(numbers[102] == 1 && numbers[103] == 1 && numbers[104] == 1);
+    CHECK(numbers[1] == 1 && numbers[2] == 2 && numbers[3] == 1 && !memcmp(numbers + 4, call, sizeof call) && all_zero(numbers + 15, 33));
+    CHECK(numbers[48] == 1 && numbers[49] == 1 && numbers[50] == 3 && all_zero(numbers + 51, 11));
+    CHECK(numbers[62] == 1 && numbers[63] == 0 && numbers[64] == 1 && numbers[65] == 0xfedcba987 && all_zero(numbers + 66, 24));
+    CHECK(numbers[90] == 1 && numbers[91] == 1 && numbers[92] == 1 && all_zero(numbers + 93, 3) && numbers[96] == 1 && numbers[97] == 1);
+    CHECK(numbers[98] == 1 && numbers[99] == 1 && numbers[100] == 5 && numbers[101] == 1 && numbers[102] == 11);
+    CHECK(numbers[103] == 1 && numbers[104] == 1 && numbers[105] == 1);
     CHECK(numbers[ASTERNHAKEN_NCH_USED] == 149 && all_zero(numbers + 106, 4));
-    ACCEPTED(read_nch(BOTH_FIRST, numbers, 110)); /* the second call from 14 on, two random entries */
-    CHECK(numbers[0] == 0 && numbers[2] == 2 && numbers[3] == 4711 && numbers[4] == 0 && numbers[14] == 4711 && numbers[15] == 1 && numbers[17] == 5);
-    CHECK(numbers[18] == 4 && numbers[20] == 0x5b8456 && numbers[61] == 2 && numbers[ASTERNHAKEN_NCH_USED] == 139);
+    ACCEPTED(read_nch(BOTH_FIRST, numbers, 110)); /* the second call from 15 on, two random entries */
+    CHECK(numbers[1] == 0 && numbers[3] == 2 && numbers[4] == 4711 && numbers[5] == 0 && numbers[15] == 4711 && numbers[16] == 1 && numbers[18] == 5);
+    CHECK(numbers[19] == 4 && numbers[21] == 0x5b8456 && numbers[62] == 2 && numbers[ASTERNHAKEN_NCH_USED] == 139);
     /* five reduced references, 1 to 5 */
     ACCEPTED(read_nch("08000001c0000012000000f0000008800000592b", numbers, 110));
-    CHECK(numbers[50] == 5 && numbers[51] == 1 && numbers[52] == 1 && numbers[59] == 5 && numbers[60] == 1 && numbers[105] == 152);
+    CHECK(numbers[51] == 5 && numbers[52] == 1 && numbers[53] == 1 && numbers[60] == 5 && numbers[61] == 1 && numbers[ASTERNHAKEN_NCH_USED] == 152);
     /* a short list of 64 bits; an emergency mark of 0; a random entry of Segment Id 1 */
     ACCEPTED(read_nch("fbebc1feff80080070000000000000002b2b2b2b", numbers, 110));
-    CHECK(numbers[10] == 1 && numbers[11] == 1 && numbers[12] == 0 && numbers[13] == 0x8000000000000001);
+    CHECK(numbers[11] == 1 && numbers[12] == 1 && numbers[13] == 0 && numbers[14] == 0x8000000000000001);
     ACCEPTED(read_nch("d000000b008500002000001a044e00000000240b", numbers, 110));
-    CHECK(numbers[2] == 2 && numbers[62] == 1 && numbers[64] == 1 && numbers[90] == 1 && numbers[91] == 0);
+    CHECK(numbers[3] == 2 && numbers[63] == 1 && numbers[65] == 1 && numbers[91] == 1 && numbers[92] == 0);
     ACCEPTED(read_nch(NOTHING, numbers, 110));
-    CHECK(all_zero(numbers, 105) && numbers[105] == 4 && all_zero(numbers + 106, 4));
-    CHECK(read_nch("ffffffffffffffffffffffffffffffffffffffff", numbers, 110) == ASTERNHAKEN_REFERENCE && all_zero(numbers, 110));
-    CHECK(read_nch("2b", numbers, 110) == ASTERNHAKEN_MESSAGE_LENGTH && all_zero(numbers, 110));
+    CHECK(numbers[ASTERNHAKEN_NCH_USED] == 4 && all_zero(numbers + 1, 105) && all_zero(numbers + 106, 4));
+    CHECK(read_nch("ffffffffffffffffffffffffffffffffffffffff", numbers, 110) == ASTERNHAKEN_REFUSED_REFERENCE && all_zero(numbers, 110));
+    CHECK(read_nch("2b", numbers, 110) == ASTERNHAKEN_REFUSED_MESSAGE_LENGTH && all_zero(numbers, 110));
     free(numbers);
-    numbers = lent(5 * 8); /* five places take the first five numbers */
+    numbers = (uint64_t *)lent(5 * 8); /* five places take the first five numbers */
     ACCEPTED(read_nch(NCH_WHOLE, numbers, 5));
-    CHECK(numbers[0] == 1 && numbers[1] == 2 && numbers[2] == 1 && numbers[3] == 99999999 && numbers[4] == 1);
+    CHECK(numbers[0] == 149 && numbers[1] == 1 && numbers[2] == 2 && numbers[3] == 1 && numbers[4] == 99999999);
+    CHECK(read_nch(BOTH_FIRST, numbers, 1) == ASTERNHAKEN_ACCEPTED && numbers[0] == 139);
     ACCEPTED(read_nch(NCH_WHOLE, numbers, 0));
     free(numbers);
 }
@@ -759,9 +814,9 @@ static void nch_reader(void)
 /* Writes numbers, one of them another one, into a buffer of so many octets; it must answer so and, where it refuses, touch nothing. */
 static void writes_nch(const uint64_t *numbers, size_t at, uint64_t value, size_t n, uint32_t refusal, const char *hex)
 {
-    uint64_t *copy = lent(105 * 8);
-    uint8_t *written = lent(n), untouched[21];
-    memcpy(copy, numbers, 105 * 8);
+    uint64_t *copy = (uint64_t *)lent(ASTERNHAKEN_NCH_NUMBERS * 8);
+    uint8_t *written = (uint8_t *)lent(n), untouched[21];
+    memcpy(copy, numbers, ASTERNHAKEN_NCH_NUMBERS * 8);
     copy[at] = value;
     memset(written, 0x5a, n), memset(untouched, 0x5a, sizeof untouched);
     CHECK(asternhaken_nch_write(copy, ASTERNHAKEN_NCH_NUMBERS, written, n) == refusal);
@@ -773,46 +828,48 @@ static void writes_nch(const uint64_t *numbers, size_t at, uint64_t value, size_
 
 static void nch_writer(void)
 {
-    uint64_t *numbers = lent(106 * 8);
+    uint64_t *numbers = (uint64_t *)lent((ASTERNHAKEN_NCH_NUMBERS + 1) * 8);
     uint8_t octets20[20] = { 0 };
-    ACCEPTED(read_nch(NCH_WHOLE, numbers, 105));
-    CHECK(ASTERNHAKEN_NCH_NUMBERS == 105);
-    writes_nch(numbers, 0, 1, 20, ASTERNHAKEN_ACCEPTED, NCH_WHOLE);
-    writes_nch(numbers, 1, 1, 20, ASTERNHAKEN_ACCEPTED, "bbebc1ffffb8f9e2c02b475fedcba98777aefb2b");
-    writes_nch(numbers, 1, 4, 20, ASTERNHAKEN_RANGE, "");            /* NLN 4 */
-    writes_nch(numbers, 14, 1, 20, ASTERNHAKEN_RANGE, "");           /* a call that is not there */
-    writes_nch(numbers, 3, 134217728, 20, ASTERNHAKEN_RANGE, "");
-    writes_nch(numbers, 3, 100000000, 20, ASTERNHAKEN_REFERENCE, "");
-    writes_nch(numbers, 12, 9, 20, ASTERNHAKEN_ALLOCATION_LENGTH, "");
-    writes_nch(numbers, 9, 0x71e3c5, 20, ASTERNHAKEN_HOPPING, "");
-    writes_nch(numbers, 7, 0, 20, ASTERNHAKEN_RANDOM_ENTRIES, "");   /* key number 0 beside a random entry */
-    writes_nch(numbers, 90, 2, 20, ASTERNHAKEN_EMERGENCY_MARKS, "");
-    writes_nch(numbers, 0, 1, 19, ASTERNHAKEN_FORM_SIZE, "");
-    writes_nch(numbers, 0, 1, 21, ASTERNHAKEN_FORM_SIZE, "");
-    CHECK(asternhaken_nch_write(numbers, 104, octets20, 20) == ASTERNHAKEN_LENGTH);
-    CHECK(asternhaken_nch_write(numbers, 106, octets20, 20) == ASTERNHAKEN_LENGTH);
-    memset(numbers, 0, 105 * 8);
-    writes_nch(numbers, 0, 0, 20, ASTERNHAKEN_ACCEPTED, NOTHING);
+    ACCEPTED(read_nch(NCH_WHOLE, numbers, ASTERNHAKEN_NCH_NUMBERS + 1));
+    CHECK(ASTERNHAKEN_NCH_NUMBERS == 106 && ASTERNHAKEN_NCH_USED == 0);
+    writes_nch(numbers, 1, 1, 20, ASTERNHAKEN_ACCEPTED, NCH_WHOLE);
+    writes_nch(numbers, ASTERNHAKEN_NCH_USED, 0, 20, ASTERNHAKEN_ACCEPTED, NCH_WHOLE); /* the bits used are not looked at */
+    writes_nch(numbers, ASTERNHAKEN_NCH_USED, UINT64_MAX, 20, ASTERNHAKEN_ACCEPTED, NCH_WHOLE);
+    writes_nch(numbers, 2, 1, 20, ASTERNHAKEN_ACCEPTED, "bbebc1ffffb8f9e2c02b475fedcba98777aefb2b");
+    writes_nch(numbers, 2, 4, 20, ASTERNHAKEN_REFUSED_RANGE, "");            /* NLN 4 */
+    writes_nch(numbers, 15, 1, 20, ASTERNHAKEN_REFUSED_RANGE, "");           /* a call that is not there */
+    writes_nch(numbers, 4, 134217728, 20, ASTERNHAKEN_REFUSED_RANGE, "");
+    writes_nch(numbers, 4, 100000000, 20, ASTERNHAKEN_REFUSED_REFERENCE, "");
+    writes_nch(numbers, 13, 9, 20, ASTERNHAKEN_REFUSED_ALLOCATION_LENGTH, "");
+    writes_nch(numbers, 10, 0x71e3c5, 20, ASTERNHAKEN_REFUSED_HOPPING, "");
+    writes_nch(numbers, 8, 0, 20, ASTERNHAKEN_REFUSED_RANDOM_ENTRIES, "");   /* key number 0 beside a random entry */
+    writes_nch(numbers, 91, 2, 20, ASTERNHAKEN_REFUSED_EMERGENCY_MARKS, "");
+    writes_nch(numbers, 1, 1, 19, ASTERNHAKEN_REFUSED_FORM_SIZE, "");
+    writes_nch(numbers, 1, 1, 21, ASTERNHAKEN_REFUSED_FORM_SIZE, "");
+    CHECK(asternhaken_nch_write(numbers, ASTERNHAKEN_NCH_NUMBERS - 1, octets20, 20) == ASTERNHAKEN_REFUSED_LENGTH);
+    CHECK(asternhaken_nch_write(numbers, ASTERNHAKEN_NCH_NUMBERS + 1, octets20, 20) == ASTERNHAKEN_REFUSED_LENGTH);
+    memset(numbers, 0, ASTERNHAKEN_NCH_NUMBERS * 8);
+    writes_nch(numbers, 1, 0, 20, ASTERNHAKEN_ACCEPTED, NOTHING);
     free(numbers);
 }
 
 static void facch_reader(void)
 {
-    static const uint64_t whole[22] = { 99999999, 1, 1, 7, 15, 1, 0x8b1fff, 1, 1, 0, 0x8000000000000001, 1, 1, 2, 1, 1, 0x123456789, 1, 1, 1, 0, 182 };
-    uint64_t *numbers = lent(24 * 8);
+    static const uint64_t whole[22] = { 182, 99999999, 1, 1, 7, 15, 1, 0x8b1fff, 1, 1, 0, 0x8000000000000001, 1, 1, 2, 1, 1, 0x123456789, 1, 1, 1, 0 };
+    uint64_t *numbers = (uint64_t *)lent(24 * 8);
     ACCEPTED(read_facch(FACCH_WHOLE, numbers, 24));
     CHECK(!memcmp(numbers, whole, sizeof whole) && all_zero(numbers + 22, 2));
-    CHECK(ASTERNHAKEN_FACCH_NUMBERS == 21 && ASTERNHAKEN_FACCH_USED == 21);
+    CHECK(ASTERNHAKEN_FACCH_NUMBERS == 22 && ASTERNHAKEN_FACCH_USED == 0);
     ACCEPTED(read_facch(FACCH_CAUSED, numbers, 24));
-    CHECK(numbers[20] == 1 && numbers[ASTERNHAKEN_FACCH_USED] == 183);
+    CHECK(numbers[21] == 1 && numbers[ASTERNHAKEN_FACCH_USED] == 183);
     ACCEPTED(read_facch("040000001004004002080102030405060708", numbers, 24)); /* an allocation of eight octets */
-    CHECK(numbers[0] == 1 && numbers[9] == 8 && numbers[10] == 0x0102030405060708 && numbers[21] == 144);
-    CHECK(read_facch("0480", numbers, 24) == ASTERNHAKEN_PAGING && all_zero(numbers, 24));
-    CHECK(read_facch("04", numbers, 24) == ASTERNHAKEN_MESSAGE_LENGTH && all_zero(numbers, 24));
+    CHECK(numbers[1] == 1 && numbers[10] == 8 && numbers[11] == 0x0102030405060708 && numbers[0] == 144);
+    CHECK(read_facch("0480", numbers, 24) == ASTERNHAKEN_REFUSED_PAGING && all_zero(numbers, 24));
+    CHECK(read_facch("04", numbers, 24) == ASTERNHAKEN_REFUSED_MESSAGE_LENGTH && all_zero(numbers, 24));
     free(numbers);
-    numbers = lent(2 * 8);
+    numbers = (uint64_t *)lent(2 * 8);
     ACCEPTED(read_facch(FACCH_WHOLE, numbers, 2));
-    CHECK(numbers[0] == 99999999 && numbers[1] == 1);
+    CHECK(numbers[0] == 182 && numbers[1] == 99999999);
     free(numbers);
 }
 
@@ -826,13 +883,13 @@ typedef uint32_t octets_writer(const uint64_t *numbers, size_t n_numbers, uint8_
 /* An element of one octet reads as these numbers, with a zero behind them and without its last ones where there is no place for them. */
 static void half_reads(half_reader *reader, uint8_t half, const uint64_t *meant, size_t n, uint32_t refusal)
 {
-    uint64_t *numbers = lent((n + 1) * 8);
+    uint64_t *numbers = (uint64_t *)lent((n + 1) * 8);
     memset(numbers, 0xff, (n + 1) * 8);
     CHECK(reader(half, numbers, n + 1) == refusal);
     if (refusal == ASTERNHAKEN_ACCEPTED) CHECK(!memcmp(numbers, meant, n * 8) && numbers[n] == 0);
     else CHECK(all_zero(numbers, n + 1));
     free(numbers);
-    numbers = lent((n - 1) * 8);
+    numbers = (uint64_t *)lent((n - 1) * 8);
     CHECK(reader(half, numbers, n - 1) == refusal);
     if (refusal == ASTERNHAKEN_ACCEPTED) CHECK(!memcmp(numbers, meant, (n - 1) * 8));
     else CHECK(all_zero(numbers, n - 1));
@@ -842,13 +899,13 @@ static void half_reads(half_reader *reader, uint8_t half, const uint64_t *meant,
 /* These numbers are written as an octet, and an array of another length is refused. */
 static void half_writes(half_writer *writer, const uint64_t *meant, size_t n, uint8_t half, uint32_t refusal)
 {
-    uint64_t *numbers = lent((n + 1) * 8);
-    uint8_t *written = lent(1);
+    uint64_t *numbers = (uint64_t *)lent((n + 1) * 8);
+    uint8_t *written = (uint8_t *)lent(1);
     memcpy(numbers, meant, n * 8);
     numbers[n] = 0;
     *written = 0xc3;
-    CHECK(writer(numbers, n + 1, written) == ASTERNHAKEN_LENGTH && *written == 0xc3);
-    CHECK(writer(numbers, n - 1, written) == ASTERNHAKEN_LENGTH && *written == 0xc3);
+    CHECK(writer(numbers, n + 1, written) == ASTERNHAKEN_REFUSED_LENGTH && *written == 0xc3);
+    CHECK(writer(numbers, n - 1, written) == ASTERNHAKEN_REFUSED_LENGTH && *written == 0xc3);
     CHECK(writer(numbers, n, written) == refusal);
     CHECK(*written == (refusal == ASTERNHAKEN_ACCEPTED ? half : 0xc3));
     free(numbers), free(written);
@@ -858,13 +915,13 @@ static void octets_read(octets_reader *reader, const char *hex, const uint64_t *
 {
     size_t length;
     uint8_t *element = octets_of(hex, &length);
-    uint64_t *numbers = lent((n + 1) * 8);
+    uint64_t *numbers = (uint64_t *)lent((n + 1) * 8);
     memset(numbers, 0xff, (n + 1) * 8);
     CHECK(reader(element, length, numbers, n + 1) == refusal);
     if (refusal == ASTERNHAKEN_ACCEPTED) CHECK(!memcmp(numbers, meant, n * 8) && numbers[n] == 0);
     else CHECK(all_zero(numbers, n + 1));
     free(numbers);
-    numbers = lent((n - 1) * 8);
+    numbers = (uint64_t *)lent((n - 1) * 8);
     CHECK(reader(element, length, numbers, n - 1) == refusal);
     if (refusal == ASTERNHAKEN_ACCEPTED) CHECK(!memcmp(numbers, meant, (n - 1) * 8));
     else CHECK(all_zero(numbers, n - 1));
@@ -875,13 +932,13 @@ static void octets_read(octets_reader *reader, const char *hex, const uint64_t *
 static void octets_written(octets_writer *writer, const uint64_t *meant, size_t n, const char *hex, uint32_t refusal)
 {
     size_t length;
-    uint8_t *element = octets_of(hex, &length), *written = lent(length), *untouched = lent(length);
-    uint64_t *numbers = lent((n + 1) * 8);
+    uint8_t *element = octets_of(hex, &length), *written = (uint8_t *)lent(length), *untouched = (uint8_t *)lent(length);
+    uint64_t *numbers = (uint64_t *)lent((n + 1) * 8);
     memcpy(numbers, meant, n * 8);
     numbers[n] = 0;
     memset(written, 0xc3, length), memset(untouched, 0xc3, length);
-    CHECK(writer(numbers, n + 1, written, length) == ASTERNHAKEN_LENGTH && !memcmp(written, untouched, length));
-    CHECK(writer(numbers, n - 1, written, length) == ASTERNHAKEN_LENGTH && !memcmp(written, untouched, length));
+    CHECK(writer(numbers, n + 1, written, length) == ASTERNHAKEN_REFUSED_LENGTH && !memcmp(written, untouched, length));
+    CHECK(writer(numbers, n - 1, written, length) == ASTERNHAKEN_REFUSED_LENGTH && !memcmp(written, untouched, length));
     CHECK(writer(numbers, n, written, length) == refusal);
     CHECK(!memcmp(written, refusal == ASTERNHAKEN_ACCEPTED ? element : untouched, length));
     free(element), free(written), free(untouched), free(numbers);
@@ -896,37 +953,37 @@ static void half_octets(void)
     CHECK(ASTERNHAKEN_STATE_ATTRIBUTES_NUMBERS == 4 && ASTERNHAKEN_SMS_NUMBERS == 2 && ASTERNHAKEN_TALKER_NUMBERS == 1);
 
     half_reads(asternhaken_message_type_read, 0x76, type, 2, ASTERNHAKEN_ACCEPTED);
-    half_reads(asternhaken_message_type_read, 0x37, type, 2, ASTERNHAKEN_RANGE);
-    half_reads(asternhaken_message_type_read, 0xb6, type, 2, ASTERNHAKEN_RANGE); /* bit 8 */
+    half_reads(asternhaken_message_type_read, 0x37, type, 2, ASTERNHAKEN_REFUSED_RANGE);
+    half_reads(asternhaken_message_type_read, 0xb6, type, 2, ASTERNHAKEN_REFUSED_RANGE); /* bit 8 */
     half_writes(asternhaken_message_type_write, type, 2, 0x76, ASTERNHAKEN_ACCEPTED);
-    half_writes(asternhaken_message_type_write, no_type, 2, 0, ASTERNHAKEN_RANGE);
+    half_writes(asternhaken_message_type_write, no_type, 2, 0, ASTERNHAKEN_REFUSED_RANGE);
 
     half_reads(asternhaken_call_state_read, 11, state11, 1, ASTERNHAKEN_ACCEPTED);
     half_reads(asternhaken_call_state_read, 14, reserved, 1, ASTERNHAKEN_ACCEPTED);
-    half_reads(asternhaken_call_state_read, 16, reserved, 1, ASTERNHAKEN_RANGE);
+    half_reads(asternhaken_call_state_read, 16, reserved, 1, ASTERNHAKEN_REFUSED_RANGE);
     half_writes(asternhaken_call_state_write, state11, 1, 11, ASTERNHAKEN_ACCEPTED);
-    half_writes(asternhaken_call_state_write, reserved, 1, 0, ASTERNHAKEN_RANGE);
+    half_writes(asternhaken_call_state_write, reserved, 1, 0, ASTERNHAKEN_REFUSED_RANGE);
 
     half_reads(asternhaken_originator_read, 0x0f, one, 1, ASTERNHAKEN_ACCEPTED); /* three spare bits */
-    half_reads(asternhaken_originator_read, 0x11, one, 1, ASTERNHAKEN_RANGE);
+    half_reads(asternhaken_originator_read, 0x11, one, 1, ASTERNHAKEN_REFUSED_RANGE);
     half_writes(asternhaken_originator_write, one, 1, 1, ASTERNHAKEN_ACCEPTED);
-    half_writes(asternhaken_originator_write, two, 1, 0, ASTERNHAKEN_RANGE);
+    half_writes(asternhaken_originator_write, two, 1, 0, ASTERNHAKEN_REFUSED_RANGE);
 
     half_reads(asternhaken_state_attributes_read, 0x0a, attributes, 4, ASTERNHAKEN_ACCEPTED);
-    half_reads(asternhaken_state_attributes_read, 0x1a, attributes, 4, ASTERNHAKEN_RANGE);
+    half_reads(asternhaken_state_attributes_read, 0x1a, attributes, 4, ASTERNHAKEN_REFUSED_RANGE);
     half_writes(asternhaken_state_attributes_write, attributes, 4, 0x0a, ASTERNHAKEN_ACCEPTED);
-    half_writes(asternhaken_state_attributes_write, no_attributes, 4, 0, ASTERNHAKEN_RANGE);
+    half_writes(asternhaken_state_attributes_write, no_attributes, 4, 0, ASTERNHAKEN_REFUSED_RANGE);
 
     half_reads(asternhaken_sms_read, 0x0e, sms, 2, ASTERNHAKEN_ACCEPTED); /* two spare bits */
-    half_reads(asternhaken_sms_read, 0x12, sms, 2, ASTERNHAKEN_RANGE);
+    half_reads(asternhaken_sms_read, 0x12, sms, 2, ASTERNHAKEN_REFUSED_RANGE);
     half_writes(asternhaken_sms_write, sms, 2, 2, ASTERNHAKEN_ACCEPTED);
-    half_writes(asternhaken_sms_write, no_sms, 2, 0, ASTERNHAKEN_RANGE);
+    half_writes(asternhaken_sms_write, no_sms, 2, 0, ASTERNHAKEN_REFUSED_RANGE);
 
     half_reads(asternhaken_talker_read, 0x0a, two, 1, ASTERNHAKEN_ACCEPTED); /* a spare bit */
     half_reads(asternhaken_talker_read, 0x05, nought, 1, ASTERNHAKEN_ACCEPTED); /* 3 to 7 are normal */
-    half_reads(asternhaken_talker_read, 0x10, two, 1, ASTERNHAKEN_RANGE);
+    half_reads(asternhaken_talker_read, 0x10, two, 1, ASTERNHAKEN_REFUSED_RANGE);
     half_writes(asternhaken_talker_write, two, 1, 2, ASTERNHAKEN_ACCEPTED);
-    half_writes(asternhaken_talker_write, three, 1, 0, ASTERNHAKEN_RANGE);
+    half_writes(asternhaken_talker_write, three, 1, 0, ASTERNHAKEN_REFUSED_RANGE);
 }
 
 static void call_references(void)
@@ -937,16 +994,16 @@ static void call_references(void)
     octets_read(asternhaken_call_reference_read, "bebc1fef", bare, 3, ASTERNHAKEN_ACCEPTED); /* four spare bits */
     octets_read(asternhaken_call_reference_read, "00024cfb", ranked, 3, ASTERNHAKEN_ACCEPTED); /* one */
     octets_read(asternhaken_call_reference_read, "00024cf0", reserved, 3, ASTERNHAKEN_ACCEPTED);
-    octets_read(asternhaken_call_reference_read, "bebc2000", bare, 3, ASTERNHAKEN_REFERENCE);
-    octets_read(asternhaken_call_reference_read, "bebc20", bare, 3, ASTERNHAKEN_LENGTH);
-    octets_read(asternhaken_call_reference_read, "", bare, 3, ASTERNHAKEN_LENGTH);
+    octets_read(asternhaken_call_reference_read, "bebc2000", bare, 3, ASTERNHAKEN_REFUSED_REFERENCE);
+    octets_read(asternhaken_call_reference_read, "bebc20", bare, 3, ASTERNHAKEN_REFUSED_LENGTH);
+    octets_read(asternhaken_call_reference_read, "", bare, 3, ASTERNHAKEN_REFUSED_LENGTH);
     octets_written(asternhaken_call_reference_write, bare, 3, "bebc1fe0", ASTERNHAKEN_ACCEPTED);
     octets_written(asternhaken_call_reference_write, ranked, 3, "00024cfa", ASTERNHAKEN_ACCEPTED);
-    octets_written(asternhaken_call_reference_write, reserved, 3, "00000000", ASTERNHAKEN_RANGE);
-    octets_written(asternhaken_call_reference_write, absent, 3, "00000000", ASTERNHAKEN_RANGE);
-    octets_written(asternhaken_call_reference_write, wide, 3, "00000000", ASTERNHAKEN_RANGE);
-    octets_written(asternhaken_call_reference_write, high, 3, "00000000", ASTERNHAKEN_REFERENCE);
-    octets_written(asternhaken_call_reference_write, ranked, 3, "0000000000", ASTERNHAKEN_FORM_SIZE);
+    octets_written(asternhaken_call_reference_write, reserved, 3, "00000000", ASTERNHAKEN_REFUSED_RANGE);
+    octets_written(asternhaken_call_reference_write, absent, 3, "00000000", ASTERNHAKEN_REFUSED_RANGE);
+    octets_written(asternhaken_call_reference_write, wide, 3, "00000000", ASTERNHAKEN_REFUSED_RANGE);
+    octets_written(asternhaken_call_reference_write, high, 3, "00000000", ASTERNHAKEN_REFUSED_REFERENCE);
+    octets_written(asternhaken_call_reference_write, ranked, 3, "0000000000", ASTERNHAKEN_REFUSED_FORM_SIZE);
 }
 
 static void dispatcher_digits(void)
@@ -957,65 +1014,218 @@ static void dispatcher_digits(void)
     CHECK(ASTERNHAKEN_DIGITS_NUMBERS == 12);
     octets_read(asternhaken_digits_read, "00000023a3", annex_a, 12, ASTERNHAKEN_ACCEPTED);
     octets_read(asternhaken_digits_read, "e8d4a50fff", nines, 12, ASTERNHAKEN_ACCEPTED);
-    octets_read(asternhaken_digits_read, "e8d4a51000", nines, 12, ASTERNHAKEN_RANGE);
-    octets_read(asternhaken_digits_read, "e8d4a50f", nines, 12, ASTERNHAKEN_LENGTH);
+    octets_read(asternhaken_digits_read, "e8d4a51000", nines, 12, ASTERNHAKEN_REFUSED_RANGE);
+    octets_read(asternhaken_digits_read, "e8d4a50f", nines, 12, ASTERNHAKEN_REFUSED_LENGTH);
     octets_written(asternhaken_digits_write, annex_a, 12, "00000023a3", ASTERNHAKEN_ACCEPTED);
     octets_written(asternhaken_digits_write, nines, 12, "e8d4a50fff", ASTERNHAKEN_ACCEPTED);
-    octets_written(asternhaken_digits_write, letter, 12, "0000000000", ASTERNHAKEN_RANGE);
-    octets_written(asternhaken_digits_write, nines, 12, "000000000000", ASTERNHAKEN_FORM_SIZE);
+    octets_written(asternhaken_digits_write, letter, 12, "0000000000", ASTERNHAKEN_REFUSED_RANGE);
+    octets_written(asternhaken_digits_write, nines, 12, "000000000000", ASTERNHAKEN_REFUSED_FORM_SIZE);
 }
 
-/* A cause of these septets and diagnostics; the meaning stands behind them. */
+/* A cause of these septets and diagnostics; the meaning stands before them. */
 static void causes(void)
 {
-    static uint64_t normal[514], twice[514], invalid[512], never[512];
-    CHECK(ASTERNHAKEN_CAUSE_NUMBERS == 512);
-    normal[0] = 1, normal[1] = 16; /* normal call clearing, without diagnostics */
+    static uint64_t normal[514], twice[514], invalid[514], never[514];
+    CHECK(ASTERNHAKEN_CAUSE_NUMBERS == 514 && ASTERNHAKEN_CAUSE_MEANING == 0 && ASTERNHAKEN_CAUSE_VALUE == 1);
+    normal[2] = 1, normal[3] = 16; /* normal call clearing, without diagnostics */
     normal[ASTERNHAKEN_CAUSE_MEANING] = 1, normal[ASTERNHAKEN_CAUSE_VALUE] = 16;
-    twice[0] = 2, twice[1] = 16, twice[2] = 17, twice[256] = 3, twice[257] = 0xff, twice[258] = 0, twice[259] = 0x10;
+    twice[2] = 2, twice[3] = 16, twice[4] = 17, twice[258] = 3, twice[259] = 0xff, twice[260] = 0, twice[261] = 0x10;
     twice[ASTERNHAKEN_CAUSE_MEANING] = 2;
     octets_read(asternhaken_cause_read, "90", normal, 514, ASTERNHAKEN_ACCEPTED);
     octets_read(asternhaken_cause_read, "1091ff0010", twice, 514, ASTERNHAKEN_ACCEPTED);
-    octets_read(asternhaken_cause_read, "10", normal, 514, ASTERNHAKEN_LENGTH);
-    octets_read(asternhaken_cause_read, "", normal, 514, ASTERNHAKEN_LENGTH);
-    octets_written(asternhaken_cause_write, normal, 512, "90", ASTERNHAKEN_ACCEPTED);
-    octets_written(asternhaken_cause_write, twice, 512, "1091ff0010", ASTERNHAKEN_ACCEPTED);
-    octets_written(asternhaken_cause_write, twice, 512, "1091ff00", ASTERNHAKEN_FORM_SIZE);
-    octets_written(asternhaken_cause_write, twice, 512, "1091ff001000", ASTERNHAKEN_FORM_SIZE);
-    octets_written(asternhaken_cause_write, never, 512, "", ASTERNHAKEN_LENGTH); /* no septet */
-    invalid[0] = 1, invalid[1] = 128;
-    octets_written(asternhaken_cause_write, invalid, 512, "00", ASTERNHAKEN_RANGE);
-    invalid[1] = 1, invalid[511] = 1; /* an unused place */
-    octets_written(asternhaken_cause_write, invalid, 512, "00", ASTERNHAKEN_RANGE);
+    octets_read(asternhaken_cause_read, "10", normal, 514, ASTERNHAKEN_REFUSED_LENGTH);
+    octets_read(asternhaken_cause_read, "", normal, 514, ASTERNHAKEN_REFUSED_LENGTH);
+    octets_written(asternhaken_cause_write, normal, 514, "90", ASTERNHAKEN_ACCEPTED);
+    octets_written(asternhaken_cause_write, twice, 514, "1091ff0010", ASTERNHAKEN_ACCEPTED);
+    twice[ASTERNHAKEN_CAUSE_MEANING] = twice[ASTERNHAKEN_CAUSE_VALUE] = UINT64_MAX; /* not looked at */
+    octets_written(asternhaken_cause_write, twice, 514, "1091ff0010", ASTERNHAKEN_ACCEPTED);
+    octets_written(asternhaken_cause_write, twice, 514, "1091ff00", ASTERNHAKEN_REFUSED_FORM_SIZE);
+    octets_written(asternhaken_cause_write, twice, 514, "1091ff001000", ASTERNHAKEN_REFUSED_FORM_SIZE);
+    octets_written(asternhaken_cause_write, never, 514, "", ASTERNHAKEN_REFUSED_LENGTH); /* no septet */
+    invalid[2] = 1, invalid[3] = 128;
+    octets_written(asternhaken_cause_write, invalid, 514, "00", ASTERNHAKEN_REFUSED_RANGE);
+    invalid[3] = 1, invalid[513] = 1; /* an unused place */
+    octets_written(asternhaken_cause_write, invalid, 514, "00", ASTERNHAKEN_REFUSED_RANGE);
 
     uint8_t longest[256];
-    uint64_t *numbers = lent(514 * 8);
+    uint64_t *numbers = (uint64_t *)lent(514 * 8);
     memset(longest, 0xff, sizeof longest);
     ACCEPTED(asternhaken_cause_read(longest, 255, numbers, 514));
-    CHECK(numbers[0] == 1 && numbers[1] == 127 && numbers[256] == 254 && numbers[510] == 255 && numbers[511] == 0 && numbers[512] == 2 && numbers[513] == 0);
-    CHECK(asternhaken_cause_read(longest, 256, numbers, 514) == ASTERNHAKEN_LENGTH && all_zero(numbers, 514));
+    CHECK(numbers[2] == 1 && numbers[3] == 127 && numbers[258] == 254 && numbers[512] == 255 && numbers[513] == 0 && numbers[0] == 2 && numbers[1] == 0);
+    CHECK(asternhaken_cause_read(longest, 256, numbers, 514) == ASTERNHAKEN_REFUSED_LENGTH && all_zero(numbers, 514));
     free(numbers);
 }
 
-/* ---- Words ---- */
+/* ---- The codecs by structs ---- */
+
+/* A struct for a codec, lent at its exact size and full of ones before. */
+#define LEND(type, name)                                         \
+    struct asternhaken_##type *name = (struct asternhaken_##type *)lent(sizeof *name); \
+    memset(name, 0xff, sizeof *name)
+
+static void message_structs(void)
+{
+    size_t n, m;
+    uint8_t *octets = octets_of(NCH_WHOLE, &n), *written = (uint8_t *)lent(20), *other;
+    LEND(nch_message, message);
+    ACCEPTED(asternhaken_nch_decode(octets, n, message));
+    CHECK(message->used == 149 && message->nln_given == 1 && message->nln == 2 && message->n_calls == 1);
+    CHECK(message->calls[0].call_reference == 99999999 && message->calls[0].vgcs == 1 && message->calls[0].priority == 7 && message->calls[0].cipher_key_number == 15);
+    CHECK(message->calls[0].channel == 0x71f3c5 && message->calls[0].allocation_octets == 1 && message->calls[0].frequencies == 0x5a && message->calls[1].call_reference == 0);
+    CHECK(message->release_6_given == 1 && message->count_given == 1 && message->cell_global_count == 3 && message->n_reduced == 0);
+    CHECK(message->n_random == 1 && message->random[0].rand_given == 1 && message->random[0].vstk_rand == 0xfedcba987 && message->random[8].vstk_rand == 0);
+    CHECK(message->release_7_given == 1 && message->n_emergency_marks == 1 && message->emergency_marks[0] == 1 && message->uplink_access == 1);
+    CHECK(message->fr_amr_config == 5 && message->hr_amr_config == 11 && message->sms_given == 1 && message->sms_confidentiality == 1 && message->sms_privacy == 1);
+    memset(written, 0, 20);
+    message->used = UINT64_MAX; /* not looked at */
+    ACCEPTED(asternhaken_nch_encode(message, written, 20));
+    CHECK(same(written, NCH_WHOLE) && message->used == UINT64_MAX);
+    message->nln = 4;
+    CHECK(asternhaken_nch_encode(message, written, 20) == ASTERNHAKEN_REFUSED_RANGE && same(written, NCH_WHOLE));
+    CHECK(asternhaken_nch_encode(message, written, 19) == ASTERNHAKEN_REFUSED_RANGE);
+    CHECK(asternhaken_nch_decode(octets, n - 1, message) == ASTERNHAKEN_REFUSED_MESSAGE_LENGTH);
+    other = (uint8_t *)lent(sizeof *message), memset(other, 0, sizeof *message);
+    CHECK(!memcmp(message, other, sizeof *message));
+    free(other), other = octets_of("08000001c0000012000000f0000008800000592b", &m);
+    ACCEPTED(asternhaken_nch_decode(other, m, message));
+    CHECK(message->used == 152 && message->n_reduced == 5 && message->reduced[4].call_reference == 5 && message->reduced[4].vgcs == 1);
+    free(octets), free(written), free(message), free(other);
+
+    octets = octets_of(FACCH_WHOLE, &n);
+    LEND(facch_message, facch);
+    ACCEPTED(asternhaken_facch_decode(octets, n, facch));
+    CHECK(facch->used == 182 && facch->call.call_reference == 99999999 && facch->call.short_list == 1 && facch->call.frequencies == 0x8000000000000001);
+    CHECK(facch->release_6_given == 1 && facch->count_given == 1 && facch->cell_global_count == 2 && facch->b22_count == 1 && facch->rand_given == 1 && facch->vstk_rand == 0x123456789);
+    CHECK(facch->release_7_given == 1 && facch->uplink_access == 1 && facch->emergency == 1 && facch->paging_cause_given == 0);
+    octets[n - 1] = 0x57; /* FACCH_CAUSED */
+    ACCEPTED(asternhaken_facch_decode(octets, n, facch));
+    CHECK(facch->used == 183 && facch->paging_cause_given == 1);
+    CHECK(asternhaken_facch_decode(octets, 1, facch) == ASTERNHAKEN_REFUSED_MESSAGE_LENGTH && facch->used == 0 && facch->call.call_reference == 0);
+    free(octets), free(facch);
+}
+
+static void half_octet_structs(void)
+{
+    uint8_t *octet = (uint8_t *)lent(1);
+    LEND(message_type, type);
+    ACCEPTED(asternhaken_message_type_decode(0x76, type));
+    CHECK(type->send_sequence_number == 1 && type->message_type == 0x36);
+    *octet = 0;
+    ACCEPTED(asternhaken_message_type_encode(type, octet));
+    CHECK(*octet == 0x76);
+    type->message_type = 0x37;
+    CHECK(asternhaken_message_type_encode(type, octet) == ASTERNHAKEN_REFUSED_RANGE && *octet == 0x76);
+    LEND(call_state, call);
+    ACCEPTED(asternhaken_call_state_decode(11, call));
+    CHECK(call->call_state == 11);
+    ACCEPTED(asternhaken_call_state_encode(call, octet));
+    CHECK(*octet == 11);
+    LEND(originator, originator);
+    ACCEPTED(asternhaken_originator_decode(0x0f, originator));
+    CHECK(originator->oi == 1);
+    ACCEPTED(asternhaken_originator_encode(originator, octet));
+    CHECK(*octet == 1);
+    LEND(state_attributes, attributes);
+    ACCEPTED(asternhaken_state_attributes_decode(0x0a, attributes));
+    CHECK(attributes->da == 1 && attributes->ua == 0 && attributes->comm == 1 && attributes->oi == 0);
+    ACCEPTED(asternhaken_state_attributes_encode(attributes, octet));
+    CHECK(*octet == 0x0a);
+    LEND(sms, sms);
+    ACCEPTED(asternhaken_sms_decode(0x0e, sms));
+    CHECK(sms->dc == 1 && sms->gp == 0);
+    ACCEPTED(asternhaken_sms_encode(sms, octet));
+    CHECK(*octet == 2);
+    LEND(talker, talker);
+    ACCEPTED(asternhaken_talker_decode(0x0a, talker));
+    CHECK(talker->priority == 2);
+    ACCEPTED(asternhaken_talker_encode(talker, octet));
+    CHECK(*octet == 2);
+    CHECK(asternhaken_talker_decode(0x10, talker) == ASTERNHAKEN_REFUSED_RANGE && talker->priority == 0);
+    free(octet), free(type), free(call), free(originator), free(attributes), free(sms), free(talker);
+}
+
+static void octets_structs(void)
+{
+    size_t n;
+    uint8_t *octets = octets_of("00024cfb", &n), *written = (uint8_t *)lent(5);
+    LEND(call_reference, reference);
+    ACCEPTED(asternhaken_call_reference_decode(octets, n, reference));
+    CHECK(reference->call_reference == 4711 && reference->priority_given == 1 && reference->priority == 5);
+    ACCEPTED(asternhaken_call_reference_encode(reference, written, 4));
+    CHECK(same(written, "00024cfa"));
+    free(octets), octets = octets_of("00000023a3", &n);
+    LEND(digits, digits);
+    ACCEPTED(asternhaken_digits_decode(octets, n, digits));
+    CHECK(digits->digits[0] == '0' && digits->digits[8] == '9' && digits->digits[11] == '3');
+    ACCEPTED(asternhaken_digits_encode(digits, written, 5));
+    CHECK(same(written, "00000023a3"));
+    CHECK(asternhaken_digits_encode(digits, written, 4) == ASTERNHAKEN_REFUSED_FORM_SIZE);
+    free(octets), octets = octets_of("90", &n);
+    LEND(cause, cause);
+    ACCEPTED(asternhaken_cause_decode(octets, n, cause));
+    CHECK(cause->meaning == 1 && cause->value == 16 && cause->n_septets == 1 && cause->septets[0] == 16 && cause->n_diagnostics == 0);
+    free(octets), octets = octets_of("1091ff0010", &n);
+    ACCEPTED(asternhaken_cause_decode(octets, n, cause));
+    CHECK(cause->meaning == 2 && cause->value == 0 && cause->n_septets == 2 && cause->septets[0] == 16 && cause->septets[1] == 17 && cause->septets[254] == 0);
+    CHECK(cause->n_diagnostics == 3 && cause->diagnostics[0] == 0xff && cause->diagnostics[2] == 0x10 && cause->diagnostics[254] == 0);
+    cause->meaning = cause->value = UINT64_MAX; /* not looked at */
+    memset(written, 0, 5);
+    ACCEPTED(asternhaken_cause_encode(cause, written, 5));
+    CHECK(same(written, "1091ff0010"));
+    CHECK(asternhaken_cause_decode(octets, 0, cause) == ASTERNHAKEN_REFUSED_LENGTH && cause->meaning == 0 && cause->n_septets == 0 && cause->diagnostics[254] == 0);
+    free(octets), free(written), free(reference), free(digits), free(cause);
+}
+
+/* ---- Words and version ---- */
+
+/* Each number has a text of its own, and so have all that are unknown. */
+#define ALL_DIFFER(text, n)                                                                  \
+    do {                                                                                     \
+        int alike = 0;                                                                       \
+        for (uint32_t i = 0; i <= (n); i++)                                                  \
+            for (uint32_t j = 0; j < i; j++) alike += !strcmp(text(i), text(j));             \
+        CHECK(!alike);                                                                       \
+        CHECK(text((n) + 1) == text(n) && text(255) == text(n) && text(UINT32_MAX) == text(n)); \
+    } while (0)
+
+static int is_sentence(const char *text)
+{
+    size_t n = strlen(text);
+    return n > 10 && text[0] >= 'A' && text[0] <= 'Z' && text[n - 1] == '.' && strchr(text, ' ');
+}
 
 static void words(void)
 {
-    int alike = 0; /* each number has a word of its own */
-    for (uint32_t i = 0; i < 14; i++)
-        for (uint32_t j = 0; j < i; j++) alike += !strcmp(asternhaken_refusal_word(i), asternhaken_refusal_word(j));
-    for (uint32_t i = 0; i < 9; i++)
-        for (uint32_t j = 0; j < i; j++) alike += !strcmp(asternhaken_told_word(i), asternhaken_told_word(j));
-    CHECK(!alike);
-    CHECK(!strcmp(asternhaken_refusal_word(ASTERNHAKEN_ACCEPTED), "accepted") && !strcmp(asternhaken_refusal_word(ASTERNHAKEN_CLOCK), "clock"));
-    CHECK(!strcmp(asternhaken_refusal_word(ASTERNHAKEN_LENGTH), "length") && !strcmp(asternhaken_refusal_word(14), "unknown"));
-    CHECK(!strcmp(asternhaken_told_word(ASTERNHAKEN_JOINED), "complete, joined") && !strcmp(asternhaken_told_word(9), "unknown"));
-    CHECK(ASTERNHAKEN_REFUSAL(0xffffff00u + ASTERNHAKEN_PAGING) == ASTERNHAKEN_PAGING);
+    enum { REFUSALS = ASTERNHAKEN_REFUSED_LENGTH + 1, TELLINGS = ASTERNHAKEN_TOLD_SECOND_BEFORE_FIRST + 1 };
+    ALL_DIFFER(asternhaken_refusal_word, REFUSALS);
+    ALL_DIFFER(asternhaken_refusal_sentence, REFUSALS);
+    ALL_DIFFER(asternhaken_told_word, TELLINGS);
+    ALL_DIFFER(asternhaken_told_sentence, TELLINGS);
+    for (uint32_t i = 0; i <= REFUSALS; i++) CHECK(is_sentence(asternhaken_refusal_sentence(i)));
+    for (uint32_t i = 0; i <= TELLINGS; i++) CHECK(is_sentence(asternhaken_told_sentence(i)));
+    CHECK(!strcmp(asternhaken_refusal_word(ASTERNHAKEN_ACCEPTED), "accepted") && !strcmp(asternhaken_refusal_word(ASTERNHAKEN_REFUSED_CLOCK), "clock"));
+    CHECK(!strcmp(asternhaken_refusal_word(ASTERNHAKEN_REFUSED_LENGTH), "length") && !strcmp(asternhaken_refusal_word(REFUSALS), "unknown"));
+    CHECK(!strcmp(asternhaken_told_word(ASTERNHAKEN_TOLD_JOINED), "complete, joined") && !strcmp(asternhaken_told_word(TELLINGS), "unknown"));
+    CHECK(!strcmp(asternhaken_told_word(((uint64_t)1 << 32) + ASTERNHAKEN_TOLD_JOINED), "unknown"));
+    CHECK(asternhaken_told_sentence(((uint64_t)1 << 32) + ASTERNHAKEN_TOLD_JOINED) == asternhaken_told_sentence(TELLINGS));
+    CHECK(strstr(asternhaken_refusal_sentence(ASTERNHAKEN_REFUSED_REFERENCE), "99,999,999") && strstr(asternhaken_refusal_sentence(ASTERNHAKEN_REFUSED_SETUP), "199,999,999"));
+    CHECK(strstr(asternhaken_refusal_sentence(REFUSALS), "does not know") && strstr(asternhaken_told_sentence(TELLINGS), "does not know"));
+    CHECK(strstr(asternhaken_told_sentence(ASTERNHAKEN_TOLD_NOT_OURS), "not subscribed") && strstr(asternhaken_told_sentence(ASTERNHAKEN_TOLD_JOINED), "joined"));
+    CHECK(ASTERNHAKEN_REFUSAL(0xffffff00u + ASTERNHAKEN_REFUSED_PAGING) == ASTERNHAKEN_REFUSED_PAGING);
+}
+
+static void version(void)
+{
+    char text[40];
+    sprintf(text, "%d.%d.%d", ASTERNHAKEN_VERSION_MAJOR, ASTERNHAKEN_VERSION_MINOR, ASTERNHAKEN_VERSION_PATCH);
+    CHECK(!strcmp(text, ASTERNHAKEN_VERSION));
+    CHECK(asternhaken_version() == ASTERNHAKEN_VERSION_NUMBER);
+    CHECK(ASTERNHAKEN_VERSION_MINOR < 100 && ASTERNHAKEN_VERSION_PATCH < 100);
 }
 
 int main(void)
 {
-    state = lent(LENGTH), before = lent(LENGTH), layout = lent(LENGTH);
+    state = (uint8_t *)lent(LENGTH), before = (uint8_t *)lent(LENGTH), layout = (uint8_t *)lent(LENGTH);
     setups();
     lengths();
     told();
@@ -1025,6 +1235,7 @@ int main(void)
     paging_channel();
     pch_refusals();
     parts();
+    members();
     octets();
     made_by_hand();
     nch_reader();
@@ -1034,7 +1245,11 @@ int main(void)
     call_references();
     dispatcher_digits();
     causes();
+    message_structs();
+    half_octet_structs();
+    octets_structs();
     words();
+    version();
     free(state), free(before), free(layout);
     printf("%u passed, %u failed\n", passed, failed);
     return failed != 0;

@@ -1,5 +1,6 @@
 #!/bin/sh
-# The C library as its users meet it: the header, the symbols, every function, the example, memory, stack, installation. The last line is 'N passed, M failed'.
+# The C library as its users meet it: the header, the symbols, every function, the examples, memory, stack, by gcc, clang, g++ and clang++, and from Python (tests/install.sh has its
+# installation). The last line is 'N passed, M failed'.
 #
 #   tests/host.sh             the library is built (make lib) and tried
 #   tests/host.sh FOLDER..    the libasternhaken.a of each folder is tried instead
@@ -75,21 +76,85 @@ fi
 # ---- The header alone ----
 
 printf '#include <asternhaken.h>\n#include <asternhaken.h>\n' | tee "$tmp/twice.c" > "$tmp/twice.cc"
-for cc in gcc clang; do holds "the header as C99, $cc" $cc -std=c99 $strict -fsyntax-only -Iinclude "$tmp/twice.c"; done
-for cc in g++ clang++; do
-    for std in c++98 c++17; do holds "the header as $std, $cc" $cc -std=$std $strict -fsyntax-only -Iinclude "$tmp/twice.cc"; done
+# ignored CALL..: a file of C or C++ with such calls, whose results nobody uses.
+ignored() {
+    echo '#include <asternhaken.h>'
+    n=0
+    for call; do n=$((n + 1)) && echo "void f$n(uint8_t *s, uint32_t *k, uint64_t *v, struct asternhaken_cause *c); void f$n(uint8_t *s, uint32_t *k, uint64_t *v, struct asternhaken_cause *c) { (void)s, (void)k, (void)v, (void)c; $call; }"; done
+}
+# must_use COMPILER KIND: it warns of each of these calls, and of none of those that say all by what they write.
+must_use() {
+    set -- "$1" "$tmp/ignored.$2" 'asternhaken_setup(s, 1, k, 1, 0, 1, 1, 1)' 'asternhaken_nch(s, 1, 0, s, 1)' 'asternhaken_facch(s, 1, 0, s, 1)' 'asternhaken_pch(s, 1, 0, v, 1)' \
+        'asternhaken_joined(s, 1, 0, 1)' 'asternhaken_reselected(s, 1, 0)' 'asternhaken_handed_over(s, 1, 0)' 'asternhaken_reconfigured(s, 1, 0)' 'asternhaken_left_idle(s, 1, 0)' \
+        'asternhaken_tick(s, 1, 0)' 'asternhaken_nch_read(s, 1, v, 1)' 'asternhaken_nch_write(v, 1, s, 1)' 'asternhaken_facch_read(s, 1, v, 1)' 'asternhaken_cause_decode(s, 1, c)' \
+        'asternhaken_cause_encode(c, s, 1)'
+    by=$1 file=$2
+    shift 2
+    ignored "$@" > "$file"
+    $by -Wall -Wextra -Wpedantic -Iinclude -c "$file" -o "$tmp/ignored.o" > "$tmp/warned" 2>&1
+    [ "$(grep -c 'warning: .*\(unused-result\|nodiscard\)' "$tmp/warned")" = $# ] || { cat "$tmp/warned"; return 1; }
+    ignored 'asternhaken_read(s, 1, 0, 0, v)' 'asternhaken_entry_numbers(s, 1, 0, v, 1)' 'asternhaken_held_count(s, 1, v)' 'asternhaken_next_expiry(s, 1, v)' > "$file"
+    $by $strict -Iinclude -c "$file" -o "$tmp/ignored.o"
+}
+# too_short COMPILER KIND: where a struct lacks a member, the header does not compile.
+mkdir "$tmp/short"
+sed 's/ priority, cipher_key_number, allocation_octets,/ priority, cipher_key_number,/' include/asternhaken.h > "$tmp/short/asternhaken.h"
+too_short() { ! $1 -fsyntax-only -I"$tmp/short" "$tmp/twice.$2" > "$tmp/warned" 2>&1 && grep 'error: .*asternhaken_record' "$tmp/warned"; }
+more='-Wconversion -Wsign-conversion -Wshadow -Wcast-qual -Wundef'
+for std in c99 c11 c2x c++98 c++11 c++17; do
+    case $std in
+    c++*) compilers='g++ clang++' kind=cc also=-Wold-style-cast ;;
+    *) compilers='gcc clang' kind=c also=-Wstrict-prototypes ;;
+    esac
+    for cc in $compilers; do
+        holds "the header as $std, $cc" $cc -std=$std $strict $more $also -fsyntax-only -Iinclude "$tmp/twice.$kind"
+        holds "results that must be used as $std, $cc" must_use "$cc -std=$std" $kind
+        holds "a struct that is too short as $std, $cc" too_short "$cc -std=$std" $kind
+    done
 done
-sed -n 's/^uint32_t \(asternhaken_[a-z0-9_]*\)(.*/\1/p' include/asternhaken.h | sort > "$tmp/functions"
-holds 'the header declares functions' test -s "$tmp/functions"
+sed -n -E 's/^(ASTERNHAKEN_MUST_USE )?(uint32_t |const char \*)(asternhaken_[a-z0-9_]*)\(.*/\3/p' include/asternhaken.h | sort > "$tmp/functions"
+sed -n -E 's/^(ASTERNHAKEN_MUST_USE )?static inline uint32_t (asternhaken_[a-z0-9_]*)\(.*/\2/p' include/asternhaken.h | sort > "$tmp/inlines"
+holds 'the header declares functions, and has some of its own' test -s "$tmp/functions" -a -s "$tmp/inlines"
 figures
-for test in header stack; do
-    while read -r f; do holds "tests/$test.c does not call $f" grep -qw "$f" tests/$test.c; done < "$tmp/functions"
-done
+while read -r f; do holds "tests/stack.c does not call $f" grep -qw "$f" tests/stack.c; done < "$tmp/functions"
+cat "$tmp/inlines" "$tmp/functions" > "$tmp/called"
+while read -r f; do holds "neither tests/header.c nor tests/views.c calls $f" grep -qw "$f" tests/header.c tests/views.c; done < "$tmp/called"
+# names HEADER: refusals, told numbers and parts have their prefixes, and behind them no two have the same name; a flag that says whether something is there ends in _GIVEN.
+names() {
+    sed -n 's/^    ASTERNHAKEN_\([A-Z0-9_]*\) = .*/\1/p' "$1" | grep -v '^PCH_' > "$tmp/names"
+    ! grep -v -e '^ACCEPTED$' -e '^REFUSED_' -e '^TOLD_' -e '^PART_' "$tmp/names" && [ "$(wc -l < "$tmp/names")" -ge 58 ] && [ -z "$(sed 's/^[A-Z]*_//' "$tmp/names" | sort | uniq -d)" ] || return 1
+    [ "$(grep -cE '^    ASTERNHAKEN_.*_GIVEN = .* (is|are) there' "$1")" -ge 11 ] && ! grep -E '^    ASTERNHAKEN_.* = .* (is|are) there' "$1" | grep -v '_GIVEN = '
+}
+not_names() { sed "$1" include/asternhaken.h > "$tmp/names.h" && ! cmp -s include/asternhaken.h "$tmp/names.h" && ! names "$tmp/names.h"; }
+holds 'the names of refusals, told numbers and parts' names include/asternhaken.h
+holds 'a refusal without its prefix is refused' not_names 's/ASTERNHAKEN_REFUSED_CLOCK = /ASTERNHAKEN_CLOCK = /'
+holds 'a part with the name of a refusal is refused' not_names 's/ASTERNHAKEN_PART_HOPS = /ASTERNHAKEN_PART_HOPPING = /'
+holds 'a flag under another name is refused' not_names 's/ASTERNHAKEN_PART_COUNT_GIVEN = /ASTERNHAKEN_PART_COUNTED = /'
+# may_be_left HEADER: all results but those of what only looks at a state, and of the version, must be used.
+may_be_left() {
+    sed -n -E 's/^(static inline )?uint32_t (asternhaken_[a-z0-9_]*)\(.*/\2/p' "$1" | sort > "$tmp/left"
+    printf 'asternhaken_%s\n' answer_get entry_get entry_numbers held_count held_get held_numbers is_set_up next_expiry read version | diff - "$tmp/left"
+}
+not_left() { sed 's/^ASTERNHAKEN_MUST_USE \(uint32_t asternhaken_digits_write\)/\1/' include/asternhaken.h > "$tmp/names.h" && ! may_be_left "$tmp/names.h"; }
+holds 'the results that may be left' may_be_left include/asternhaken.h
+holds 'a writer whose result may be left is refused' not_left
+# pages FILE..: what the pages for users name is in the header.
+pages() {
+    grep -ohE '(asternhaken|ASTERNHAKEN)_[A-Za-z0-9_]*[a-zA-Z0-9]' "$@" | sort -u | grep -vx ASTERNHAKEN_LIBRARY > "$tmp/names"
+    [ "$(wc -l < "$tmp/names")" -ge 20 ] && while read -r f; do grep -qw "$f" include/asternhaken.h || { echo "$f"; return 1; }; done < "$tmp/names"
+}
+not_pages() { sed 's/asternhaken_held_get/asternhaken_held_take/' docs/C-API.md > "$tmp/page.md" && ! pages "$tmp/page.md"; }
+for page in README.md docs/C-API.md docs/asternhaken.3 'docs/STATE.md examples/control_room.c examples/live_list.c'; do holds "what $page names" pages $page; done
+holds 'a page with a name that is not there is refused' not_pages
 
 # ---- Each archive ----
 
-# symbols: what the archive defines for others is what the header declares, and it asks for nothing but memcpy and memset.
+# symbols: what the archive defines for others is what the header declares, and it asks for nothing but memcpy and memset; the objects of c/ ask for nothing at all.
 symbols() {
+    for file in c/*.c; do
+        object=$(basename "$file" .c).o
+        ar p "$archive" "$object" > "$tmp/$object" && [ -s "$tmp/$object" ] && ! nm -u "$tmp/$object" | grep . || { echo "$object"; return 1; }
+    done
     nm -g --defined-only "$archive" | awk 'NF == 3 { print $3 }' | sort > "$tmp/defined"
     nm -u "$archive" | awk '$1 ~ /^[Uwv]$/ { print $2 }' | sort -u | comm -23 - "$tmp/defined" | grep -vx -e memcpy -e memset > "$tmp/asked"
     diff "$tmp/functions" "$tmp/defined" && ! grep . "$tmp/asked"
@@ -166,26 +231,31 @@ Call list
 END
 }
 
-# A new user: the library is installed, and the program of the README is all there is in their folder.
-new_user() {
-    rm -rf "$tmp/there" "$tmp/empty"
-    mkdir "$tmp/empty"
-    make install PREFIX="$tmp/there" ASTERNHAKEN_LIB="$folder" || return 1
-    awk '/^```c$/ { code = 1; next } /^```$/ { code = 0 } code' README.md > "$tmp/empty/use.c"
-    cmp include/asternhaken.h "$tmp/there/include/asternhaken.h" && cmp "$archive" "$tmp/there/lib/libasternhaken.a" || return 1
-    (
-        cd "$tmp/empty" && export PKG_CONFIG_PATH="$tmp/there/lib/pkgconfig" || exit 1
-        $cc $(pkg-config --cflags asternhaken) use.c $(pkg-config --libs asternhaken) -o use && $run ./use > told || exit 1
-        printf '4711 VBS: half stored\n4711 VBS: complete, joined, channel 0a4123\n' | diff - told
-    )
+# The live list: a half comes, is shown with its time, and is gone when that is over; a message that is too short is named, and so is a refused setup.
+live_list() {
+    : > "$tmp/shown"
+    {
+        echo b00024cea3852091922b2b2b2b2b2b2b2b2b2b2b
+        for i in $(seq 200); do [ "$(wc -l < "$tmp/shown")" -lt 4 ] && sleep 0.1; done
+        echo 2b
+    } | $run "$tmp/live_list" 300 9422 9423 > "$tmp/shown" || return 1
+    printf '%s\n' 'accepted; 0 held' 'accepted; 1 held' '    4711 VBS   first half on the NCH, 0.3 s left' 'accepted; 0 held' 'message length; 0 held' | diff - "$tmp/shown" || return 1
+    ! $run "$tmp/live_list" 0 9422 < /dev/null > "$tmp/shown" && [ "$(cat "$tmp/shown")" = 'setup; 0 held' ]
+}
+# by COMPILER..: every function, the views, the events and both examples as that compiler takes them.
+by() {
+    for program in tests/header tests/views tests/events examples/control_room examples/live_list; do
+        "$@" $strict -O2 -Iinclude $program.c -x none "$archive" -o "$tmp/$(basename $program)" || return 1
+    done
+    for program in header views; do "$tmp/$program" > "$tmp/shown" && tail -n 1 "$tmp/shown" | grep '^[1-9][0-9]* passed, 0 failed$' || { cat "$tmp/shown"; return 1; }; done
+    events && sample && live_list
 }
 
-# A packager's folder goes before the paths, and is not named in what is installed.
-destdir() {
-    make install DESTDIR="$tmp/package" PREFIX=/usr ASTERNHAKEN_LIB="$folder" || return 1
-    (cd "$tmp/package" && find . -type f | sort) > "$tmp/files"
-    printf '%s\n' ./usr/include/asternhaken.h ./usr/lib/libasternhaken.a ./usr/lib/pkgconfig/asternhaken.pc | diff - "$tmp/files" || return 1
-    ! grep -F "$tmp" "$tmp/package/usr/lib/pkgconfig/asternhaken.pc"
+# from_python: the module over the shared library of this archive, held to the header and known answers, and the example in it.
+from_python() {
+    env -u MAKEFLAGS -u MAKELEVEL make install DESTDIR= PREFIX="$tmp/there" ASTERNHAKEN_LIB="$folder" CC=cc || return 1
+    (PYTHONPATH=$tmp/there/share/asternhaken PYTHONDONTWRITEBYTECODE=1 && export PYTHONPATH PYTHONDONTWRITEBYTECODE && unset ASTERNHAKEN_LIBRARY && python3 tests/receiver.py include/asternhaken.h) || return 1
+    PYTHONDONTWRITEBYTECODE=1 python3 "$tmp/there/share/asternhaken/control_room.py" < examples/sample.txt > "$tmp/shown" && diff examples/sample.expected "$tmp/shown"
 }
 
 demo() { make demo ASTERNHAKEN_LIB="$folder" > "$tmp/shown" && diff examples/sample.expected "$tmp/shown"; }
@@ -200,22 +270,30 @@ for folder; do
     *) holds "$archive is no archive for x86-64 or this machine" false; continue ;;
     esac
     holds "$name: symbols" symbols
-    for program in header stack events; do holds "$name: tests/$program.c" build $program tests/$program.c; done
-    holds "$name: examples/control_room.c" build control_room examples/control_room.c
+    for program in header views stack events; do holds "$name: tests/$program.c" build $program tests/$program.c; done
+    for program in control_room live_list; do holds "$name: examples/$program.c" build $program examples/$program.c; done
     counted "$name: tests/header.c" $run "$tmp/header"
+    counted "$name: tests/views.c" $run "$tmp/views"
     holds "$name: the events of vectors/" events
     holds "$name: too few events are refused" no_events
     holds "$name: the sample" sample
     holds "$name: wrong lines" wrong_lines
+    holds "$name: the live list" live_list
     counted "$name: tests/stack.c" $run "$tmp/stack"
     echo "$name: $(grep deepest "$tmp/counted")"
-    holds "$name: a new user" new_user
     [ -z "$run" ] || continue
     run='valgrind -q --error-exitcode=9 --leak-check=full'
     holds "$name: valgrind on tests/header.c" $run "$tmp/header"
+    holds "$name: valgrind on tests/views.c" $run "$tmp/views"
     holds "$name: valgrind on the sample" sample
     holds "$name: valgrind on wrong lines" wrong_lines
-    holds "$name: make install with DESTDIR" destdir
+    holds "$name: valgrind on the live list" live_list
+    run=
+    holds "$name: gcc" by gcc -std=c99
+    holds "$name: clang" by clang -std=c99
+    holds "$name: g++" by g++ -std=c++17 -x c++
+    holds "$name: clang++" by clang++ -std=c++17 -x c++
+    holds "$name: from Python" from_python
     holds "$name: make demo" demo
 done
 finish

@@ -32,17 +32,22 @@ static uint32_t handed_over(void) { return asternhaken_handed_over(state, sizeof
 static uint32_t reconfigured(void) { return asternhaken_reconfigured(state, sizeof state, tick); }
 static uint32_t left_idle(void) { return asternhaken_left_idle(state, sizeof state, tick); }
 static uint32_t ticked(void) { return asternhaken_tick(state, sizeof state, tick); }
-static uint32_t read_part(void) { return asternhaken_read(state, sizeof state, 0, ASTERNHAKEN_CHANNEL, &value); }
-static uint32_t nch_read(void) { return asternhaken_nch_read(octets, n, numbers, 106); }
+static uint32_t read_part(void) { return asternhaken_read(state, sizeof state, 0, ASTERNHAKEN_PART_CHANNEL, &value); }
+static uint32_t is_set_up(void) { return asternhaken_is_set_up(state, sizeof state); }
+static uint32_t entry_numbers(void) { return asternhaken_entry_numbers(state, sizeof state, 0, numbers, ASTERNHAKEN_ENTRY_NUMBERS); }
+static uint32_t held_count(void) { return asternhaken_held_count(state, sizeof state, &value); }
+static uint32_t held_numbers(void) { return asternhaken_held_numbers(state, sizeof state, 1, numbers, ASTERNHAKEN_HELD_NUMBERS); }
+static uint32_t next_expiry(void) { return asternhaken_next_expiry(state, sizeof state, &value); }
+static uint32_t nch_read(void) { return asternhaken_nch_read(octets, n, numbers, ASTERNHAKEN_NCH_NUMBERS); }
 static uint32_t nch_write(void) { return asternhaken_nch_write(numbers, ASTERNHAKEN_NCH_NUMBERS, octets, 20); }
-static uint32_t facch_read(void) { return asternhaken_facch_read(octets, n, numbers, 22); }
+static uint32_t facch_read(void) { return asternhaken_facch_read(octets, n, numbers, ASTERNHAKEN_FACCH_NUMBERS); }
 static uint32_t message_type_read(void) { return asternhaken_message_type_read(0x31, numbers, 2); }
 static uint32_t message_type_write(void) { return asternhaken_message_type_write(numbers, 2, octets); }
 static uint32_t call_reference_read(void) { return asternhaken_call_reference_read(octets, 4, numbers, 3); }
 static uint32_t call_reference_write(void) { return asternhaken_call_reference_write(numbers, 3, octets, 4); }
 static uint32_t call_state_read(void) { return asternhaken_call_state_read(11, numbers, 1); }
 static uint32_t call_state_write(void) { return asternhaken_call_state_write(numbers, 1, octets); }
-static uint32_t cause_read(void) { return asternhaken_cause_read(octets, n, numbers, 514); }
+static uint32_t cause_read(void) { return asternhaken_cause_read(octets, n, numbers, ASTERNHAKEN_CAUSE_NUMBERS); }
 static uint32_t cause_write(void) { return asternhaken_cause_write(numbers, ASTERNHAKEN_CAUSE_NUMBERS, octets, n); }
 static uint32_t originator_read(void) { return asternhaken_originator_read(1, numbers, 1); }
 static uint32_t originator_write(void) { return asternhaken_originator_write(numbers, 1, octets); }
@@ -54,6 +59,11 @@ static uint32_t talker_read(void) { return asternhaken_talker_read(2, numbers, 1
 static uint32_t talker_write(void) { return asternhaken_talker_write(numbers, 1, octets); }
 static uint32_t digits_read(void) { return asternhaken_digits_read(octets, 5, numbers, 12); }
 static uint32_t digits_write(void) { return asternhaken_digits_write(numbers, 12, octets, 5); }
+static uint32_t version(void) { return asternhaken_version() != ASTERNHAKEN_VERSION_NUMBER; }
+static uint32_t refusal_word(void) { return !asternhaken_refusal_word(99); }
+static uint32_t refusal_sentence(void) { return !asternhaken_refusal_sentence(13); }
+static uint32_t told_word(void) { return !asternhaken_told_word(99); }
+static uint32_t told_sentence(void) { return !asternhaken_told_sentence(8); }
 
 /* ---- Measuring ---- */
 
@@ -144,9 +154,14 @@ static void receiver(void)
     for (uint32_t i = 0; i < ASTERNHAKEN_KEYS; i++) keys[i] = i < 2 ? 9422 + i : i;
     keys[49] = ASTERNHAKEN_LAST_KEY;
     measure(setup, 0, "setup, 50 keys");
+    measure(is_set_up, 1, "is_set_up");
     message(nch, "nch, two first halves stored", "4000933a8e1482468001267aa56e1158922b2b2b", 0);
+    measure(held_count, 0, "held_count");
+    measure(held_numbers, 0, "held_numbers");
+    measure(next_expiry, 0, "next_expiry");
     message(nch, "nch, both held already", "4000933a8e1482468001267aa56e1158922b2b2b", 0);
     message(nch, "nch, a second half joined", "b00024cea30712345678932b2b2b2b2b2b2b2b2b", 0);
+    measure(entry_numbers, 0, "entry_numbers");
     message(nch, "nch, one by reduced reference", "a68001267b855e6f780b2b2b2b2b2b2b2b2b2b2b", 0);
     message(nch, "nch, every part, in one piece", "dbebc1ffffb8f9e2c02b475fedcba98777aefb2b", 0);
     message(nch, "nch, five reduced references", "08000001c0000012000000f0000008800000592b", 0);
@@ -213,13 +228,23 @@ static void elements(void)
     both_ways(digits_read, "digits_read", digits_write, "digits_write");
 }
 
+static void words(void)
+{
+    measure(version, 0, "version");
+    measure(refusal_word, 0, "refusal_word");
+    measure(refusal_sentence, 0, "refusal_sentence");
+    measure(told_word, 0, "told_word");
+    measure(told_sentence, 0, "told_sentence");
+}
+
 int main(void)
 {
-    stack = malloc(STACK);
+    stack = (unsigned char *)malloc(STACK);
     if (!stack) return 2;
     receiver();
     messages();
     elements();
+    words();
     free(stack);
     printf("deepest: %lu octets of stack, in %s\n", (unsigned long)deepest, deepest_name);
     printf("%u passed, %u failed\n", passed, failed);

@@ -362,6 +362,7 @@ static void hand_over(const uint64_t *all, size_t n_all, uint64_t *numbers, size
 
 static void nch_numbers(uint64_t *to, const struct plain_nch *m)
 {
+    *to++ = m->used;
     *to++ = m->nln_given;
     *to++ = m->nln;
     *to++ = m->n_calls;
@@ -394,8 +395,7 @@ static void nch_numbers(uint64_t *to, const struct plain_nch *m)
     *to++ = m->hr_amr_config;
     *to++ = m->sms;
     *to++ = m->sms_confidentiality;
-    *to++ = m->sms_privacy;
-    *to = m->used;
+    *to = m->sms_privacy;
 }
 
 static uint32_t read_nch_numbers(const uint8_t *octets, size_t n, uint64_t *numbers, size_t n_numbers)
@@ -414,6 +414,7 @@ static uint32_t read_nch_numbers(const uint8_t *octets, size_t n, uint64_t *numb
 
 static void facch_numbers(uint64_t *to, const struct plain_facch *m)
 {
+    *to++ = m->used;
     to = call_numbers(to, &m->call);
     *to++ = m->release_6;
     *to++ = m->counted;
@@ -424,8 +425,7 @@ static void facch_numbers(uint64_t *to, const struct plain_facch *m)
     *to++ = m->release_7;
     *to++ = m->uplink_access;
     *to++ = m->emergency;
-    *to++ = m->paging_cause_given;
-    *to = m->used;
+    *to = m->paging_cause_given;
 }
 
 static uint32_t read_facch_numbers(const uint8_t *octets, size_t n, uint64_t *numbers, size_t n_numbers)

@@ -210,10 +210,10 @@ impl NchDraft {
         self.bits().octets(20)
     }
 
-    /// The numbers in the header's order, where all lists fit in their places.
+    /// The bits used and the numbers of the record in the header's order, where all lists fit in their places.
     pub fn numbers(&self) -> Option<Vec<u64>> {
         let pair = |value: Option<u64>| [u64::from(value.is_some()), value.unwrap_or(0)];
-        let mut numbers = Vec::new();
+        let mut numbers = vec![self.bits().0.len() as u64];
         numbers.extend(pair(self.nln));
         numbers.push(self.calls.len() as u64);
         for call in &self.calls {
@@ -224,25 +224,25 @@ impl NchDraft {
             numbers.resize(length, 0);
             fits
         };
-        let mut fits = up_to(&mut numbers, 47);
+        let mut fits = up_to(&mut numbers, 48);
         if let Some(six) = &self.six {
             numbers.push(1);
             numbers.extend(pair(six.count));
             numbers.push(six.reduced.len() as u64);
             numbers.extend(six.reduced.iter().flat_map(|(reference, service)| [*reference, *service]));
-            fits &= up_to(&mut numbers, 61);
+            fits &= up_to(&mut numbers, 62);
             numbers.push(six.random.len() as u64);
             for (segment, vstk_rand) in &six.random {
                 numbers.push(*segment);
                 numbers.extend(pair(*vstk_rand));
             }
         }
-        fits &= up_to(&mut numbers, 89);
+        fits &= up_to(&mut numbers, 90);
         if let Some(seven) = &self.seven {
             numbers.push(1);
             numbers.push(seven.marks.len() as u64);
             numbers.extend(&seven.marks);
-            fits &= up_to(&mut numbers, 95);
+            fits &= up_to(&mut numbers, 96);
             numbers.extend(pair(seven.uplink));
             numbers.push(u64::from(seven.amr.is_some()));
             let (fr, hr) = seven.amr.unwrap_or_default();
@@ -252,7 +252,7 @@ impl NchDraft {
             let (confidentiality, privacy) = seven.sms.unwrap_or_default();
             numbers.extend([confidentiality, privacy]);
         }
-        fits &= up_to(&mut numbers, 105);
+        fits &= up_to(&mut numbers, 106);
         fits.then_some(numbers)
     }
 }
@@ -331,7 +331,8 @@ impl FacchDraft {
     }
 
     pub fn numbers(&self) -> Option<Vec<u64>> {
-        let mut numbers = self.call.as_ref()?.numbers();
+        let mut numbers = vec![self.bits().0.len() as u64];
+        numbers.extend(self.call.as_ref()?.numbers());
         match self.six {
             None => numbers.extend([0; 6]),
             Some((count, vstk_rand)) => {

@@ -22,8 +22,6 @@ pub struct Half {
 pub struct Octets {
     pub name: &'static str,
     pub numbers: usize,
-    /// How many numbers a reading has.
-    pub reading: usize,
     pub read: (OctetsReader, fn(&[u8]) -> Reading),
     pub write: (OctetsWriter, SecondOctetsWriter),
 }
@@ -58,21 +56,18 @@ const HALVES: [Half; 6] = [MESSAGE_TYPE, CALL_STATE, ORIGINATOR, STATE_ATTRIBUTE
 pub const CALL_REFERENCE: Octets = Octets {
     name: "call_reference",
     numbers: 3,
-    reading: 3,
     read: (archive::asternhaken_call_reference_read, gcc::read_call_reference),
     write: (archive::asternhaken_call_reference_write, gcc::write_call_reference),
 };
 pub const CAUSE: Octets = Octets {
     name: "cause",
     numbers: gcc::CAUSE_NUMBERS,
-    reading: gcc::CAUSE_NUMBERS + 2,
     read: (archive::asternhaken_cause_read, gcc::read_cause),
     write: (archive::asternhaken_cause_write, gcc::write_cause),
 };
 pub const DIGITS: Octets = Octets {
     name: "digits",
     numbers: 12,
-    reading: 12,
     read: (archive::asternhaken_digits_read, gcc::read_digits),
     write: (archive::asternhaken_digits_write, gcc::write_digits),
 };
@@ -145,22 +140,24 @@ impl Octets {
 
     /// Reads, and writes back what was accepted.
     fn there_and_back(&self, tally: &mut Tally, octets: &[u8]) {
-        let (refusal, numbers) = self.compare_read(tally, octets, self.reading);
+        let (refusal, numbers) = self.compare_read(tally, octets, self.numbers);
         if refusal == 0 {
-            self.compare_write(tally, &numbers[..self.numbers], octets.len());
+            self.compare_write(tally, &numbers, octets.len());
         }
     }
 }
 
 fn cause_numbers(septets: u64, diagnostics: u64, rng: &mut Rng) -> Vec<u64> {
     let mut numbers = vec![0; gcc::CAUSE_NUMBERS];
-    numbers[0] = septets;
-    numbers[256] = diagnostics;
+    // What it means is not looked at.
+    numbers[..2].fill(rng.next());
+    numbers[2] = septets;
+    numbers[258] = diagnostics;
     for i in 0..septets.min(255) as usize {
-        numbers[1 + i] = rng.below(128);
+        numbers[3 + i] = rng.below(128);
     }
     for i in 0..diagnostics.min(255) as usize {
-        numbers[257 + i] = rng.below(256);
+        numbers[259 + i] = rng.below(256);
     }
     numbers
 }
@@ -183,7 +180,7 @@ pub fn fixed(tally: &mut Tally) {
                 element.compare_read(tally, octets, places);
             }
         }
-        for length in (0..20).chain([510, 511, 512, 513, 514]) {
+        for length in (0..20).chain([510, 511, 512, 513, 514, 515, 516]) {
             element.compare_write(tally, &vec![1; length], 4);
             element.compare_write(tally, &vec![0x31; length], 5);
         }
@@ -223,7 +220,7 @@ pub fn fixed(tally: &mut Tally) {
         for size in [0, (septets + diagnostics) as usize, (septets + diagnostics + 1) as usize, 255, 256] {
             CAUSE.compare_write(tally, &numbers, size);
         }
-        for place in [0, 1, 2, 127, 128, 129, 254, 255, 256, 257, 258, 384, 385, 510, 511] {
+        for place in [0, 1, 2, 3, 4, 129, 130, 131, 256, 257, 258, 259, 260, 386, 387, 512, 513] {
             for bound in BOUNDS {
                 let mut numbers = numbers.clone();
                 numbers[place] = bound;
@@ -278,7 +275,7 @@ pub fn run(tally: &mut Tally, rng: &mut Rng, count: u64) {
                     let place = rng.below(numbers.len() as u64) as usize;
                     numbers[place] = rng.pick(&BOUNDS);
                 }
-                let size = if rng.one_in(8) { rng.below(300) } else { numbers[0].saturating_add(numbers[256]).min(600) };
+                let size = if rng.one_in(8) { rng.below(300) } else { numbers[2].saturating_add(numbers[258]).min(600) };
                 CAUSE.compare_write(tally, &numbers, size as usize);
             }
             4 => {

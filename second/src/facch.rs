@@ -3,8 +3,8 @@
 use crate::bits::*;
 use crate::call::*;
 
-/// Numbers of a record; a reading has the bits used behind them.
-pub const NUMBERS: usize = 21;
+/// Numbers of an array: the bits used, and the record behind them.
+pub const NUMBERS: usize = 22;
 
 #[derive(Clone, Debug, PartialEq)]
 pub struct Count {
@@ -34,26 +34,26 @@ pub struct Facch {
 }
 
 impl Facch {
-    pub fn numbers(&self) -> Vec<u64> {
-        let mut numbers = self.call.numbers().to_vec();
+    pub fn numbers(&self, used: usize) -> Vec<u64> {
+        let mut numbers = [&[used as u64][..], &self.call.numbers()].concat();
         numbers.resize(NUMBERS, 0);
         if let Some(six) = &self.release6 {
-            numbers[11] = 1;
+            numbers[12] = 1;
             if let Some(count) = &six.count {
-                numbers[12] = 1;
-                numbers[13] = count.cell_global_count;
-                numbers[14] = u64::from(count.b22_count);
+                numbers[13] = 1;
+                numbers[14] = count.cell_global_count;
+                numbers[15] = u64::from(count.b22_count);
             }
             if let Some(vstk_rand) = six.vstk_rand {
-                numbers[15] = 1;
-                numbers[16] = vstk_rand;
+                numbers[16] = 1;
+                numbers[17] = vstk_rand;
             }
         }
         if let Some(seven) = &self.release7 {
-            numbers[17] = 1;
-            numbers[18] = u64::from(seven.uplink_access);
-            numbers[19] = u64::from(seven.emergency);
-            numbers[20] = u64::from(seven.paging_cause);
+            numbers[18] = 1;
+            numbers[19] = u64::from(seven.uplink_access);
+            numbers[20] = u64::from(seven.emergency);
+            numbers[21] = u64::from(seven.paging_cause);
         }
         numbers
     }

@@ -1,4 +1,4 @@
-//! The functions of include/asternhaken.h, called with guard octets around everything that is lent.
+//! The functions of include/asternhaken.h, but for those that say words, called with guard octets around everything that is lent.
 
 use crate::record;
 use std::cell::Cell;
@@ -26,6 +26,11 @@ pub mod archive {
         fn asternhaken_left_idle(state: *mut u8, state_length: usize, tick: u32);
         fn asternhaken_tick(state: *mut u8, state_length: usize, tick: u32);
         fn asternhaken_read(state: *const u8, state_length: usize, entry: u32, part: u32, value: *mut u64);
+        fn asternhaken_entry_numbers(state: *const u8, state_length: usize, entry: u32, numbers: *mut u64, n: usize);
+        fn asternhaken_held_numbers(state: *const u8, state_length: usize, i: u32, numbers: *mut u64, n: usize);
+        fn asternhaken_held_count(state: *const u8, state_length: usize, count: *mut u64);
+        fn asternhaken_next_expiry(state: *const u8, state_length: usize, ms: *mut u64);
+        fn asternhaken_is_set_up(state: *const u8, state_length: usize);
         fn asternhaken_nch_read(octets: *const u8, n: usize, numbers: *mut u64, n_numbers: usize);
         fn asternhaken_nch_write(numbers: *const u64, n_numbers: usize, octets: *mut u8, n: usize);
         fn asternhaken_facch_read(octets: *const u8, n: usize, numbers: *mut u64, n_numbers: usize);
@@ -54,6 +59,9 @@ pub type OctetsReader = unsafe extern "C" fn(*const u8, usize, *mut u64, usize) 
 pub type OctetsWriter = unsafe extern "C" fn(*const u64, usize, *mut u8, usize) -> u32;
 pub type OctetReader = unsafe extern "C" fn(u8, *mut u64, usize) -> u32;
 pub type OctetWriter = unsafe extern "C" fn(*const u64, usize, *mut u8) -> u32;
+/// What looks at a state: by many numbers of the i-th of something, or by one.
+pub type NumbersView = unsafe extern "C" fn(*const u8, usize, u32, *mut u64, usize) -> u32;
+pub type NumberView = unsafe extern "C" fn(*const u8, usize, *mut u64) -> u32;
 
 thread_local! {
     static DAMAGE: Cell<Option<&'static str>> = const { Cell::new(None) };
@@ -293,7 +301,7 @@ impl State {
         self.call(archive::asternhaken_tick as *const (), &[tick], &[], |state, n| unsafe { archive::asternhaken_tick(state, n, tick) })
     }
 
-    /// One number of the answer. The caller sees to it that the state stayed as it was.
+    /// One number of the answer. The caller sees to it that the state stayed as it was, here and below.
     pub fn read(&self, entry: u32, part: u32) -> (u32, u64) {
         let mut value = [NUMBER_GUARD, STALE, NUMBER_GUARD];
         let refusal =
@@ -308,6 +316,37 @@ impl State {
             record.large(&[value[1]]);
         });
         (refusal, value[1])
+    }
+
+    /// A call that looks at the state and fills `n` numbers; `given` are the numbers that it gets.
+    fn look(&self, number: *const (), given: &[u32], n: usize, function: impl FnOnce(*mut u64) -> u32) -> (u32, Vec<u64>) {
+        let mut numbers = Lent::new(&vec![STALE; n], NUMBER_GUARD, 0);
+        let refusal = function(numbers.pointer_mut());
+        numbers.check_guards();
+        record::with(|record| {
+            record.state(self.which, self.lent.content());
+            record.function(archive::number_of(number));
+            record.small(given);
+            record.small(&[refusal]);
+            record.large(numbers.content());
+        });
+        (refusal, numbers.content().to_vec())
+    }
+
+    /// All numbers of the i-th of something, into `n` places.
+    pub fn numbers(&self, view: NumbersView, i: u32, n: usize) -> (u32, Vec<u64>) {
+        self.look(view as *const (), &[i, n as u32], n, |numbers| unsafe { view(self.lent.pointer(), self.lent.length, i, numbers, n) })
+    }
+
+    pub fn number(&self, view: NumberView) -> (u32, u64) {
+        let (refusal, value) = self.look(view as *const (), &[], 1, |value| unsafe { view(self.lent.pointer(), self.lent.length, value) });
+        (refusal, value[0])
+    }
+
+    /// It answers 1 or 0, and no refusal.
+    pub fn is_set_up(&self) -> u32 {
+        let is_set_up = archive::asternhaken_is_set_up;
+        self.look(is_set_up as *const (), &[], 0, |_| unsafe { is_set_up(self.lent.pointer(), self.lent.length) }).0
     }
 
     pub fn check_guards(&self) {

@@ -92,7 +92,8 @@ pub fn write_call_state(numbers: &[u64]) -> Result<u8, Refusal> {
 
 // Cause (9.4.3): septets, each octet led by 1 if it is the last, then diagnostics.
 
-pub const CAUSE_NUMBERS: usize = 512;
+/// What it means, in two numbers, which only a reader says; then septets and diagnostics, each with their number before them.
+pub const CAUSE_NUMBERS: usize = 514;
 const CAUSE_MOST: usize = 255;
 
 /// The causes of table 9.4.
@@ -109,36 +110,36 @@ pub fn read_cause(octets: &[u8]) -> Result<Vec<u64>, Refusal> {
     }
     let last = octets.iter().position(|octet| octet & 0x80 != 0).ok_or(LENGTH)?;
     let (septets, diagnostics) = octets.split_at(last + 1);
-    let mut numbers = vec![0; CAUSE_NUMBERS + 2];
-    numbers[0] = septets.len() as u64;
+    let mut numbers = vec![0; CAUSE_NUMBERS];
+    numbers[2] = septets.len() as u64;
     for (i, octet) in septets.iter().enumerate() {
-        numbers[1 + i] = u64::from(octet & 0x7F);
+        numbers[3 + i] = u64::from(octet & 0x7F);
     }
-    numbers[256] = diagnostics.len() as u64;
+    numbers[258] = diagnostics.len() as u64;
     for (i, octet) in diagnostics.iter().enumerate() {
-        numbers[257 + i] = u64::from(*octet);
+        numbers[259 + i] = u64::from(*octet);
     }
-    let specific = septets.len() == 1 && is_listed(numbers[1]);
-    numbers[512] = if specific { 1 } else { 2 };
-    numbers[513] = if specific { numbers[1] } else { 0 };
+    let specific = septets.len() == 1 && is_listed(numbers[3]);
+    numbers[0] = if specific { 1 } else { 2 };
+    numbers[1] = if specific { numbers[3] } else { 0 };
     Ok(numbers)
 }
 
 pub fn write_cause(numbers: &[u64], octets: &mut [u8]) -> Result<(), Refusal> {
     exactly(numbers, CAUSE_NUMBERS)?;
-    let (septets, diagnostics) = (numbers[0], numbers[256]);
+    let (septets, diagnostics) = (numbers[2], numbers[258]);
     // A count that no array holds is a cause of over 255 octets, and 13 goes before 12.
     if septets == 0 || septets.saturating_add(diagnostics) > CAUSE_MOST as u64 {
         return Err(LENGTH);
     }
     let (septets, diagnostics) = (septets as usize, diagnostics as usize);
-    range(numbers[1..=septets].iter().all(|&septet| septet <= 127))?;
-    range(numbers[1 + septets..256].iter().all(|&unused| unused == 0))?;
-    range(numbers[257..257 + diagnostics].iter().all(|&octet| octet <= 255))?;
-    range(numbers[257 + diagnostics..].iter().all(|&unused| unused == 0))?;
-    let mut form: Vec<u8> = numbers[1..=septets].iter().map(|&septet| septet as u8).collect();
+    range(numbers[3..3 + septets].iter().all(|&septet| septet <= 127))?;
+    range(numbers[3 + septets..258].iter().all(|&unused| unused == 0))?;
+    range(numbers[259..259 + diagnostics].iter().all(|&octet| octet <= 255))?;
+    range(numbers[259 + diagnostics..].iter().all(|&unused| unused == 0))?;
+    let mut form: Vec<u8> = numbers[3..3 + septets].iter().map(|&septet| septet as u8).collect();
     form[septets - 1] |= 0x80;
-    form.extend(numbers[257..257 + diagnostics].iter().map(|&octet| octet as u8));
+    form.extend(numbers[259..259 + diagnostics].iter().map(|&octet| octet as u8));
     put(form, octets)
 }
 

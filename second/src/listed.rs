@@ -10,9 +10,6 @@ use crate::tally::{hex, Tally};
 use crate::{facch, nch, pch};
 use std::path::{Path, PathBuf};
 
-const NCH_READING: usize = 106;
-const FACCH_READING: usize = 22;
-
 pub fn octets_of(hex: &str) -> Vec<u8> {
     (0..hex.len() / 2).map(|i| u8::from_str_radix(&hex[2 * i..2 * i + 2], 16).unwrap()).collect()
 }
@@ -21,30 +18,30 @@ pub fn octets_of(hex: &str) -> Vec<u8> {
 pub fn listed(tally: &mut Tally) {
     header(tally);
     let nch = |numbers: &[(usize, u64)]| {
-        let mut record = vec![0; NCH_READING];
+        let mut record = vec![0; nch::NUMBERS];
         for &(place, number) in numbers {
             record[place] = number;
         }
         (0, record)
     };
-    let refused = |refusal: u32| (refusal, vec![0; NCH_READING]);
+    let refused = |refusal: u32| (refusal, vec![0; nch::NUMBERS]);
     let rows = [
-        (vec![0x2B; 20], nch(&[(105, 4)])),
-        (vec![0x00; 20], nch(&[(47, 1), (89, 1), (105, 11)])),
-        ([vec![0xCB], vec![0x2B; 19]].concat(), nch(&[(0, 1), (1, 2), (105, 6)])),
+        (vec![0x2B; 20], nch(&[(0, 4)])),
+        (vec![0x00; 20], nch(&[(0, 11), (48, 1), (90, 1)])),
+        ([vec![0xCB], vec![0x2B; 19]].concat(), nch(&[(0, 6), (1, 1), (2, 2)])),
         (vec![0xFF; 20], refused(4)),
         (vec![0x2B; 19], refused(1)),
     ];
     for (octets, expected) in rows {
-        let archive = compare_nch(tally, &octets, NCH_READING);
+        let archive = compare_nch(tally, &octets, nch::NUMBERS);
         tally.same_reading("listed: NCH (second is the document)", || hex(&octets), &archive, &expected);
     }
     // Cause: septets, diagnostics, meaning (1 specific, 2 unspecific), number.
     let rows: [(&[u8], u32, [u64; 6]); 3] =
         [(&[0x90], 0, [1, 16, 0, 0, 1, 16]), (&[0x10, 0x91], 0, [2, 16, 17, 0, 2, 0]), (&[0x10], 13, [0; 6])];
     for (octets, refusal, expected) in rows {
-        let (archive, numbers) = CAUSE.compare_read(tally, octets, CAUSE.reading);
-        let some = [numbers[0], numbers[1], numbers[2], numbers[256], numbers[512], numbers[513]];
+        let (archive, numbers) = CAUSE.compare_read(tally, octets, CAUSE.numbers);
+        let some = [numbers[2], numbers[3], numbers[4], numbers[258], numbers[0], numbers[1]];
         tally.same("listed: cause (second is the document)", || hex(octets), &(archive, some), &(refusal, expected));
     }
     let digits: [(&[u8], u32, &str); 3] = [
@@ -53,7 +50,7 @@ pub fn listed(tally: &mut Tally) {
         (&[0xE8, 0xD4, 0xA5, 0x0F, 0xFF], 0, "999999999999"),
     ];
     for (octets, refusal, expected) in digits {
-        let archive = DIGITS.compare_read(tally, octets, DIGITS.reading);
+        let archive = DIGITS.compare_read(tally, octets, DIGITS.numbers);
         let expected = (refusal, expected.bytes().map(u64::from).collect());
         tally.same_reading("listed: digits (second is the document)", || hex(octets), &archive, &expected);
     }
@@ -137,15 +134,15 @@ fn osmo_bts(tally: &mut Tally) {
         };
         call.extend([u64::from(described), channel]);
         let (archive, numbers) = if row[0] == "NCH" {
-            let (refusal, numbers) = compare_nch(tally, &octets, NCH_READING);
+            let (refusal, numbers) = compare_nch(tally, &octets, nch::NUMBERS);
             let nln = if row[1] == "-" { [0, 0] } else { [1, number(&row[1])] };
             let counts = [nln[0], nln[1], 1];
-            let right = refusal != 0 || numbers[..3] == counts;
+            let right = refusal != 0 || numbers[1..4] == counts;
             tally.check(right, || format!("  osmo-bts: {} should read NLN and one call as {counts:?}", row[8]));
-            (refusal, numbers[3..10].to_vec())
+            (refusal, numbers[4..11].to_vec())
         } else {
-            let (refusal, numbers) = compare_facch(tally, &octets, FACCH_READING);
-            (refusal, numbers[..7].to_vec())
+            let (refusal, numbers) = compare_facch(tally, &octets, facch::NUMBERS);
+            (refusal, numbers[1..8].to_vec())
         };
         let expected = if refusal == 0 { call } else { vec![0; 7] };
         tally.same_reading("osmo-bts (second is its field list)", || row[8].clone(), &(archive, numbers), &(refusal, expected));
@@ -213,53 +210,53 @@ impl<'a> Words<'a> {
 fn nch_mixed(tally: &mut Tally) {
     for row in rows(tally, "nch-mixed.tsv") {
         let octets = octets_of(&row[0]);
-        let archive = compare_nch(tally, &octets, NCH_READING);
+        let archive = compare_nch(tally, &octets, nch::NUMBERS);
         let mut words = Words::new(&row[1]);
-        let mut numbers = vec![0; NCH_READING];
+        let mut numbers = vec![0; nch::NUMBERS];
         let (mut calls, mut reduced, mut random, mut marks) = (0, 0, 0, 0);
         let mut refusal = 0;
         let mut written = None;
         while let Some(word) = words.next() {
             match word {
                 "refused" => refusal = words.number() as u32,
-                "used" => numbers[105] = words.number(),
-                "nln" => numbers[0..2].copy_from_slice(&[1, words.number()]),
+                "used" => numbers[0] = words.number(),
+                "nln" => numbers[1..3].copy_from_slice(&[1, words.number()]),
                 "call" => {
-                    let at = 3 + 11 * calls;
+                    let at = 4 + 11 * calls;
                     (0..5).for_each(|i| numbers[at + i] = words.number());
                     calls += 1;
                 }
-                "channel" => numbers[3 + 11 * (calls - 1) + 5..][..6].copy_from_slice(&words.description()),
-                "six" => numbers[47] = 1,
-                "count" => numbers[48..50].copy_from_slice(&[1, words.number()]),
+                "channel" => numbers[4 + 11 * (calls - 1) + 5..][..6].copy_from_slice(&words.description()),
+                "six" => numbers[48] = 1,
+                "count" => numbers[49..51].copy_from_slice(&[1, words.number()]),
                 "reduced" => {
-                    numbers[51 + 2 * reduced..][..2].copy_from_slice(&[words.number(), words.number()]);
+                    numbers[52 + 2 * reduced..][..2].copy_from_slice(&[words.number(), words.number()]);
                     reduced += 1;
                 }
                 "random" => {
                     let segment = words.number();
                     let vstk_rand = if words.is_hexadecimal() { [1, words.hexadecimal()] } else { [0, 0] };
-                    numbers[62 + 3 * random..][..3].copy_from_slice(&[segment, vstk_rand[0], vstk_rand[1]]);
+                    numbers[63 + 3 * random..][..3].copy_from_slice(&[segment, vstk_rand[0], vstk_rand[1]]);
                     random += 1;
                 }
-                "seven" => numbers[89] = 1,
+                "seven" => numbers[90] = 1,
                 "mark" => {
-                    numbers[91 + marks] = words.number();
+                    numbers[92 + marks] = words.number();
                     marks += 1;
                 }
-                "uplink" => numbers[95..97].copy_from_slice(&[1, words.number()]),
-                "amr" => numbers[97] = 1,
-                "full" => numbers[98..100].copy_from_slice(&[1, words.number()]),
-                "half" => numbers[100..102].copy_from_slice(&[1, words.number()]),
-                "sms" => numbers[102..105].copy_from_slice(&[1, words.number(), words.number()]),
+                "uplink" => numbers[96..98].copy_from_slice(&[1, words.number()]),
+                "amr" => numbers[98] = 1,
+                "full" => numbers[99..101].copy_from_slice(&[1, words.number()]),
+                "half" => numbers[101..103].copy_from_slice(&[1, words.number()]),
+                "sms" => numbers[103..106].copy_from_slice(&[1, words.number(), words.number()]),
                 "written" => written = words.next().map(octets_of),
                 other => panic!("nch-mixed.tsv: what is {other}?"),
             }
         }
-        (numbers[2], numbers[50], numbers[61], numbers[90]) = (calls as u64, reduced as u64, random as u64, marks as u64);
+        (numbers[3], numbers[51], numbers[62], numbers[91]) = (calls as u64, reduced as u64, random as u64, marks as u64);
         tally.same_reading("nch-mixed (second is the file)", || row[0].clone(), &archive, &(refusal, numbers));
         if let Some(written) = written {
-            let archive = compare_nch_write(tally, &archive.1[..105], 20);
+            let archive = compare_nch_write(tally, &archive.1, 20);
             tally.same_writing("nch-mixed, written (second is the file)", || row[0].clone(), &archive, &(0, written));
         }
     }
@@ -268,29 +265,29 @@ fn nch_mixed(tally: &mut Tally) {
 fn facch_mixed(tally: &mut Tally) {
     for row in rows(tally, "facch-mixed.tsv") {
         let octets = octets_of(&row[0]);
-        let archive = compare_facch(tally, &octets, FACCH_READING);
+        let archive = compare_facch(tally, &octets, facch::NUMBERS);
         let mut words = Words::new(&row[1]);
-        let mut numbers = vec![0; FACCH_READING];
+        let mut numbers = vec![0; facch::NUMBERS];
         let mut refusal = 0;
         while let Some(word) = words.next() {
             match word {
                 "refused" => refusal = words.number() as u32,
-                "used" => numbers[21] = words.number(),
-                "reference" => numbers[0] = words.number(),
-                "service" => numbers[1] = words.number(),
-                "ack" => numbers[2] = words.number(),
-                "priority" => numbers[3] = words.number(),
-                "cipher" => numbers[4] = words.number(),
+                "used" => numbers[0] = words.number(),
+                "reference" => numbers[1] = words.number(),
+                "service" => numbers[2] = words.number(),
+                "ack" => numbers[3] = words.number(),
+                "priority" => numbers[4] = words.number(),
+                "cipher" => numbers[5] = words.number(),
                 "description" if words.is("-") => {}
-                "description" => numbers[5..11].copy_from_slice(&words.description()),
-                "six" => numbers[11] = 1,
-                "count" => numbers[12..14].copy_from_slice(&[1, words.number()]),
-                "b22" => numbers[14] = words.number(),
-                "rand" => numbers[15..17].copy_from_slice(&[1, words.hexadecimal()]),
-                "seven" => numbers[17] = 1,
-                "uplink" => numbers[18] = words.number(),
-                "emergency" => numbers[19] = words.number(),
-                "caused" => numbers[20] = 1,
+                "description" => numbers[6..12].copy_from_slice(&words.description()),
+                "six" => numbers[12] = 1,
+                "count" => numbers[13..15].copy_from_slice(&[1, words.number()]),
+                "b22" => numbers[15] = words.number(),
+                "rand" => numbers[16..18].copy_from_slice(&[1, words.hexadecimal()]),
+                "seven" => numbers[18] = 1,
+                "uplink" => numbers[19] = words.number(),
+                "emergency" => numbers[20] = words.number(),
+                "caused" => numbers[21] = 1,
                 other => panic!("facch-mixed.tsv: what is {other}?"),
             }
         }

@@ -26,10 +26,11 @@
 //! the archive was asked and what it answered: replay.c asks the same of another build of it, one for another processor too.
 //!
 //! Compared are: refusal, record and bits used of every reading; refusal and all lent octets after every writing; refusal, every number of
-//! the answer (through asternhaken_read, parts and entries beyond the last too) and all 10,040 octets of the state after every setup and
-//! event, also from states that no setup left; that nothing beside lent memory was written; and, from a setup on, what each subscribed call
-//! is told on each channel with what the one-call receiver tells it. The run fails where a refusal or a told number was met fewer than a
-//! hundred times, or where the event steps met something too seldom that cover.rs lists. The last line is `N passed, M failed`.
+//! the answer (through asternhaken_read, parts and entries beyond the last too, and entry by entry), what is held, with the time that is left,
+//! whether it was set up, and all 10,040 octets of the state after every setup and event, also from states that no setup left; that nothing
+//! beside lent memory was written; and, from a setup on, what each subscribed call is told on each channel, and what is held of it, with the
+//! one-call receiver. The run fails where a refusal or a told number was met fewer than a hundred times, or where the event steps met
+//! something too seldom that cover.rs lists. The last line is `N passed, M failed`.
 //!
 //! seeded-errors.sh tries the comparison itself: it puts errors into copies of this program, and each must be found.
 

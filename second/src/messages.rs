@@ -17,15 +17,12 @@ pub fn filled(reading: Result<Vec<u64>, u32>, places: usize) -> (u32, Vec<u64>) 
 }
 
 pub fn second_nch(octets: &[u8]) -> Result<Vec<u64>, u32> {
-    nch::read(octets).map(|(message, used)| [message.numbers(), vec![used as u64]].concat())
+    nch::read(octets).map(|(message, used)| message.numbers(used))
 }
 
 pub fn second_facch(octets: &[u8]) -> Result<Vec<u64>, u32> {
-    facch::read(octets).map(|(message, used)| [message.numbers(), vec![used as u64]].concat())
+    facch::read(octets).map(|(message, used)| message.numbers(used))
 }
-
-const NCH_READING: usize = nch::NUMBERS + 1;
-const FACCH_READING: usize = facch::NUMBERS + 1;
 
 /// Reads on both sides; an accepted message is also written back. Gives the archive's reading.
 pub fn compare_nch(tally: &mut Tally, octets: &[u8], places: usize) -> (u32, Vec<u64>) {
@@ -33,9 +30,9 @@ pub fn compare_nch(tally: &mut Tally, octets: &[u8], places: usize) -> (u32, Vec
     let second = filled(second_nch(octets), places);
     tally.count_refusal(archive.0);
     tally.same_reading("nch_read", || format!("{} into {places} numbers", hex(octets)), &archive, &second);
-    if archive.0 == 0 && places == NCH_READING {
-        let used = archive.1[nch::NUMBERS] as usize;
-        let written = compare_nch_write(tally, &archive.1[..nch::NUMBERS], 20);
+    if archive.0 == 0 && places == nch::NUMBERS {
+        let used = archive.1[0] as usize;
+        let written = compare_nch_write(tally, &archive.1, 20);
         let expected = Bits(bits_of(octets)[..used.min(160)].to_vec()).octets(20);
         tally.same_writing("nch: what was read is written back, then padding", || hex(octets), &written, &(0, expected));
     }
@@ -148,9 +145,8 @@ fn compare_nch_draft(tally: &mut Tally, draft: &NchDraft) -> Option<Vec<u64>> {
         && draft.seven.as_ref().map_or(0, |seven| seven.marks.len()) <= described;
     if let (true, true, Some(numbers)) = (bits <= 160, agrees, &numbers) {
         let octets = draft.octets();
-        let reading = ffi::read_octets(archive::asternhaken_nch_read, &octets, NCH_READING);
-        let expected = (0, [numbers.clone(), vec![bits as u64]].concat());
-        tally.same_reading("nch_read of a draft (second is the draft)", || hex(&octets), &reading, &expected);
+        let reading = ffi::read_octets(archive::asternhaken_nch_read, &octets, nch::NUMBERS);
+        tally.same_reading("nch_read of a draft (second is the draft)", || hex(&octets), &reading, &(0, numbers.clone()));
         let written = ffi::write_octets(archive::asternhaken_nch_write, numbers, &[0; 20]);
         tally.same_writing("nch_write of a draft (second is the draft)", || sparse(numbers), &written, &(0, octets));
     }
@@ -159,12 +155,11 @@ fn compare_nch_draft(tally: &mut Tally, draft: &NchDraft) -> Option<Vec<u64>> {
 
 fn compare_facch_draft(tally: &mut Tally, draft: &FacchDraft) {
     let octets = draft.octets();
-    let Some(mut numbers) = draft.numbers() else { return };
+    let Some(numbers) = draft.numbers() else { return };
     if octets.len() > 23 {
         return;
     }
-    numbers.push(draft.bits().0.len() as u64);
-    let reading = ffi::read_octets(archive::asternhaken_facch_read, &octets, FACCH_READING);
+    let reading = ffi::read_octets(archive::asternhaken_facch_read, &octets, facch::NUMBERS);
     tally.same_reading("facch_read of a draft (second is the draft)", || hex(&octets), &reading, &(0, numbers));
 }
 
@@ -190,7 +185,7 @@ pub fn run(tally: &mut Tally, rng: &mut Rng, count: u64) {
             0 => {
                 let length = if rng.one_in(8) { rng.below(30) as usize } else { 20 };
                 let octets = rng.octets(length);
-                let places = places(rng, NCH_READING);
+                let places = places(rng, nch::NUMBERS);
                 compare_nch(tally, &octets, places);
                 done += 1;
             }
@@ -200,7 +195,7 @@ pub fn run(tally: &mut Tally, rng: &mut Rng, count: u64) {
                 if length > 1 && rng.one_in(2) {
                     octets[1] &= 0x3F;
                 }
-                let places = places(rng, FACCH_READING);
+                let places = places(rng, facch::NUMBERS);
                 compare_facch(tally, &octets, places);
                 done += 1;
             }
@@ -222,11 +217,11 @@ fn nch_messages(tally: &mut Tally, rng: &mut Rng, pool: &Pool) -> u64 {
     // What runs over is cut, so that a list meets the end of the message.
     let mut octets = draft.octets();
     octets.truncate(20);
-    let places = places(rng, NCH_READING);
+    let places = places(rng, nch::NUMBERS);
     compare_nch(tally, &octets, places);
     for _ in 0..3 {
         let octets = spoiled(rng, &octets);
-        compare_nch(tally, &octets, NCH_READING);
+        compare_nch(tally, &octets, nch::NUMBERS);
     }
     4
 }
@@ -245,11 +240,11 @@ fn facch_messages(tally: &mut Tally, rng: &mut Rng, pool: &Pool) -> u64 {
             draft.octets()
         }
     };
-    let places = places(rng, FACCH_READING);
+    let places = places(rng, facch::NUMBERS);
     compare_facch(tally, &octets, places);
     for _ in 0..3 {
         let octets = spoiled(rng, &octets);
-        compare_facch(tally, &octets, FACCH_READING);
+        compare_facch(tally, &octets, facch::NUMBERS);
     }
     4
 }
@@ -300,7 +295,7 @@ pub fn fields(tally: &mut Tally) {
         let enough = draft.calls.len() + draft.seven.iter().count() + draft.six.iter().count() >= 3;
         let octets = draft.octets();
         if let (true, Ok(numbers)) = (enough, second_nch(&octets)) {
-            bases.push(numbers[..nch::NUMBERS].to_vec());
+            bases.push(numbers);
         }
     }
     for base in &bases {
@@ -323,8 +318,8 @@ pub fn fields(tally: &mut Tally) {
     // Messages and arrays far too long.
     for length in [24, 255, 256, 276, 4_095, 4_096, 4_097, 65_556, 100_000] {
         for fill in [0x00, 0x2B, 0x80] {
-            compare_nch(tally, &vec![fill; length], NCH_READING);
-            compare_facch(tally, &vec![fill; length], FACCH_READING);
+            compare_nch(tally, &vec![fill; length], nch::NUMBERS);
+            compare_facch(tally, &vec![fill; length], facch::NUMBERS);
         }
         compare_nch(tally, &[0x2B; 20], length);
         compare_facch(tally, &[0x2B; 23], length);

@@ -5,8 +5,8 @@ use crate::call::*;
 use crate::numbers::Numbers;
 
 pub const OCTETS: usize = 20;
-/// Numbers of a record to write; a reading has the bits used behind them.
-pub const NUMBERS: usize = 105;
+/// Numbers of an array: the bits used, which only a reader says, and the record behind them.
+pub const NUMBERS: usize = 106;
 
 #[derive(Clone, Debug, PartialEq)]
 pub struct Reduced {
@@ -89,45 +89,46 @@ impl Nch {
         Ok(())
     }
 
-    /// The record in the header's order, all its places.
-    pub fn numbers(&self) -> Vec<u64> {
+    /// The bits used and the record in the header's order, all its places.
+    pub fn numbers(&self, used: usize) -> Vec<u64> {
         let mut numbers = vec![0; NUMBERS];
+        numbers[0] = used as u64;
         let announced = |value: Option<u64>| (u64::from(value.is_some()), value.unwrap_or(0));
-        (numbers[0], numbers[1]) = announced(self.nln);
-        numbers[2] = self.calls.len() as u64;
+        (numbers[1], numbers[2]) = announced(self.nln);
+        numbers[3] = self.calls.len() as u64;
         for (i, call) in self.calls.iter().enumerate() {
-            numbers[3 + CALL_NUMBERS * i..][..CALL_NUMBERS].copy_from_slice(&call.numbers());
+            numbers[4 + CALL_NUMBERS * i..][..CALL_NUMBERS].copy_from_slice(&call.numbers());
         }
         if let Some(six) = &self.release6 {
-            numbers[47] = 1;
-            (numbers[48], numbers[49]) = announced(six.cell_global_count);
-            numbers[50] = six.reduced.len() as u64;
+            numbers[48] = 1;
+            (numbers[49], numbers[50]) = announced(six.cell_global_count);
+            numbers[51] = six.reduced.len() as u64;
             for (i, reduced) in six.reduced.iter().enumerate() {
-                numbers[51 + 2 * i] = reduced.reference;
-                numbers[52 + 2 * i] = u64::from(reduced.vgcs);
+                numbers[52 + 2 * i] = reduced.reference;
+                numbers[53 + 2 * i] = u64::from(reduced.vgcs);
             }
-            numbers[61] = six.random.len() as u64;
+            numbers[62] = six.random.len() as u64;
             for (i, entry) in six.random.iter().enumerate() {
-                numbers[62 + 3 * i] = u64::from(entry.segment_id);
-                (numbers[63 + 3 * i], numbers[64 + 3 * i]) = announced(entry.vstk_rand);
+                numbers[63 + 3 * i] = u64::from(entry.segment_id);
+                (numbers[64 + 3 * i], numbers[65 + 3 * i]) = announced(entry.vstk_rand);
             }
         }
         if let Some(seven) = &self.release7 {
-            numbers[89] = 1;
-            numbers[90] = seven.marks.len() as u64;
+            numbers[90] = 1;
+            numbers[91] = seven.marks.len() as u64;
             for (i, mark) in seven.marks.iter().enumerate() {
-                numbers[91 + i] = u64::from(*mark);
+                numbers[92 + i] = u64::from(*mark);
             }
-            (numbers[95], numbers[96]) = announced(seven.uplink_access);
+            (numbers[96], numbers[97]) = announced(seven.uplink_access);
             if let Some(amr) = seven.amr {
-                numbers[97] = 1;
-                (numbers[98], numbers[99]) = announced(amr.fr);
-                (numbers[100], numbers[101]) = announced(amr.hr);
+                numbers[98] = 1;
+                (numbers[99], numbers[100]) = announced(amr.fr);
+                (numbers[101], numbers[102]) = announced(amr.hr);
             }
             if let Some(sms) = seven.sms {
-                numbers[102] = 1;
-                numbers[103] = u64::from(sms.confidentiality);
-                numbers[104] = u64::from(sms.privacy);
+                numbers[103] = 1;
+                numbers[104] = u64::from(sms.confidentiality);
+                numbers[105] = u64::from(sms.privacy);
             }
         }
         numbers
@@ -180,9 +181,9 @@ pub fn read(octets: &[u8]) -> Result<(Nch, usize), Refusal> {
     Ok((message, r.place))
 }
 
-/// The record that the numbers stand for; nothing where one is out of its range (12).
+/// The record that the numbers stand for; nothing where one is out of its range (12). The bits used are not looked at.
 fn from_numbers(numbers: &[u64]) -> Option<Nch> {
-    let mut n = Numbers::new(numbers);
+    let mut n = Numbers::new(&numbers[1..]);
     let nln = n.optional(true, 3);
     let count = n.up_to(4);
     let calls = list(&mut n, count, 4, CALL_NUMBERS, Call::from_numbers);

@@ -60,6 +60,12 @@ impl One {
         One { key, channel, timer: u64::from(timer), nln: None, nln_before: None, held: None, second_first: 0, disagreed: 0 }
     }
 
+    /// Key, channel, which half, and for how many ms it stays yet.
+    pub fn held(&self) -> Option<[u64; 4]> {
+        let held = self.held.as_ref()?;
+        Some([u64::from(self.key), self.channel as u64, if held.second { 2 } else { 1 }, self.timer - held.age])
+    }
+
     pub fn see(&mut self, step: u32, seen: &Seen) -> Outcome {
         let mut outcome = Outcome::default();
         if let Some(held) = &mut self.held {

@@ -2,7 +2,8 @@
 
 use crate::bits::Refusal;
 use crate::cover::{Cause, Met};
-use crate::ffi;
+use crate::ffi::{self, archive};
+use crate::messages::filled;
 use crate::one::{One, Outcome, Seen};
 use crate::receiver::*;
 use crate::state::*;
@@ -12,6 +13,8 @@ use crate::{facch, nch, pch};
 /// Entries and parts that are asked for after each event: all there can be, and some beyond.
 const ENTRIES_ASKED: u32 = 11;
 const PARTS_ASKED: u32 = 37;
+/// So many of the halves that are held are asked for, with the first and the last, and some beyond.
+const HALVES_ASKED: usize = 8;
 const BEYOND: [(u32, u32); 6] = [(0, 255), (0, 256 + 4), (256, 4), (u32::MAX, 3), (u32::MAX, 2), (1 << 31, u32::MAX)];
 
 pub struct Pair {
@@ -122,6 +125,7 @@ impl Pair {
         tally.same("setup: refusal", || self.story(), &archive, &second);
         self.check_state(tally, "setup");
         self.check_parts(tally);
+        self.check_views(tally);
         archive
     }
 
@@ -138,6 +142,7 @@ impl Pair {
         tally.same("event: refusal", || self.story(), &archive, &second.as_ref().err().copied().unwrap_or(0));
         self.check_state(tally, "event");
         self.check_parts(tally);
+        self.check_views(tally);
         let told = if archive == 0 { Ok(self.archive_answer()) } else { Err(archive) };
         let second = second.map(|answer| spoken(&answer));
         if let Ok(told) = &told {
@@ -192,6 +197,49 @@ impl Pair {
         tally.check(first_difference.is_none() && untouched, || {
             format!("  read (entry, part, (refusal, value) of the archive, of the second): {first_difference:?}\n{}", self.tell())
         });
+    }
+
+    /// Every entry whole, and what is held: from the first half to the last and beyond, into fewer places and more; when the next one runs
+    /// out; whether a setup left the state.
+    fn check_views(&self, tally: &mut Tally) {
+        let held = self.mirror.held();
+        let mut wrong = Vec::new();
+        let mut check = |what: &str, i: u32, archive: (u32, Vec<u64>), second: Vec<u64>| {
+            if archive != (0, second.clone()) {
+                wrong.push(format!("{what} {i}: archive {archive:?}, second {second:?}"));
+            }
+        };
+        for entry in (0..ENTRIES_ASKED).chain([256, u32::MAX]) {
+            let places = self.places(entry, ENTRY_NUMBERS);
+            check(
+                "entry",
+                entry,
+                self.archive.numbers(archive::asternhaken_entry_numbers, entry, places),
+                filled(Ok(self.mirror.entry(entry)), places).1,
+            );
+        }
+        let some = (0..held.len()).step_by(held.len() / HALVES_ASKED + 1).chain(held.len().saturating_sub(1)..held.len() + 2);
+        for i in some.map(|i| i as u32).chain([256, u32::MAX]) {
+            let places = self.places(i, HELD_NUMBERS);
+            let second = held.get(i as usize).cloned().unwrap_or_default();
+            check("held", i, self.archive.numbers(archive::asternhaken_held_numbers, i, places), filled(Ok(second), places).1);
+        }
+        let one = |(refusal, number): (u32, u64)| (refusal, vec![number]);
+        check("held count", 0, one(self.archive.number(archive::asternhaken_held_count)), vec![held.len() as u64]);
+        check("next expiry", 0, one(self.archive.number(archive::asternhaken_next_expiry)), vec![self.mirror.next_expiry()]);
+        check("set up", 0, (0, vec![u64::from(self.archive.is_set_up())]), vec![u64::from(self.mirror.is_set_up())]);
+        self.archive.check_guards();
+        let untouched = self.archive.octets() == &self.mirror.octets[..];
+        tally.check(wrong.is_empty() && untouched, || format!("  views: {}\n{}", wrong.join("\n         "), self.tell()));
+    }
+
+    /// How many places such an array gets: mostly all, and each other number up to three more now and then.
+    fn places(&self, i: u32, all: usize) -> usize {
+        let dice = self.mirror.receiver.tick.wrapping_add(i).wrapping_mul(0x9E37_79B9) >> 8;
+        match dice % 4 {
+            0 => dice as usize / 4 % (all + 4),
+            _ => all,
+        }
     }
 
     /// Each subscribed call on each channel against the one-call receiver, and the counts against the sum of theirs.
@@ -259,6 +307,7 @@ impl Pair {
             }
         }
         let counts = (told.expired, told.dropped) == (expired, dropped);
+        self.check_held(tally);
         tally.check(strays.is_empty() && counts, || {
             format!(
                 "  one-call receiver: (key, channel, archive, one) {strays:?}\n  (expired, dropped): archive {:?}, the ones together {:?}\n{}",
@@ -266,6 +315,21 @@ impl Pair {
                 (expired, dropped),
                 self.tell()
             )
+        });
+    }
+    /// What is held, and for how long yet, against what the one-call receivers hold, whose ages are sums of steps.
+    fn check_held(&self, tally: &mut Tally) {
+        let held: Vec<[u64; 4]> = self.ones.iter().filter_map(One::held).collect();
+        let leading = |i: usize| {
+            let (_, numbers) = self.archive.numbers(archive::asternhaken_held_numbers, i as u32, 4);
+            [numbers[0], numbers[1], numbers[2], numbers[3]]
+        };
+        let archive: Vec<[u64; 4]> = (0..held.len()).map(leading).collect();
+        let count = self.archive.number(archive::asternhaken_held_count).1;
+        let next = self.archive.number(archive::asternhaken_next_expiry).1;
+        let soonest = held.iter().map(|half| half[3]).min().unwrap_or(NEVER);
+        tally.check(archive == held && count == held.len() as u64 && next == soonest, || {
+            format!("  held by the one-call receivers (key, channel, half, ms left) {held:?}\n  archive {archive:?}, {count} held, the next in {next} ms\n{}", self.tell())
         });
     }
 }

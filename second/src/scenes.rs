@@ -2,7 +2,7 @@
 //! §3 and §4, with the outcome that it asks for. The outcome is asked of both sides.
 
 use crate::draft::{CallDraft, FacchDraft, Hops, NchDraft, PchDraft, SevenDraft, SixDraft};
-use crate::ffi;
+use crate::ffi::{self, archive};
 use crate::pair::{Pair, Said};
 use crate::receiver::{Channel, Event, Timers, DEFAULT_TIMERS};
 use crate::state::*;
@@ -265,10 +265,14 @@ fn setups(tally: &mut Tally) {
             state.left_idle(1 << 31),
             state.tick(1 << 31),
             state.read(0, 0).0,
+            state.numbers(archive::asternhaken_entry_numbers, 0, 40).0,
+            state.numbers(archive::asternhaken_held_numbers, 0, 40).0,
+            state.number(archive::asternhaken_held_count).0,
+            state.number(archive::asternhaken_next_expiry).0,
         ];
         refusals.iter().for_each(|&refusal| tally.count_refusal(refusal));
         let untouched = state.octets().iter().all(|&octet| octet == 0x5A);
-        tally.same("scene: a state of a wrong length", || format!("{length} octets"), &(refusals, untouched), &([13; 12], true));
+        tally.same("scene: a state of a wrong length", || format!("{length} octets"), &(refusals, untouched), &([13; 16], true));
     }
 }
 

@@ -18,7 +18,8 @@ const fn behind(end: usize) -> usize {
 /// Where everything stands: the tick, the timers, then one block behind the other.
 pub const TIMERS: usize = 4;
 pub const NLN: usize = TIMERS + 4 * CHANNELS.len();
-pub const KEYS: usize = behind(NLN + 1);
+pub const MARK: usize = behind(NLN + 1) - SET_UP.len();
+pub const KEYS: usize = behind(MARK + SET_UP.len());
 pub const KINDS: usize = behind(KEYS + 4 * MOST_KEYS);
 pub const TICKS: usize = behind(KINDS + PLACES);
 pub const RECORDS: usize = behind(TICKS + 4 * PLACES);
@@ -29,15 +30,23 @@ pub const ENTRIES: usize = behind(COUNT + 4);
 pub const STATE_LENGTH: usize = ENTRIES + ENTRY_OCTETS * MOST_ENTRIES;
 
 /// These are the numbers of docs/STATE.md.
-const _: () = assert!(NLN == 16 && KEYS == 24 && KINDS == 224 && TICKS == 376 && RECORDS == 976);
+const _: () = assert!(NLN == 16 && MARK == 20 && KEYS == 24 && KINDS == 224 && TICKS == 376 && RECORDS == 976);
 const _: () = assert!(EXPIRED == 9_376 && COUNT == 9_384 && ENTRIES == 9_392 && STATE_LENGTH == 10_040);
+
+/// The mark that an accepted setup leaves: three letters and the number of this layout. Nothing but `is_set_up` looks at it.
+pub const SET_UP: [u8; 4] = *b"AHK\x01";
 
 const UNUSED_KEY: u32 = u32::MAX;
 const NO_NLN: u8 = 4;
+/// The next expiry where no half is held.
+pub const NEVER: u64 = 4_294_967_295;
 
 /// The header's parts of a record run from 5 on, in the order in which the octets of a record stand.
 pub const FIRST_RECORD_PART: usize = 5;
 pub const RECORD_NUMBERS: usize = 30;
+/// A whole entry has its key and the number told before its record; a half has key, channel, which half and ms left.
+pub const ENTRY_NUMBERS: usize = 2 + RECORD_NUMBERS;
+pub const HELD_NUMBERS: usize = 4 + RECORD_NUMBERS;
 /// Four wide numbers, then twenty flags, then six small numbers.
 fn width(number: usize) -> usize {
     match number {
@@ -217,6 +226,7 @@ impl Mirror {
             put(&mut self.octets, TIMERS + 4 * i, 4, u64::from(timer));
         }
         self.octets[NLN] = NO_NLN;
+        self.octets[MARK..KEYS].copy_from_slice(&SET_UP);
         for i in 0..MOST_KEYS {
             let key = keys.get(i).copied().unwrap_or(UNUSED_KEY);
             put(&mut self.octets, KEYS + 4 * i, 4, u64::from(key));
@@ -263,6 +273,33 @@ impl Mirror {
     /// One number of the answer; what is not there is 0.
     pub fn read(&self, entry: u32, part: u32) -> u64 {
         read(&self.octets, entry, part)
+    }
+
+    /// All numbers of an entry: its parts one after the other.
+    pub fn entry(&self, entry: u32) -> Vec<u64> {
+        (3..FIRST_RECORD_PART + RECORD_NUMBERS).map(|part| self.read(entry, part as u32)).collect()
+    }
+
+    /// The halves that are held, by subscription and channel: key, channel, which half, ms left, record. Which half is told as its octet stands.
+    pub fn held(&self) -> Vec<Vec<u64>> {
+        let receiver = &self.receiver;
+        let each = |(&place, half): (&Place, &Half)| {
+            let age = receiver.tick.wrapping_sub(half.tick);
+            let left = receiver.timers[place.1 as usize].saturating_sub(age);
+            let which = u64::from(self.octets[KINDS + place_number(place)]);
+            let leading = [u64::from(receiver.keys[place.0]), place.1 as u64, which, u64::from(left)];
+            [&leading[..], &numbers_of(&half.record)].concat()
+        };
+        receiver.halves.iter().map(each).collect()
+    }
+
+    /// In how many ms the next half runs out.
+    pub fn next_expiry(&self) -> u64 {
+        self.held().iter().map(|half| half[3]).min().unwrap_or(NEVER)
+    }
+
+    pub fn is_set_up(&self) -> bool {
+        self.octets[MARK..KEYS] == SET_UP
     }
 }
 

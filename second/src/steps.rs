@@ -1,7 +1,7 @@
 //! Event sequences at random: few keys, so that halves meet; ticks near expiry and around the wrap; states that no setup left.
 
 use crate::draft::{CallDraft, FacchDraft, NchDraft, PchDraft, Pool, SevenDraft, SixDraft};
-use crate::ffi;
+use crate::ffi::{self, archive};
 use crate::pair::{event_line, feed, Pair};
 use crate::receiver::*;
 use crate::rng::Rng;
@@ -381,6 +381,11 @@ fn from_any_octets(tally: &mut Tally, rng: &mut Rng) -> u64 {
             8
         }
     };
+    // The mark of a setup, or nearly so.
+    if rng.one_in(2) {
+        octets[MARK..KEYS].copy_from_slice(&SET_UP);
+        octets[MARK + rng.below(4) as usize] ^= rng.pick(&[0, 0, 1, 2, 3, 128]);
+    }
     let mut pair = Pair::of(&octets, rng.next() as usize);
     events(tally, rng, &mut pair, &pool, count);
     count
@@ -467,5 +472,27 @@ fn wrong_lengths(tally: &mut Tally, rng: &mut Rng) -> u64 {
     let untouched = state.octets() == octets;
     let input = || format!("read of entry {entry}, part {part} with a state of {length} octets");
     tally.same("read of a state of a wrong length ((refusal, value), untouched)", input, &(reading, untouched), &((13, 0), true));
+
+    // Whatever looks at it has zeros, and it is not set up, even with the mark in its place.
+    let mut marked = octets;
+    if let Some(place) = marked.get_mut(MARK..KEYS) {
+        place.copy_from_slice(&SET_UP);
+    }
+    let state = ffi::State::new(&marked, rng.next() as usize);
+    let (i, places) = (rng.below(12) as u32, rng.below(40) as usize);
+    let views = [
+        state.numbers(archive::asternhaken_entry_numbers, i, places),
+        state.numbers(archive::asternhaken_held_numbers, i, places),
+        (state.number(archive::asternhaken_held_count).0, vec![state.number(archive::asternhaken_held_count).1; places]),
+        (state.number(archive::asternhaken_next_expiry).0, vec![state.number(archive::asternhaken_next_expiry).1; places]),
+    ];
+    let seen = (views, state.is_set_up(), state.octets() == marked);
+    let input = || format!("views of {i} with a state of {} octets", marked.len());
+    tally.same(
+        "views of a state of a wrong length (numbers, set up, untouched)",
+        input,
+        &seen,
+        &([0; 4].map(|_| (13, vec![0; places])), 0, true),
+    );
     1
 }

@@ -1,14 +1,14 @@
--- Numbers within their limits: one by one, and runs one behind the other. Assumes nothing.
-use mathlib.Core.Path.{_≡_, refl, sym, _∙_}
+-- Numbers within their limits: one by one, those behind a place, and runs one behind the other. Assumes nothing.
+use mathlib.Core.Path.{_≡_, refl, sym, ap, _∙_}
 use mathlib.Core.List.{List, [], _∷_, _++_, map}
-use mathlib.Core.Bool.{true, false}
-use Prim.Native.Nat.{ℕ, zero, suc, _+_, _≤_, _<_, min}
+use mathlib.Core.Bool.{Bool, true, false}
+use Prim.Native.Nat.{ℕ, zero, suc, _+_, _-_, _≤_, _<_, min}
 use native.Mathlib.Numerals.{add-one}
 use native.Mathlib.Decide.{decLe}
 use native.Mathlib.Omega.{arith}
 use lib.Dec.{leb}
-use lib.ListN.{length, getD, drop, length-append, drop-of-length-le}
-use lib.Seq.{drop-cons}
+use lib.ListN.{length, getD, take, drop, length-append, length-drop, drop-of-length-le}
+use lib.Seq.{take-all, drop-cons}
 use borrow.Author.Tests.{le-leb, lt-leb, leb-true}
 use Rattle.bits.proofs.Answers.{both-true}
 use Rattle.csn1.specs.Format.{Format, itemsFit}
@@ -51,6 +51,15 @@ within-at [] most (suc k) e h = omega arith
 within-at (n ∷ ns) [] k e h = absurd (omega arith)
 within-at (n ∷ ns) (m ∷ most) zero e h = leb-true n m (both-true (leb n m) (within ns most) e .0)
 within-at (n ∷ ns) (m ∷ most) (suc k) e h = within-at ns most k (both-true (leb n m) (within ns most) e .1) (omega arith)
+
+-- ## Those from a place on, which are a part of the array
+
+pub rest-whole : (a : ℕ) (l : List ℕ) → take (length l - a) (drop a l) ≡ drop a l
+rest-whole a l = take-all (length l - a) (drop a l) (omega (arith, length-drop a l))
+
+-- what `limits::holds` says of them
+pub within-rest : (a : ℕ) (l most : List ℕ) (b : Bool) → b ≡ within (take (length l - a) (drop a l)) most → within (drop a l) most ≡ b
+within-rest a l most b e = sym (e ∙ ap (λ (x : List ℕ). within x most) (rest-whole a l))
 
 -- ## Runs one behind the other
 

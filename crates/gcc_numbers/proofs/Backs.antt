@@ -1,6 +1,6 @@
 -- Elements and their numbers: each comes back from the other. Assumes nothing.
 use mathlib.Core.Path.{_≡_, refl, sym, ap, ap₂, _∙_}
-use mathlib.Core.List.{List, [], _∷_, _++_, append-assoc}
+use mathlib.Core.List.{List, [], _∷_, _++_}
 use mathlib.Core.Bool.{Bool, true, not}
 use native.Mathlib.Omega.{arith}
 use borrow.Author.Tests.{eq-eqb, ne-eqb, le-leb, eqb-true}
@@ -31,8 +31,9 @@ use Rattle.gcc.specs.declared.cause.Meaning.the-variants.{Nothing as No-meaning
 use Rattle.gcc.specs.declared.talker.Priority.{Priority as Talker}
 use Rattle.gcc.specs.declared.talker.Priority.the-variants.{Normal, Privileged, Emergency}
 use Rattle.gcc.proofs.Tests.{agree, agree-where}
-use Rattle.gcc_numbers.specs.ElementNumbers.{fits, typeMost, referenceMost, priorityFrom, stateMost, causeNumbers, causeMost, causeFrom, originatorMost, attributesMost, smsMost, talkerMost}
+use Rattle.gcc_numbers.specs.ElementNumbers.{fits, typeMost, referenceMost, priorityFrom, stateMost, causeNumbers, causeLength, causeMost, causeHolds, causeFits, causeFrom, originatorMost, attributesMost, smsMost, talkerMost}
 use Rattle.gcc_numbers.specs.Promises as promises
+use Rattle.gcc_numbers.proofs.CauseNumbers.{meaning-two}
 
 -- ## Numbers of fields
 
@@ -252,32 +253,43 @@ parts-fit c o =
     within-append (c .count ∷ c .septets) (replicate 256 octet) (c .size ∷ c .diagnostics) (replicate 256 octet) (rw (o .septets))
     (true-both (le-leb (c .count) octet (o .count)) (o .septets-held)) (true-both (le-leb (c .size) octet (o .size)) (o .diagnostics-held))
 
-parts-back : (c : Cause) → promises.Cause-of-octets c → causeFrom (parts c) ≡ c
-parts-back c o =
+-- whatever stands before them
+parts-back : (x y : ℕ) (c : Cause) → promises.Cause-of-octets c → causeFrom (x ∷ y ∷ parts c) ≡ c
+parts-back x y c o =
     let l : List ℕ = c .count ∷ c .septets in
     let d : drop 256 (parts c) ≡ c .size ∷ c .diagnostics = drop-at l (c .size ∷ c .diagnostics) 256 (rw (o .septets)) in
     let f : drop 257 (parts c) ≡ c .diagnostics = ap (λ k. drop 1 k) (sym (drop-cons (parts c) 256 0 (omega (arith, length-parts c o))) ∙ d) in
     let s : take 255 (drop 1 (parts c)) ≡ c .septets = take-at (c .septets) (c .size ∷ c .diagnostics) 255 (o .septets) in
     rw (s, getD-at l (c .size) (c .diagnostics) 0 256 (rw (o .septets)), f, take-all 255 (c .diagnostics) (omega (arith, o .diagnostics)))
 
-pub a-cause-is-its-numbers : promises.A-cause-is-its-numbers
-a-cause-is-its-numbers r o =
-    let c : Cause = r .cause in
-    let m : List ℕ = cause.meaningNumbers (r .meaning) in
-    let n : length (parts c) ≡ 512 = length-parts c o in
-    let e : causeNumbers r ≡ parts c ++ m = sym (append-assoc (c .count ∷ c .septets) (c .size ∷ c .diagnostics) m) in
-    let t : take 512 (causeNumbers r) ≡ parts c = ap (λ l. take 512 l) e ∙ take-at (parts c) m 512 n in
-    ((ap (λ l. fits 512 causeMost l) t ∙ true-both (eq-eqb (length (parts c)) 512 n) (parts-fit c o), ap causeFrom t ∙ parts-back c o), ap (λ l. drop 512 l) e ∙ drop-at (parts c) m 512 n)
+-- behind two numbers, which are m
+cause-back : (m : List ℕ) (x y : ℕ) → x ∷ y ∷ [] ≡ m → (c : Cause) → promises.Cause-of-octets c
+    → (causeFits (m ++ parts c) ≡ true) × ((causeFrom (m ++ parts c) ≡ c) × (take 2 (m ++ parts c) ≡ m))
+cause-back m x y e c o =
+    let n : length (x ∷ y ∷ parts c) ≡ causeLength = omega (arith, length-parts c o) in
+    rw (← e) (true-both (eq-eqb (length (x ∷ y ∷ parts c)) causeLength n) (parts-fit c o), (parts-back x y c o, refl))
 
-pub numbers-are-their-cause : promises.Numbers-are-their-cause
-numbers-are-their-cause ns m e =
-    let n : length ns ≡ 512 = eqb-true (length ns) 512 (both-true (eqb (length ns) 512) (within ns causeMost) e .0) in
-    let a : getD ns 0 0 ∷ take 255 (drop 1 ns) ≡ take 256 ns = first ns n in
+pub a-cause-is-its-numbers : promises.A-cause-is-its-numbers
+a-cause-is-its-numbers r o = cause-back (cause.meaningNumbers (r .meaning)) _ _ (meaning-two (r .meaning)) (r .cause) o
+
+-- the numbers of a cause, which stand behind its meaning
+cause-again : (ns : List ℕ) → length ns ≡ 512 → (getD ns 0 0 ∷ take 255 (drop 1 ns)) ++ (getD ns 256 0 ∷ take 255 (drop 257 ns)) ≡ ns
+cause-again ns n =
     let b : drop 256 ns ≡ getD ns 256 0 ∷ drop 257 ns = drop-cons ns 256 0 (omega arith) in
     let d : take 255 (drop 257 ns) ≡ drop 257 ns = take-all 255 (drop 257 ns) (rw (length-drop) (omega arith)) in
-    let k : List ℕ = cause.meaningNumbers m in
-    ap₂ (λ (x y : List ℕ). x ++ (y ++ k)) a (ap (λ l. getD ns 256 0 ∷ l) d ∙ sym b) ∙ sym (append-assoc (take 256 ns) (drop 256 ns) k) ∙ ap (λ l. l ++ k) (take-append-drop 256 ns)
+    ap₂ (λ (x y : List ℕ). x ++ y) (first ns n) (ap (λ l. getD ns 256 0 ∷ l) d ∙ sym b) ∙ take-append-drop 256 ns
   where
     first : (ns : List ℕ) → length ns ≡ 512 → getD ns 0 0 ∷ take 255 (drop 1 ns) ≡ take 256 ns
     first [] h = absurd (omega arith)
     first (x ∷ ns) h = refl
+
+pub numbers-are-their-cause : promises.Numbers-are-their-cause
+numbers-are-their-cause ns m e = go ns (eqb-true (length ns) causeLength (both-true (eqb (length ns) causeLength) (causeHolds ns) e .0))
+  where
+    go : (ns : List ℕ) → length ns ≡ causeLength → causeNumbers (record { refusal = 0; meaning = m; cause = causeFrom ns }) ≡ cause.meaningNumbers m ++ drop 2 ns
+    go [] n = absurd (omega arith)
+    go (x ∷ []) n = absurd (omega arith)
+    go (x ∷ y ∷ ns) n = ap (λ (l : List ℕ). cause.meaningNumbers m ++ l) (cause-again ns (omega arith))
+
+pub the-meaning-is-not-looked-at : promises.The-meaning-is-not-looked-at
+the-meaning-is-not-looked-at a b x y n ns = (refl, (refl, refl))

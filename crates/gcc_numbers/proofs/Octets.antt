@@ -2,7 +2,7 @@
 use mathlib.Core.Path.{_≡_, ap, _∙_}
 use mathlib.Core.List.{List, [], _∷_}
 use mathlib.Core.Bool.{Bool, true, false}
-use Prim.Native.Nat.{ℕ, zero, suc, _+_, _≤_, _<_}
+use Prim.Native.Nat.{ℕ, zero, suc, _+_, _-_, _≤_, _<_}
 use native.Mathlib.Numerals.{add-one}
 use native.Mathlib.Omega.{arith}
 use lib.Dec.{leb}
@@ -13,7 +13,7 @@ use Rattle.csn1.specs.Told.{padded}
 use Rattle.bits.proofs.Answers.{both-true}
 use Rattle.csn1.proofs.Lists.{padded-none}
 use Rattle.arrays.specs.Limits.{within, octet}
-use Rattle.gcc_numbers.specs.Inner.{AllOctets}
+use Rattle.gcc_numbers.specs.Inner.{AllOctets, OctetsFrom}
 use Rattle.arrays.proofs.Running.{sets-append}
 use Rattle.arrays.proofs.Filling.{sets-zeros}
 use Rattle.arrays.proofs.Within.{within-next, within-not, within-end}
@@ -70,8 +70,14 @@ take-octets (suc n) [] h (suc k) = omega arith
 take-octets (suc n) (x ∷ l) h zero = h zero
 take-octets (suc n) (x ∷ l) h (suc k) = take-octets n l (λ j. h (suc j)) k
 
-pub part-octets : (n a : ℕ) (l : List ℕ) → AllOctets l → AllOctets (take n (drop a l))
-part-octets n a l h = take-octets n (drop a l) (λ k. rw (getD-drop a l k 0) (h (a + k)))
+-- those from a place on
+pub octets-from : (a : ℕ) (l : List ℕ) → AllOctets (drop a l) → OctetsFrom a l
+octets-from a l h k m =
+    let e : a + (k - a) ≡ k = omega arith in
+    rw (getD-drop a l (k - a) 0, e) at (h (k - a))
+
+pub part-octets : (n a : ℕ) (l : List ℕ) (at : ℕ) → at ≤ a → OctetsFrom at l → AllOctets (take n (drop a l))
+part-octets n a l at m h = take-octets n (drop a l) (λ k. rw (getD-drop a l k 0) (h (a + k) (omega arith)))
 
 -- the largest numbers of so many octets
 pub most-of : (ns : List ℕ) (n : ℕ) (b : Bool) → length ns ≡ n → b ≡ within ns (Most ns) → b ≡ within ns (replicate n octet)

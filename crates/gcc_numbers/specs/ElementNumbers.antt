@@ -65,33 +65,59 @@ stateNumbers r = call-state.numberOf (r .state) ∷ []
 abbrev pub stateMost : List ℕ
 stateMost = 12 ∷ []
 
--- ## Cause: how many septets, the septets, how many diagnostics, the diagnostics; when read also what it means
+-- ## Cause: what it means, in two numbers that no writer looks at; how many septets, the septets, how many diagnostics, the diagnostics
 
 abbrev pub causeNumbers : CauseRead → List ℕ
 causeNumbers r =
-    (r .cause .count ∷ r .cause .septets) ++ ((r .cause .size ∷ r .cause .diagnostics) ++ cause.meaningNumbers (r .meaning))
+    cause.meaningNumbers (r .meaning) ++ ((r .cause .count ∷ r .cause .septets) ++ (r .cause .size ∷ r .cause .diagnostics))
 
+-- where they stand, and how many there are
+abbrev pub kindAt : ℕ
+kindAt = 0
+
+abbrev pub countAt : ℕ
+countAt = kindAt + 2
+
+abbrev pub septetsAt : ℕ
+septetsAt = countAt + 1
+
+abbrev pub sizeAt : ℕ
+sizeAt = septetsAt + 255
+
+abbrev pub diagnosticsAt : ℕ
+diagnosticsAt = sizeAt + 1
+
+abbrev pub causeLength : ℕ
+causeLength = diagnosticsAt + 255
+
+-- the largest of those that a writer looks at
 unfoldable pub causeMost : List ℕ
 causeMost = replicate 512 octet
+
+abbrev pub causeHolds : List ℕ → Bool
+causeHolds ns = within (drop countAt ns) causeMost
+
+abbrev pub causeFits : List ℕ → Bool
+causeFits ns = both (eqb (length ns) causeLength) (causeHolds ns)
 
 abbrev pub causeFrom : List ℕ → Cause
 causeFrom ns =
     record {
-      count = getD ns 0 0;
-      septets = take 255 (drop 1 ns);
-      size = getD ns 256 0;
-      diagnostics = take 255 (drop 257 ns);
+      count = getD ns countAt 0;
+      septets = take 255 (drop septetsAt ns);
+      size = getD ns sizeAt 0;
+      diagnostics = take 255 (drop diagnosticsAt ns);
     }
 
 -- no septet, or over 255 octets
 abbrev pub wrongLength : ℕ → ℕ → Bool
 wrongLength count size = not (both (leb 1 count) (leb (count + size) 255))
 
--- 13 for another length than 512; the writer's own number where every number fits its field; else 13 or 12, in the writer's order
+-- 13 for another length; the writer's own number where every number fits its field; else 13 or 12, in the writer's order
 abbrev pub causeCode : List ℕ → ℕ → ℕ
 causeCode ns size =
-    pick (eqb (length ns) 512)
-    (pick (within ns causeMost) (cause.writeNumber (causeFrom ns) size) (pick (wrongLength (getD ns 0 0) (getD ns 256 0)) 13 12))
+    pick (eqb (length ns) causeLength)
+    (pick (causeHolds ns) (cause.writeNumber (causeFrom ns) size) (pick (wrongLength (getD ns countAt 0) (getD ns sizeAt 0)) 13 12))
     13
 
 -- ## Half octets

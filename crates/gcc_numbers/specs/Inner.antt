@@ -7,3 +7,7 @@ use Rattle.arrays.specs.Limits.{octet}
 -- each number is an octet
 abbrev pub AllOctets : List ℕ → Type 0
 AllOctets ns = (k : ℕ) → getD ns k 0 ≤ octet
+
+-- each from a place on is
+abbrev pub OctetsFrom : ℕ → List ℕ → Type 0
+OctetsFrom at ns = (k : ℕ) → at ≤ k → getD ns k 0 ≤ octet

@@ -1,6 +1,6 @@
 -- What is promised of elements as arrays of numbers. Assumes nothing.
 use mathlib.Core.Path.{_≡_}
-use mathlib.Core.List.{List, _++_}
+use mathlib.Core.List.{List, _∷_, _++_}
 use mathlib.Core.Bool.{Bool, true}
 use Prim.Native.Nat.{ℕ, _≤_}
 use lib.ListN.{length, getD, take, drop, replicate}
@@ -28,7 +28,7 @@ use Rattle.gcc.specs.declared.«state_attributes».Reading.{Reading as Attribut
 use Rattle.gcc.specs.declared.sms.Reading.{Reading as SmsRead}
 use Rattle.gcc.specs.declared.talker.Reading.{Reading as TalkerRead}
 use Rattle.arrays.specs.Limits.{within, octet, word}
-use Rattle.gcc_numbers.specs.ElementNumbers.{fits, isFlag, typeNumbers, typeMost, referenceNumbers, referenceMost, priorityFrom, stateNumbers, stateMost, causeNumbers, causeMost, causeFrom, originatorNumbers, originatorMost, attributesNumbers, attributesMost, attributesFrom, smsNumbers, smsMost, smsFrom, talkerNumbers, talkerMost}
+use Rattle.gcc_numbers.specs.ElementNumbers.{fits, isFlag, typeNumbers, typeMost, referenceNumbers, referenceMost, priorityFrom, stateNumbers, stateMost, causeNumbers, causeFits, causeFrom, causeCode, originatorNumbers, originatorMost, attributesNumbers, attributesMost, attributesFrom, smsNumbers, smsMost, smsFrom, talkerNumbers, talkerMost}
 
 -- ## The numbers of a refused element are all zero
 
@@ -91,12 +91,12 @@ pub record Cause-of-octets (c : Cause) : Type 0 where
   pub diagnostics : length (c .diagnostics) ≡ 255
   pub diagnostics-held : within (c .diagnostics) (replicate 255 octet) ≡ true
 
--- the first 512; behind them stands what it means
+-- what was read can be written as it stands; before the cause stands what it means
 abbrev pub A-cause-is-its-numbers : Type 0
 A-cause-is-its-numbers =
     (r : CauseRead)
     → Cause-of-octets (r .cause)
-    → Own-numbers 512 causeMost causeFrom (take 512 (causeNumbers r)) (r .cause) × (drop 512 (causeNumbers r) ≡ cause.meaningNumbers (r .meaning))
+    → (causeFits (causeNumbers r) ≡ true) × ((causeFrom (causeNumbers r) ≡ r .cause) × (take 2 (causeNumbers r) ≡ cause.meaningNumbers (r .meaning)))
 
 abbrev pub A-meaning-is-its-numbers : Type 0
 A-meaning-is-its-numbers = (m k : Meaning) → cause.meaningNumbers m ≡ cause.meaningNumbers k → m ≡ k
@@ -136,8 +136,15 @@ Numbers-are-their-call-state =
 abbrev pub Numbers-are-their-cause : Type 0
 Numbers-are-their-cause =
     (ns : List ℕ) (m : Meaning)
-    → fits 512 causeMost ns ≡ true
-    → causeNumbers (record { refusal = 0; meaning = m; cause = causeFrom ns }) ≡ ns ++ cause.meaningNumbers m
+    → causeFits ns ≡ true
+    → causeNumbers (record { refusal = 0; meaning = m; cause = causeFrom ns }) ≡ cause.meaningNumbers m ++ drop 2 ns
+
+-- what a cause means is not looked at where an array is written
+abbrev pub The-meaning-is-not-looked-at : Type 0
+The-meaning-is-not-looked-at =
+    (a b x y n : ℕ) (ns : List ℕ)
+    → (causeCode (a ∷ b ∷ ns) n ≡ causeCode (x ∷ y ∷ ns) n)
+    × ((causeFits (a ∷ b ∷ ns) ≡ causeFits (x ∷ y ∷ ns)) × (causeFrom (a ∷ b ∷ ns) ≡ causeFrom (x ∷ y ∷ ns)))
 
 abbrev pub Numbers-are-their-originator-indication : Type 0
 Numbers-are-their-originator-indication =

@@ -13,7 +13,7 @@ ghost use Rattle.gcc.specs.StateAttributes.{readOf as readAttributes, writtenOf
 ghost use Rattle.gcc.specs.Sms.{readOf as readSms, writtenOf as writtenSms};
 ghost use Rattle.gcc.specs.Talker.{numberOf, priorityOf, readOf as readTalker};
 ghost use Rattle.gcc.specs.Digits.{readOf as readDigits, writeNumber as digitsNumber, writeTo as digitsTo};
-ghost use Rattle.gcc_numbers.specs.ElementNumbers.{fits, codeFor, isFlag, typeNumbers, typeMost, referenceNumbers, priorityFrom, referenceMost, stateNumbers, stateMost, causeNumbers, causeMost, causeFrom, causeCode, originatorNumbers, originatorMost, attributesNumbers, attributesMost, attributesFrom, smsNumbers, smsMost, smsFrom, talkerNumbers, talkerMost, digitsMost};
+ghost use Rattle.gcc_numbers.specs.ElementNumbers.{fits, codeFor, isFlag, typeNumbers, typeMost, referenceNumbers, priorityFrom, referenceMost, stateNumbers, stateMost, causeNumbers, causeFits, causeFrom, causeCode, originatorNumbers, originatorMost, attributesNumbers, attributesMost, attributesFrom, smsNumbers, smsMost, smsFrom, talkerNumbers, talkerMost, digitsMost};
 
 #[no_mangle]
 pub extern "C" fn asternhaken_message_type_read(octet: u8, numbers: &mut [u64]) -> u32
@@ -70,7 +70,7 @@ pub extern "C" fn asternhaken_cause_read(octets: &[u8], numbers: &mut [u64]) -> 
 #[no_mangle]
 pub extern "C" fn asternhaken_cause_write(numbers: &[u64], octets: &mut [u8]) -> u32
     ensures { λ r. ⌜ (r ≡ causeCode (now (numbers .entry)) (length (now (octets .entry))))
-        × (now (octets .exit) ≡ pick (fits 512 causeMost (now (numbers .entry))) (causeTo (causeFrom (now (numbers .entry))) (now (octets .entry))) (now (octets .entry))) ⌝ }
+        × (now (octets .exit) ≡ pick (causeFits (now (numbers .entry))) (causeTo (causeFrom (now (numbers .entry))) (now (octets .entry))) (now (octets .entry))) ⌝ }
 {
     gcc_numbers::cause::write(numbers, octets) as u32
 }

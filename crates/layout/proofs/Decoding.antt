@@ -23,7 +23,7 @@ use Rattle.receiver.specs.Model.{noRecord, emptySlot, remade, withSlots}
 use Rattle.receiver.specs.Step.{mostEntries, noTold}
 use Rattle.receiver.proofs.Cases.{by-test}
 use Rattle.layout.specs.Octets.{leAt, flagAt, lowOctets, tabulate}
-use Rattle.layout.specs.Layout.{tickFrom, timersFrom, cellFrom, keysFrom, kindsFrom, recordSize, answerFrom, toldLength, stateLength, recordAt, entryFlags, messageFlags, smallNumbers, wideOctets, recordOctets, kindPlace, sincePlace, recordPlace, slotNo, keyNo, cellAt, cellOctets, decodeOf, putSlot, toldPlace, carries, toldNo, lastOf, putNumber, putCarried, putTold, putHead}
+use Rattle.layout.specs.Layout.{tickFrom, timersFrom, cellFrom, markFrom, keysFrom, kindsFrom, recordSize, answerFrom, toldLength, stateLength, recordAt, entryFlags, messageFlags, smallNumbers, wideOctets, recordOctets, kindPlace, sincePlace, recordPlace, slotNo, keyNo, cellAt, cellOctets, decodeOf, putSlot, toldPlace, carries, toldNo, lastOf, putNumber, putCarried, putTold, putHead}
 use Rattle.layout.proofs.Numbers.{length-octets, le-ext, le-stored, le-alone, le-before, le-set, length-table, getD-table, table-ext, table-set}
 use Rattle.layout.proofs.Wide.{Wide, wide-none}
 
@@ -217,7 +217,7 @@ keys-same l l′ e =
     table-ext (keyNo l′) (keyNo l) 0 keyCount
     (λ i a b. le-ext 4 l′ l (keysFrom + 4 * i) (keysFrom + 4 * i) (λ m x. e (keysFrom + 4 * i + m) (omega arith) (omega arith)))
 
-pub cell-same : (l l′ : List ℕ) → ((j : ℕ) → cellFrom ≤ j → j < keysFrom → getD l′ j 0 ≡ getD l j 0) → cellAt l′ ≡ cellAt l
+pub cell-same : (l l′ : List ℕ) → ((j : ℕ) → cellFrom ≤ j → j < markFrom → getD l′ j 0 ≡ getD l j 0) → cellAt l′ ≡ cellAt l
 cell-same l l′ e = λ i. record { nln = e cellFrom (omega arith) (omega arith) i }
 
 pub same-receiver : (a b : Receiver) → a .slots ≡ b .slots → a .keys ≡ b .keys → a .tick ≡ b .tick → a .t3206 ≡ b .t3206 → a .t3208 ≡ b .t3208
@@ -455,7 +455,7 @@ pub length-told : (l : List ℕ) (j : ℕ) (t : Told) → length (putTold l j t)
 length-told l j t =
     by-told (λ (x : List ℕ). length x ≡ length l) l j t (λ p. length-carried l j (t .key) (t .number) (t .«record»)) (λ p. length-number l j (t .key) (t .number))
 
-told-elsewhere : (l : List ℕ) (j : ℕ) (t : Told) (k : ℕ) → (toldPlace j ≤ k → toldPlace j + toldLength ≤ k) → getD (putTold l j t) k 0 ≡ getD l k 0
+pub told-elsewhere : (l : List ℕ) (j : ℕ) (t : Told) (k : ℕ) → (toldPlace j ≤ k → toldPlace j + toldLength ≤ k) → getD (putTold l j t) k 0 ≡ getD l k 0
 told-elsewhere l j t k q =
     by-told (λ (x : List ℕ). getD x k 0 ≡ getD l k 0) l j t (λ p. carried-elsewhere l j (t .key) (t .number) (t .«record») k q)
     (λ p. number-elsewhere l j (t .key) (t .number) k q)
@@ -474,8 +474,8 @@ told-same l j t n h lt b w z =
 
 -- ## The tick, what is known of the cell, and the answer's numbers
 
--- the cell's octets stand before the keys, and read back
-pub cell-fits : (c : Cell) → cellFrom + length (cellOctets c) ≤ keysFrom
+-- the cell's octets stand before the mark, and read back
+pub cell-fits : (c : Cell) → cellFrom + length (cellOctets c) ≤ markFrom
 cell-fits c = omega arith
 
 pub cell-back : (l : List ℕ) (c : Cell) → keysFrom ≤ length l → cellAt (stored l cellFrom (cellOctets c)) ≡ c
@@ -501,7 +501,7 @@ module _ (l : List ℕ) (tick : ℕ) (cell : Cell) (x d n : ℕ) where
   unfolding putHead
   length-head = length-stored celled answerFrom counts ∙ length-celled
 
-  head-elsewhere : (j : ℕ) → timersFrom ≤ j → (cellFrom ≤ j → keysFrom ≤ j) → (answerFrom ≤ j → answerFrom + 12 ≤ j)
+  pub head-elsewhere : (j : ℕ) → timersFrom ≤ j → (cellFrom ≤ j → markFrom ≤ j) → (answerFrom ≤ j → answerFrom + 12 ≤ j)
       → getD (putHead l tick cell x d n) j 0 ≡ getD l j 0
   unfolding putHead
   head-elsewhere j a p q =

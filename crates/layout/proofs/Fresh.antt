@@ -1,23 +1,24 @@
 -- What a setup leaves. Assumes nothing.
 use mathlib.Core.Path.{_≡_, refl, ap, sym, _∙_}
+use mathlib.Core.Bool.{true}
 use mathlib.Core.List.{List, [], _∷_, _++_, append-assoc, append-nil}
 use Prim.Native.Nat.{ℕ, zero, suc, _+_, _*_, _≤_, _<_}
 use native.Mathlib.Nat.{add-zero, zero-add}
 use native.Mathlib.Omega.{arith}
 use lib.Dec.{ltb, lit<}
 use lib.ListN.{length, getD, replicate, length-append, length-replicate}
-use borrow.Author.Tests.{le-ltb}
+use borrow.Author.Tests.{le-ltb, eq-eqb}
 use Rattle.bits.specs.Field.{pick}
 use Rattle.arrays.specs.Runs.{stored}
-use Rattle.arrays.proofs.Running.{length-stored, stored-before, stored-after, stored-then}
+use Rattle.arrays.proofs.Running.{length-stored, stored-before, stored-after, stored-in, stored-then}
 use Rattle.receiver.specs.declared.Setup.{Setup}
 use Rattle.receiver.specs.Channels.{keyCount, places}
 use Rattle.receiver.specs.Model.{emptySlot, noCell, newReceiver, keyPlaces}
 use Rattle.receiver.specs.Step.{mostEntries, noTold}
 use Rattle.layout.specs.Octets.{leAt, lowOctets, tabulate}
-use Rattle.layout.specs.Layout.{tickFrom, cellFrom, keysFrom, kindsFrom, answerFrom, stateLength, kindPlace, slotNo, keyNo, cellAt, cellOctets, decodeOf, toldNo, lastOf, keysOctets, freshOctets}
+use Rattle.layout.specs.Layout.{tickFrom, cellFrom, markFrom, keysFrom, kindsFrom, answerFrom, stateLength, markOctets, isMarked, kindPlace, slotNo, keyNo, cellAt, cellOctets, decodeOf, toldNo, lastOf, keysOctets, freshOctets}
 use Rattle.layout.specs.Setup.{noAnswer}
-use Rattle.layout.proofs.Numbers.{length-octets, le-zero, le-alone, le-before, table-ext, table-same, table-list}
+use Rattle.layout.proofs.Numbers.{length-octets, le-ext, le-zero, le-alone, le-before, table-ext, table-same, table-list}
 use Rattle.layout.proofs.Decoding.{field, cell-same, same-receiver, slot-empty, cell-fits, cell-back}
 
 -- ## The keys
@@ -72,14 +73,20 @@ module _ (z : List ℕ) (s : Setup) (keys : List ℕ) where
   abbrev celled : List ℕ
   celled = stored timed cellFrom (cellOctets noCell)
 
+  abbrev marked : List ℕ
+  marked = stored celled markFrom markOctets
+
   abbrev written : List ℕ
   written = keysOctets (keyPlaces keyCount keys)
 
   abbrev fresh : List ℕ
-  fresh = stored celled keysFrom written
+  fresh = stored marked keysFrom written
 
   length-celled : length celled ≡ length z
   length-celled = length-stored timed cellFrom (cellOctets noCell) ∙ length-stored z tickFrom times
+
+  length-marked : length marked ≡ length z
+  length-marked = length-stored celled markFrom markOctets ∙ length-celled
 
   length-times : tickFrom + length times ≡ cellFrom
   length-times = simp (length-append, length-octets)
@@ -88,12 +95,19 @@ module _ (z : List ℕ) (s : Setup) (keys : List ℕ) where
   length-written = ap (λ (n : ℕ). keysFrom + n) (length-keys (keyPlaces keyCount keys) ∙ ap (λ (n : ℕ). 4 * n) (length-places keyCount keys))
 
   length-on : length fresh ≡ length z
-  length-on = length-stored celled keysFrom written ∙ length-celled
+  length-on = length-stored marked keysFrom written ∙ length-marked
+
+  mark-on : length z ≡ stateLength → leAt 4 fresh markFrom ≡ leAt 4 markOctets 0
+  mark-on m =
+      le-before 4 marked keysFrom written markFrom (omega arith)
+      ∙ le-ext 4 marked markOctets markFrom 0
+      (λ i h. stored-in celled markFrom markOctets i (omega (arith, length-celled)) (omega arith) ∙ ap (λ (k : ℕ). getD markOctets k 0) (sym (zero-add i)))
 
   module _ (o : (j : ℕ) → getD z j 0 ≡ 0) where
     behind : (j : ℕ) → kindsFrom ≤ j → getD fresh j 0 ≡ 0
     behind j h =
-        stored-after celled keysFrom written j (omega (arith, length-written))
+        stored-after marked keysFrom written j (omega (arith, length-written))
+        ∙ stored-after celled markFrom markOctets j (omega arith)
         ∙ stored-after timed cellFrom (cellOctets noCell) j (omega (arith, cell-fits noCell))
         ∙ stored-after z tickFrom times j (omega (arith, length-times))
         ∙ o j
@@ -112,7 +126,8 @@ module _ (z : List ℕ) (s : Setup) (keys : List ℕ) where
       time-on : (x : ℕ) (p q : List ℕ) (k n : ℕ) → times ≡ p ++ lowOctets 4 x ++ q → length p ≡ k → length q ≡ n → k + 4 + n ≡ cellFrom → x < 4294967296
           → leAt 4 fresh (tickFrom + k) ≡ x
       time-on x p q k n e u v w lt =
-          le-before 4 celled keysFrom written (tickFrom + k) (omega arith)
+          le-before 4 marked keysFrom written (tickFrom + k) (omega arith)
+          ∙ le-before 4 celled markFrom markOctets (tickFrom + k) (omega arith)
           ∙ le-before 4 timed cellFrom (cellOctets noCell) (tickFrom + k) (omega arith)
           ∙ field times z tickFrom 4 x p q k n e u v (omega arith) lt
 
@@ -121,12 +136,12 @@ module _ (z : List ℕ) (s : Setup) (keys : List ℕ) where
           table-list (keyNo fresh) 0 0 keyCount (keyPlaces keyCount keys) (length-places keyCount keys)
           (λ i h.
           ap (keyNo fresh) (zero-add i)
-          ∙ key-back celled keysFrom (keyPlaces keyCount keys) i (rw (length-places keyCount keys) (omega (arith, length-celled)))
+          ∙ key-back marked keysFrom (keyPlaces keyCount keys) i (rw (length-places keyCount keys) (omega (arith, length-marked)))
           (places-below keyCount keys b) (rw (length-places keyCount keys) h))
 
       cell-on : cellAt fresh ≡ noCell
       cell-on =
-          cell-same celled fresh (λ j x y. stored-before celled keysFrom written j (omega arith))
+          cell-same celled fresh (λ j x y. stored-before marked keysFrom written j (omega arith) ∙ stored-before celled markFrom markOctets j (omega arith))
           ∙ cell-back timed noCell (rw (length-stored z tickFrom times) (omega arith))
 
       decode-on : s .tick < 4294967296 → s .t3206 < 4294967296 → s .t3208 < 4294967296 → s .t3210 < 4294967296
@@ -151,6 +166,15 @@ module _ (s : Setup) (keys : List ℕ) where
   pub length-fresh : length (freshOctets s keys) ≡ stateLength
   unfolding freshOctets
   length-fresh = length-on (replicate stateLength 0) s keys ∙ length-replicate {A = ℕ} stateLength 0
+
+  mark-read : leAt 4 (freshOctets s keys) markFrom ≡ leAt 4 markOctets 0
+  unfolding freshOctets
+  mark-read = mark-on (replicate stateLength 0) s keys (length-replicate {A = ℕ} stateLength 0)
+
+  pub mark-fresh : isMarked (freshOctets s keys) ≡ true
+  unfolding isMarked
+  mark-fresh =
+      rw (eq-eqb (length (freshOctets s keys)) stateLength length-fresh) (eq-eqb (leAt 4 (freshOctets s keys) markFrom) (leAt 4 markOctets 0) mark-read)
 
   pub last-fresh : lastOf (freshOctets s keys) ≡ noAnswer
   unfolding freshOctets

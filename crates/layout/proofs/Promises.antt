@@ -1,5 +1,5 @@
 -- The promises of specs/Promises. Assumes nothing.
-use mathlib.Core.Path.{_≡_, sym, ap, _∙_}
+use mathlib.Core.Path.{_≡_, refl, sym, ap, _∙_}
 use mathlib.Core.List.{List}
 use Prim.Native.Nat.{ℕ}
 use lib.Dec.{eqb}
@@ -7,9 +7,10 @@ use lib.ListN.{length}
 use Rattle.bits.specs.Field.{pick}
 use Rattle.receiver.specs.declared.Setup.{Setup}
 use Rattle.receiver.specs.Model.{startedOf}
-use Rattle.layout.specs.Layout.{stateLength, lastOf}
+use Rattle.layout.specs.Layout.{stateLength, isMarked, lastOf}
 use Rattle.layout.specs.Setup.{setupCode}
-use Rattle.layout.specs.Promises.{SetUp-determines, A-refused-setup-leaves-the-octets, An-accepted-setup-does-not-depend-on-what-was-there, All-parts-are-the-answer}
+use Rattle.layout.specs.Promises.{SetUp-determines, A-refused-setup-leaves-the-octets, An-accepted-setup-does-not-depend-on-what-was-there, An-accepted-setup-is-marked, All-parts-are-the-answer}
+use Rattle.layout.proofs.Fresh.{mark-fresh}
 use Rattle.layout.proofs.Setting.{set-left, set-fresh}
 use Rattle.layout.proofs.AllParts.{same-answer, nine-entries}
 
@@ -28,6 +29,9 @@ pub an-accepted-setup-does-not-depend-on-what-was-there : An-accepted-setup-does
 an-accepted-setup-does-not-depend-on-what-was-there l l′ e s keys left left′ code code′ f g =
     let q : code ≡ code′ = f .number ∙ same-code l l′ e s keys ∙ sym (g .number) in
     (q, λ z. set-fresh l s keys left code f z ∙ sym (set-fresh l′ s keys left′ code′ g (sym q ∙ z)))
+
+pub an-accepted-setup-is-marked : An-accepted-setup-is-marked
+an-accepted-setup-is-marked l s keys left u = ap isMarked (set-fresh l s keys left 0 u refl) ∙ mark-fresh s keys
 
 pub all-parts-are-the-answer : All-parts-are-the-answer
 all-parts-are-the-answer l l′ p = same-answer (lastOf l) (lastOf l′) (nine-entries l) (nine-entries l′) p

@@ -1,21 +1,22 @@
 -- The numbers of a record and of the answer, by their part. Assumes nothing.
 use mathlib.Core.Path.{_≡_, refl, sym, ap, _∙_}
-use mathlib.Core.Bool.{true, false}
+use mathlib.Core.Bool.{Bool, true, false}
 use mathlib.Core.List.{List}
 use Prim.Native.Nat.{ℕ, zero, suc, _+_, _-_, _*_, _≤_, _<_}
 use native.Mathlib.Nat.{add-assoc}
 use native.Mathlib.Omega.{arith}
 use lib.Dec.{ltb}
-use lib.ListN.{getD, replicate}
-use borrow.Author.Tests.{lt-ltb, le-ltb, le-leb, lt-leb}
+use lib.ListN.{length, getD, replicate}
+use borrow.Author.Tests.{lt-ltb, le-ltb, le-leb, lt-leb, ltb-true, ltb-false, eqb-true}
 use Rattle.bits.specs.Field.{pick}
 use Rattle.csn1.specs.Told.{asBit}
 use Rattle.receiver.specs.declared.Record.{Record}
 use Rattle.receiver.specs.declared.Told.{Told}
 use Rattle.receiver.specs.Model.{noRecord}
 use Rattle.receiver.specs.Step.{mostEntries, noTold}
+use Rattle.receiver.proofs.Cases.{by-test}
 use Rattle.layout.specs.Octets.{leAt, octetAt, flagAt, tabulate}
-use Rattle.layout.specs.Layout.{answerFrom, recordAt, toldPlace, carries, toldNo, lastOf}
+use Rattle.layout.specs.Layout.{answerFrom, stateLength, isState, recordAt, toldPlace, carries, toldNo, lastOf}
 use Rattle.layout.specs.Parts.{recordNumbers, toldNumbers, partOf}
 use Rattle.layout.proofs.Numbers.{getD-table}
 
@@ -136,6 +137,19 @@ module _ (l : List ℕ) (entry : ℕ) where
   last-three (suc (suc zero)) h = refl
   last-three (suc (suc (suc n))) h = absurd (omega (arith, h))
 
+  -- the entry itself
+  entry-beyond : mostEntries ≤ entry → getD (lastOf l .entries) entry noTold ≡ noTold
+  unfolding lastOf
+  entry-beyond b = table-beyond _ 0 mostEntries entry noTold b
+
+  entry-unused : entry < mostEntries → leAt 4 l (answerFrom + 8) ≤ entry → getD (lastOf l .entries) entry noTold ≡ noTold
+  unfolding lastOf
+  entry-unused b u = table-get _ mostEntries entry noTold b ∙ rw (le-ltb entry (leAt 4 l (answerFrom + 8)) u)
+
+  entry-told : entry < mostEntries → entry < leAt 4 l (answerFrom + 8) → getD (lastOf l .entries) entry noTold ≡ toldNo l entry
+  unfolding lastOf
+  entry-told b u = table-get _ mostEntries entry noTold b ∙ rw (lt-ltb entry (leAt 4 l (answerFrom + 8)) u)
+
   last-none : (part : ℕ) → 3 ≤ part → getD (lastOf l .entries) entry noTold ≡ noTold → 0 ≡ partOf (lastOf l) entry part
   unfolding partOf
   last-none zero h q = absurd (omega (arith, h))
@@ -144,20 +158,69 @@ module _ (l : List ℕ) (entry : ℕ) where
   last-none (suc (suc (suc n))) h q = zeros 32 n ∙ ap (λ (t : Told). getD (toldNumbers t) n 0) (sym q)
 
   pub last-beyond : (part : ℕ) → 3 ≤ part → mostEntries ≤ entry → 0 ≡ partOf (lastOf l) entry part
-  unfolding lastOf
-  last-beyond part h b = last-none part h (table-beyond _ 0 mostEntries entry noTold b)
+  last-beyond part h b = last-none part h (entry-beyond b)
 
   pub last-unused : (part : ℕ) → 3 ≤ part → entry < mostEntries → leAt 4 l (answerFrom + 8) ≤ entry → 0 ≡ partOf (lastOf l) entry part
-  unfolding lastOf
-  last-unused part h b u = last-none part h (table-get _ mostEntries entry noTold b ∙ rw (le-ltb entry (leAt 4 l (answerFrom + 8)) u))
+  last-unused part h b u = last-none part h (entry-unused b u)
 
   pub last-told : (part : ℕ) → 3 ≤ part → entry < mostEntries → entry < leAt 4 l (answerFrom + 8) → getD (toldNumbers (toldNo l entry)) (part - 3) 0 ≡ partOf (lastOf l) entry part
-  unfolding partOf lastOf
+  unfolding partOf
   last-told zero h b u = absurd (omega (arith, h))
   last-told (suc zero) h b u = absurd (omega (arith, h))
   last-told (suc (suc zero)) h b u = absurd (omega (arith, h))
   last-told (suc (suc (suc n))) h b u =
       let e : suc (suc (suc n)) - 3 ≡ n = omega arith in
-      let q : getD (tabulate (λ j. pick (ltb j (leAt 4 l (answerFrom + 8))) (toldNo l j) noTold) 0 mostEntries) entry noTold ≡ toldNo l entry
-      = table-get _ mostEntries entry noTold b ∙ rw (lt-ltb entry (leAt 4 l (answerFrom + 8)) u) in
-      ap (λ (m : ℕ). getD (toldNumbers (toldNo l entry)) m 0) e ∙ ap (λ (t : Told). getD (toldNumbers t) n 0) (sym q)
+      ap (λ (m : ℕ). getD (toldNumbers (toldNo l entry)) m 0) e ∙ ap (λ (t : Told). getD (toldNumbers t) n 0) (sym (entry-told b u))
+
+  -- its record: only 1 to 3 carry one
+  record-by : (t : Told) → getD (lastOf l .entries) entry noTold ≡ t → (n : ℕ) → n ≡ partOf (lastOf l) entry 4 → n ≡ t .number
+  unfolding partOf
+  record-by t q n e = e ∙ ap (λ (x : Told). x .number) q
+
+  module _ (n : ℕ) (e : n ≡ partOf (lastOf l) entry 4) where
+    -- what is told something is there
+    record-there : 1 ≤ n → (entry < mostEntries) × (entry < leAt 4 l (answerFrom + 8))
+    record-there h =
+        by-test (ltb entry mostEntries)
+        (λ p.
+        let b = ltb-true _ _ p in
+        by-test (ltb entry (leAt 4 l (answerFrom + 8))) (λ q. (b, ltb-true _ _ q))
+        (λ q. let z : n ≡ 0 = record-by noTold (entry-unused b (ltb-false _ _ q)) n e in absurd (omega (arith, z, h))))
+        (λ p. let z : n ≡ 0 = record-by noTold (entry-beyond (ltb-false _ _ p)) n e in absurd (omega (arith, z, h)))
+
+    record-told : 1 ≤ n → (b : Bool) → carries n ≡ b → pick b (recordAt l (toldPlace entry + 16)) noRecord ≡ getD (lastOf l .entries) entry noTold .«record»
+    unfolding toldNo
+    record-told h b p =
+        let w = record-there h in
+        let q = entry-told (w .0) (w .1) in
+        let m : octetAt l (toldPlace entry + 8) ≡ n = sym (record-by (toldNo l entry) q n e) in
+        rw (q, m, p)
+
+    record-zero : n ≡ 0 → noRecord ≡ getD (lastOf l .entries) entry noTold .«record»
+    unfolding toldNo
+    record-zero z =
+        by-test (ltb entry mostEntries)
+        (λ p.
+        let b = ltb-true _ _ p in
+        by-test (ltb entry (leAt 4 l (answerFrom + 8)))
+        (λ q.
+        let t = entry-told b (ltb-true _ _ q) in
+        let m : octetAt l (toldPlace entry + 8) ≡ 0 = sym (record-by (toldNo l entry) t n e) ∙ z in
+        sym (ap (λ (x : Told). x .«record») t ∙ told-without l entry (ap carries m)))
+        (λ q. sym (ap (λ (x : Told). x .«record») (entry-unused b (ltb-false _ _ q)))))
+        (λ p. sym (ap (λ (x : Told). x .«record») (entry-beyond (ltb-false _ _ p))))
+
+  -- the same by the number that the code reads, which is 0 where there is no state
+  module _ (n : ℕ) (e : n ≡ pick (isState l) (partOf (lastOf l) entry 4) 0) where
+    read-state : 1 ≤ n → (isState l ≡ true) × (n ≡ partOf (lastOf l) entry 4)
+    read-state h = by-test (isState l) (λ p. (p, e ∙ rw p)) (λ p. let z : n ≡ 0 = e ∙ rw p in absurd (omega (arith, z, h)))
+
+    pub read-there : 1 ≤ n → (length l ≡ stateLength) × (entry < mostEntries)
+    read-there h = let w = read-state h in (eqb-true (length l) stateLength (w .0), record-there n (w .1) h .0)
+
+    pub read-some : 1 ≤ n → (b : Bool) → carries n ≡ b
+        → pick b (recordAt l (toldPlace entry + 16)) noRecord ≡ pick (isState l) (getD (lastOf l .entries) entry noTold .«record») noRecord
+    read-some h b p = let w = read-state h in rw (w .0) (record-told n (w .1) h b p)
+
+    pub read-none : n < 1 → noRecord ≡ pick (isState l) (getD (lastOf l .entries) entry noTold .«record») noRecord
+    read-none h = by-test (isState l) (λ p. let q : n ≡ partOf (lastOf l) entry 4 = e ∙ rw p in rw p (record-zero n q (omega (arith, h)))) (λ p. rw p)

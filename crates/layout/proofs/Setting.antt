@@ -7,7 +7,7 @@ use native.Mathlib.Omega.{arith}
 use lib.Dec.{ltb, eqb}
 use lib.ListN.{length, getD, set, take, replicate, getD-replicate, length-replicate}
 use lib.Seq.{getD-set-same, getD-set-other, ext-getD, take-suc, take-all, length-take-le}
-use borrow.Author.Tests.{ltb-true, ltb-false, ne-eqb}
+use borrow.Author.Tests.{ltb-true, ltb-false, eq-eqb, ne-eqb}
 use Rattle.csn1.specs.Format.{ground}
 use Rattle.arrays.specs.Runs.{stored}
 use Rattle.arrays.proofs.Running.{stored-one, more}
@@ -15,8 +15,8 @@ use Rattle.receiver.specs.declared.Setup.{Setup}
 use Rattle.receiver.specs.Channels.{keyCount}
 use Rattle.receiver.specs.Model.{noCell, newReceiver, keyPlaces, setupRight, startedOf}
 use Rattle.receiver.proofs.Cases.{by-test}
-use Rattle.layout.specs.Octets.{lowOctets}
-use Rattle.layout.specs.Layout.{tickFrom, timersFrom, cellFrom, keysFrom, stateLength, isState, cellOctets, decodeOf, keysOctets, freshOctets}
+use Rattle.layout.specs.Octets.{leAt, lowOctets}
+use Rattle.layout.specs.Layout.{tickFrom, timersFrom, cellFrom, markFrom, keysFrom, stateLength, isState, markOctets, isMarked, cellOctets, decodeOf, keysOctets, freshOctets}
 use Rattle.layout.specs.Setup.{setupCode, setupOctets, SetUp}
 use Rattle.layout.proofs.States.{at-state, no-state}
 use Rattle.layout.proofs.Numbers.{length-octets, four-runs}
@@ -129,17 +129,36 @@ module _ (l : List ℕ) (s : Setup) (keys : List ℕ) where
   pub set-length : (left : List ℕ) → SetUp l s keys left 0 → length left ≡ stateLength
   set-length left u = ap length (set-fresh left 0 u refl) ∙ length-fresh s keys
 
+-- the mark as a number
+mark-number : leAt 4 markOctets 0 ≡ 21710913
+unfolding leAt
+mark-number = refl
+
+mark-written : lowOctets 4 21710913 ≡ markOctets
+unfolding lowOctets
+mark-written = refl
+
+pub mark-wrong : (l : List ℕ) → (length l ≡ stateLength → ⊥) → false ≡ isMarked l
+unfolding isMarked
+mark-wrong l z = rw (ne-eqb (length l) stateLength z)
+
+pub mark-right : (l : List ℕ) → length l ≡ stateLength → (x : ℕ) → x ≡ leAt 4 l markFrom → eqb x 21710913 ≡ isMarked l
+unfolding isMarked
+mark-right l w x e =
+    rw (eq-eqb (length l) stateLength w, mark-number, e)
+
 -- the steps of filling, in their order
-pub filled : (s : Setup) (keys z a b c d e : List ℕ)
+pub filled : (s : Setup) (keys z a b c d m e : List ℕ)
     → z ≡ replicate stateLength 0
     → a ≡ stored z tickFrom (lowOctets 4 (s .tick))
     → b ≡ stored a timersFrom (lowOctets 4 (s .t3206))
     → c ≡ stored b (timersFrom + 4) (lowOctets 4 (s .t3208))
     → d ≡ stored c (timersFrom + 8) (lowOctets 4 (s .t3210))
-    → e ≡ stored (set d cellFrom (noCell .nln)) keysFrom (keysOctets (keyPlaces keyCount keys))
+    → m ≡ stored (set d cellFrom (noCell .nln)) markFrom (lowOctets 4 21710913)
+    → e ≡ stored m keysFrom (keysOctets (keyPlaces keyCount keys))
     → e ≡ freshOctets s keys
 unfolding freshOctets
-filled s keys z a b c d e pz pa pb pc pd pe =
+filled s keys z a b c d m e pz pa pb pc pd pm pe =
     let x = lowOctets 4 (s .tick) in
     let y = lowOctets 4 (s .t3206) in
     let w = lowOctets 4 (s .t3208) in
@@ -150,4 +169,5 @@ filled s keys z a b c d e pz pa pb pc pd pe =
     in
     pe
     ∙ ap (λ (l : List ℕ). stored l keysFrom (keysOctets (keyPlaces keyCount keys)))
-    (stored-one d cellFrom (noCell .nln) ∙ ap (λ (l : List ℕ). stored l cellFrom (cellOctets noCell)) times)
+    (pm ∙ ap (stored (set d cellFrom (noCell .nln)) markFrom) mark-written
+    ∙ ap (λ (l : List ℕ). stored l markFrom markOctets) (stored-one d cellFrom (noCell .nln) ∙ ap (λ (l : List ℕ). stored l cellFrom (cellOctets noCell)) times))

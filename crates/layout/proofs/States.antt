@@ -19,7 +19,7 @@ module _ {A : Type 0} (l : List ℕ) where
 
   -- one of n that a state has
   module _ (n i : ℕ) (a b : A) where
-    at-one : length l ≡ stateLength → i < n → pick (both (isState l) (ltb i n)) a b ≡ a
+    pub at-one : length l ≡ stateLength → i < n → pick (both (isState l) (ltb i n)) a b ≡ a
     at-one m h = rw (eq-eqb (length l) stateLength m, lt-ltb i n h)
 
     pub in-none : (length l ≡ stateLength → ⊥) → pick (both (isState l) (ltb i n)) a b ≡ b

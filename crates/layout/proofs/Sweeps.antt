@@ -2,7 +2,7 @@
 use mathlib.Core.Path.{_≡_, refl, ap, ap₂, sym, _∙_}
 use mathlib.Core.Bool.{Bool, true, false}
 use mathlib.Core.List.{List}
-use Prim.Native.Nat.{ℕ, zero, suc, _+_, _≤_, _<_}
+use Prim.Native.Nat.{ℕ, zero, suc, _+_, _-_, _≤_, _<_}
 use native.Mathlib.Nat.{add-zero, zero-add, add-assoc, add-suc, suc-add}
 use native.Mathlib.Omega.{arith}
 use lib.Dec.{lit≤, eqb}
@@ -13,11 +13,11 @@ use Rattle.receiver.specs.declared.Receiver.{Receiver}
 use Rattle.receiver.specs.declared.Rule.{Rule}
 use Rattle.receiver.specs.declared.Slot.{Slot}
 use Rattle.receiver.specs.Channels.{channels, places, placeOn, sideOf, indexIn, byNumber}
-use Rattle.receiver.specs.Model.{emptySlot, timerAt, takes, spares, ranOutOf, takenOf, keptOf, countAt, sweptSlots, expiredOf, droppedOf, withSlots}
+use Rattle.receiver.specs.Model.{emptySlot, wrapSub, timerAt, takes, spares, ranOutOf, takenOf, keptOf, countAt, sweptSlots, expiredOf, droppedOf, withSlots}
 use Rattle.receiver.proofs.Cases.{by-test}
 use Rattle.receiver.proofs.Loops.{partAt, part-set, part-keep, part-all}
 use Rattle.layout.specs.Octets.{leAt, tabulate}
-use Rattle.layout.specs.Layout.{timersFrom, cellFrom, kindsFrom, sincesFrom, answerFrom, stateLength, kindPlace, slotNo, decodeOf, putSlot}
+use Rattle.layout.specs.Layout.{tickFrom, timersFrom, cellFrom, kindsFrom, sincesFrom, answerFrom, stateLength, kindPlace, sincePlace, slotNo, decodeOf, putSlot}
 use Rattle.layout.specs.Sweep.{timerNo, goes, sweptAt, sweptRun, sweptOctets}
 use Rattle.layout.proofs.Numbers.{le-ext}
 use Rattle.layout.proofs.Decoding.{slot-of, slots-length, slot-empty, length-put, put-elsewhere, slot-put-other, decode-clear}
@@ -40,6 +40,13 @@ spares-on rule key ch h =
     let s : sideOf (placeOn key ch) ≡ ch = omega arith in
     let i : indexIn (placeOn key ch) ≡ key = omega arith in
     ap₂ (λ (x y : ℕ). pick (takes rule x) (eqb y (rule .but)) true) s i
+
+-- how long its half stays yet, by the numbers that the code reads
+pub left-by : (l : List ℕ) (i t3206 t3208 t3210 timer now since age left : ℕ) → t3206 ≡ leAt 4 l timersFrom → t3208 ≡ leAt 4 l (timersFrom + 4) → t3210 ≡ leAt 4 l (timersFrom + 8)
+    → timer ≡ byNumber (sideOf i) t3206 t3208 t3210 → now ≡ leAt 4 l tickFrom → since ≡ leAt 4 l (sincePlace i) → age ≡ wrapSub now since → left ≡ timer - age
+    → left ≡ timerNo l i - wrapSub (leAt 4 l tickFrom) (leAt 4 l (sincePlace i))
+left-by l i t3206 t3208 t3210 timer now since age left p q r e n s w h =
+    h ∙ ap₂ (λ (x y : ℕ). x - y) (timer-by l i t3206 t3208 t3210 timer p q r e) (w ∙ (λ x. wrapSub (n x) (s x)))
 
 -- nothing runs out where nothing is held
 pub ran-empty : (now : ℕ) (l : List ℕ) (i : ℕ) → getD l (kindPlace i) 0 ≡ 0 → ranOutOf now (timerNo l i) (slotNo l i) ≡ false
@@ -85,7 +92,7 @@ module _ (now : ℕ) (rule : Rule) where
       ∙ ap₂ (λ (x : List ℕ) (k : ℕ). sweptAt now rule x k) (run-then from m n l) (sym (add-assoc from m n))
 
   -- the octets of no place
-  run-elsewhere : (from n : ℕ) (l : List ℕ) → from + n ≤ places → (j : ℕ) → (kindsFrom ≤ j → kindPlace places ≤ j) → (sincesFrom ≤ j → answerFrom ≤ j)
+  pub run-elsewhere : (from n : ℕ) (l : List ℕ) → from + n ≤ places → (j : ℕ) → (kindsFrom ≤ j → kindPlace places ≤ j) → (sincesFrom ≤ j → answerFrom ≤ j)
       → getD (sweptRun now rule from n l) j 0 ≡ getD l j 0
   unfolding sweptRun
   run-elsewhere from zero l h j p q = refl

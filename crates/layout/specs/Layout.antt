@@ -18,7 +18,7 @@ use Rattle.receiver.specs.Model.{noRecord, emptySlot, noCell, keyPlaces}
 use Rattle.receiver.specs.Step.{noTold, mostEntries}
 use Rattle.layout.specs.Octets.{leAt, octetAt, flagAt, lowOctets, tabulate}
 
--- ## What stands where: the tick, the timers, what is known of the cell, the keys, three arrays over the places, the answer
+-- ## What stands where: the tick, the timers, what is known of the cell, the mark of a setup, the keys, three arrays over the places, the answer
 
 abbrev pub tickFrom : ℕ
 tickFrom = 0
@@ -30,9 +30,12 @@ timersFrom = tickFrom + 4
 abbrev pub cellFrom : ℕ
 cellFrom = timersFrom + 4 * channels
 
--- eight octets, so that the kinds begin at a multiple of eight
+abbrev pub markFrom : ℕ
+markFrom = cellFrom + 4
+
+-- cell and mark have eight octets, so that the kinds begin at a multiple of eight
 abbrev pub keysFrom : ℕ
-keysFrom = cellFrom + 8
+keysFrom = markFrom + 4
 
 -- one octet for each place, and some that no place uses, so that they can be tested eight at a time
 abbrev pub kindsFrom : ℕ
@@ -64,6 +67,20 @@ stateLength = toldsFrom + toldLength * mostEntries
 -- other lengths are no state
 abbrev pub isState : List ℕ → Bool
 isState l = eqb (length l) stateLength
+
+-- ## The mark of a setup
+
+-- a layout of other octets has another number
+abbrev pub layoutNumber : ℕ
+layoutNumber = 1
+
+-- the letters AHK, then the layout's number
+abbrev pub markOctets : List ℕ
+markOctets = 65 ∷ 72 ∷ 75 ∷ layoutNumber ∷ []
+
+-- the mark is there; no event and no decoding looks at it
+unfoldable pub isMarked : List ℕ → Bool
+isMarked l = both (isState l) (eqb (leAt 4 l markFrom) (leAt 4 markOctets 0))
 
 -- ## A record
 
@@ -244,5 +261,8 @@ keysOctets (k ∷ ks) = lowOctets 4 k ++ keysOctets ks
 
 unfoldable pub freshOctets : Setup → List ℕ → List ℕ
 freshOctets s keys =
-    stored (stored (stored (replicate stateLength 0) tickFrom (lowOctets 4 (s .tick) ++ (lowOctets 4 (s .t3206) ++ (lowOctets 4 (s .t3208) ++ lowOctets 4 (s .t3210))))) cellFrom (cellOctets noCell))
+    stored
+    (stored
+    (stored (stored (replicate stateLength 0) tickFrom (lowOctets 4 (s .tick) ++ (lowOctets 4 (s .t3206) ++ (lowOctets 4 (s .t3208) ++ lowOctets 4 (s .t3210))))) cellFrom (cellOctets noCell))
+    markFrom markOctets)
     keysFrom (keysOctets (keyPlaces keyCount keys))

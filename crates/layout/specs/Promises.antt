@@ -1,11 +1,12 @@
 -- What is promised of the lent octets themselves. Assumes nothing.
 use mathlib.Core.Path.{_≡_}
+use mathlib.Core.Bool.{true}
 use mathlib.Core.List.{List}
 use Prim.Native.Nat.{ℕ, _<_}
 use lib.ListN.{length}
 use Rattle.receiver.specs.declared.Setup.{Setup}
 use Rattle.receiver.specs.Step.{mostEntries}
-use Rattle.layout.specs.Layout.{lastOf}
+use Rattle.layout.specs.Layout.{isMarked, lastOf}
 use Rattle.layout.specs.Setup.{SetUp}
 use Rattle.layout.specs.Parts.{partCount, partOf}
 
@@ -28,6 +29,10 @@ An-accepted-setup-does-not-depend-on-what-was-there =
     → SetUp l s keys left code
     → SetUp l′ s keys left′ code′
     → (code ≡ code′) × (code ≡ 0 → left ≡ left′)
+
+-- Octets that an accepted setup left have its mark.
+abbrev pub An-accepted-setup-is-marked : Type 0
+An-accepted-setup-is-marked = (l : List ℕ) (s : Setup) (keys left : List ℕ) → SetUp l s keys left 0 → isMarked left ≡ true
 
 -- ## 2. Reading an answer
 

@@ -21,8 +21,10 @@ const TIMERS: usize = TICK + 4;
 
 const CELL: usize = TIMERS + 4 * CHANNELS;
 
-// Eight octets, so that the kinds begin at a multiple of eight.
-const KEYS_FROM: usize = CELL + 8;
+// Cell and mark have eight octets, so that the kinds begin at a multiple of eight.
+const MARK: usize = CELL + 4;
+
+const KEYS_FROM: usize = MARK + 4;
 
 // One octet for each place, and some that no place uses, so that they can be tested eight at a time.
 const KINDS: usize = KEYS_FROM + 4 * Setup::KEYS;
@@ -39,6 +41,12 @@ const ANSWER: usize = RECORDS + RECORD_LENGTH * PLACES;
 const TOLDS: usize = ANSWER + 16;
 
 const TOLD_LENGTH: usize = 16 + RECORD_LENGTH;
+
+// A layout of other octets has another number.
+const LAYOUT_NUMBER: u32 = 1;
+
+// The letters AHK and the layout's number, as a number.
+const MARKED: u32 = 65 + 256 * (72 + 256 * (75 + 256 * LAYOUT_NUMBER));
 
 // The octets of a state. Another length is refusal 13.
 pub const LENGTH: usize = TOLDS + TOLD_LENGTH * MOST_ENTRIES;

@@ -1,10 +1,11 @@
-// One number of the answer to the last accepted event.
+// The answer to the last accepted event: one number of it, and the record of an entry.
 ghost use mathlib.Core.Path.{_≡_};
 ghost use Prim.Native.Nat.{_+_, _<_, _≤_};
 ghost use lib.ListN.{length, getD};
 ghost use Rattle.bits.specs.Field.{pick};
 ghost use Rattle.csn1.specs.Told.{asBit};
-ghost use Rattle.receiver.specs.Step.{mostEntries};
+ghost use Rattle.receiver.specs.Step.{mostEntries, noTold};
+ghost use Rattle.receiver.specs.Model.{noRecord};
 ghost use Rattle.layout.specs.Layout.{stateLength, recordSize, isState, recordAt, toldNo, lastOf};
 ghost use Rattle.layout.specs.Parts.{recordNumbers, toldNumbers, partOf};
 use crate::ANSWER;
@@ -14,7 +15,10 @@ use crate::TOLDS;
 use crate::octets::flag_at;
 use crate::octets::u32_at;
 use crate::octets::u64_at;
+use crate::records::record_at;
 use receiver::MOST_ENTRIES;
+use receiver::Record;
+use receiver::meeting;
 
 fn bit(b: bool) -> u64
     ensures { λ r. ⌜ r ≡ asBit b ⌝ }
@@ -93,4 +97,21 @@ pub fn part_of(b: &[u8], entry: usize, part: usize) -> u64
         return 0;
     }
     told_part(b, entry, part - 3)
+}
+
+// The number told, among the parts.
+const NUMBER: usize = 4;
+
+// The record of an entry, its octets read once; the record that stands for none where there is none. An entry that is not there is told 0.
+pub fn record_of(b: &[u8], entry: usize) -> Record
+    ensures { λ r. ⌜ r ≡ pick (isState (now (b .entry))) (getD (lastOf (now (b .entry)) .entries) entry noTold .«record») noRecord ⌝ }
+{
+    let number = part_of(b, entry, NUMBER);
+    if number < 1 {
+        return meeting::no_record();
+    }
+    if 3 < number {
+        return meeting::no_record();
+    }
+    record_at(b, TOLDS + 16 + TOLD_LENGTH * entry)
 }

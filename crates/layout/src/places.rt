@@ -1,18 +1,22 @@
 // The places for halves, one for each subscription and channel: which half each holds, since when, and its record; and the keys. A place that is not there is empty.
 ghost use mathlib.Core.Path.{_≡_};
-ghost use Prim.Native.Nat.{_<_, _≤_};
+ghost use Prim.Native.Nat.{_-_, _<_, _≤_};
 ghost use lib.ListN.{length};
-ghost use Rattle.bits.specs.Field.{pick};
+ghost use lib.Dec.{ltb};
+ghost use Rattle.bits.specs.Field.{both, pick};
 ghost use Rattle.receiver.specs.Channels.{keyCount, places};
-ghost use Rattle.receiver.specs.Model.{noRecord, emptySlot, indexOf, storing};
-ghost use Rattle.layout.specs.Octets.{octetAt};
-ghost use Rattle.layout.specs.Layout.{stateLength, isState, isPlace, kindPlace, recordPlace, recordAt, keysIn, putSlot};
+ghost use Rattle.receiver.specs.Model.{noRecord, emptySlot, wrapSub, indexOf, storing};
+ghost use Rattle.layout.specs.Octets.{leAt, octetAt};
+ghost use Rattle.layout.specs.Layout.{tickFrom, stateLength, isState, isPlace, kindPlace, sincePlace, recordPlace, recordAt, keyNo, keysIn, putSlot};
+ghost use Rattle.layout.specs.Sweep.{timerNo};
 use crate::KEYS_FROM;
 use crate::KINDS;
 use crate::LENGTH;
 use crate::RECORD_LENGTH;
 use crate::RECORDS;
 use crate::SINCES;
+use crate::TICK;
+use crate::TIMERS;
 use crate::octets::put_u32;
 use crate::octets::u32_at;
 use crate::records::put_record;
@@ -21,6 +25,7 @@ use receiver::PLACES;
 use receiver::Record;
 use receiver::Setup;
 use receiver::meeting;
+use receiver::store;
 
 // Which half is held at a place: 0 none, 1 the first, 2 the second.
 pub fn half_at(b: &[u8], i: usize) -> u8
@@ -33,6 +38,42 @@ pub fn half_at(b: &[u8], i: usize) -> u8
         return 0;
     }
     b[KINDS + i]
+}
+
+// For how many milliseconds more a half stays at a place, by the state's tick: none where its age is its timer or more.
+pub fn left_at(b: &[u8], i: usize) -> u32
+    ensures { λ r. ⌜ r ≡ pick (isPlace (now (b .entry)) i) (timerNo (now (b .entry)) i - wrapSub (leAt 4 (now (b .entry)) tickFrom) (leAt 4 (now (b .entry)) (sincePlace i))) 0 ⌝ }
+{
+    if b.len() != LENGTH {
+        return 0;
+    }
+    if PLACES <= i {
+        return 0;
+    }
+    let timer = store::timer_at(
+        u32_at(b, TIMERS),
+        u32_at(b, TIMERS + 4),
+        u32_at(b, TIMERS + 8),
+        i,
+    );
+    let age = store::elapsed(u32_at(b, TICK), u32_at(b, SINCES + 4 * i));
+    if timer <= age {
+        return 0;
+    }
+    timer - age
+}
+
+// The key at an index.
+pub fn key_at(b: &[u8], i: usize) -> u32
+    ensures { λ r. ⌜ r ≡ pick (both (isState (now (b .entry))) (ltb i keyCount)) (keyNo (now (b .entry)) i) 0 ⌝ }
+{
+    if b.len() != LENGTH {
+        return 0;
+    }
+    if Setup::KEYS <= i {
+        return 0;
+    }
+    u32_at(b, KEYS_FROM + 4 * i)
 }
 
 // The record at a place.

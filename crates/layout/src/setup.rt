@@ -4,14 +4,17 @@ ghost use lib.ListN.{length, replicate};
 ghost use Rattle.receiver.specs.Channels.{keyCount};
 ghost use Rattle.receiver.specs.Model.{keyPlaces};
 ghost use Rattle.arrays.specs.Runs.{stored};
-ghost use Rattle.layout.specs.Layout.{stateLength, keysFrom, keysOctets, freshOctets};
+ghost use Rattle.layout.specs.Layout.{stateLength, isMarked, keysFrom, keysOctets, freshOctets};
 ghost use Rattle.layout.specs.Setup.{SetUp};
 use crate::CELL;
 use crate::KEYS_FROM;
 use crate::LENGTH;
+use crate::MARK;
+use crate::MARKED;
 use crate::TICK;
 use crate::TIMERS;
 use crate::octets::put_u32;
+use crate::octets::u32_at;
 use receiver::NO_KEY;
 use receiver::NO_NLN;
 use receiver::Setup;
@@ -49,6 +52,7 @@ fn fill(b: &mut [u8], s: Setup, keys: &[u32])
     put_u32(b, TIMERS + 4, s.t3208);
     put_u32(b, TIMERS + 8, s.t3210);
     b[CELL] = NO_NLN;
+    put_u32(b, MARK, MARKED);
     put_keys(b, keys);
 }
 
@@ -64,4 +68,14 @@ pub fn setup(b: &mut [u8], s: Setup, keys: &[u32]) -> u8
     }
     fill(b, s, keys);
     0
+}
+
+// Whether the mark of a setup is there. Octets that no setup filled have it only by chance.
+pub fn is_set_up(b: &[u8]) -> bool
+    ensures { λ r. ⌜ r ≡ isMarked (now (b .entry)) ⌝ }
+{
+    if b.len() != LENGTH {
+        return false;
+    }
+    u32_at(b, MARK) == MARKED
 }

@@ -16,11 +16,11 @@ use Rattle.arrays.proofs.Running.{parts-at}
 use Rattle.nch.specs.Told.{noReduced, noRandom}
 use Rattle.nch.specs.Write.{callsOf}
 use Rattle.nch.specs.Owners.{nth, randomsOf, marksOf}
-use Rattle.nch.specs.Places.{callsAt, firstCall, callLength, mostCalls, reducedsAt, firstReduced, reducedLength, mostReduceds, randomsAt, firstRandom, randomLength, mostRandoms, marksAt, firstMark, mostMarks}
+use Rattle.nch.specs.Places.{numberedAt, callsAt, firstCall, callLength, mostCalls, reducedsAt, firstReduced, reducedLength, mostReduceds, randomsAt, firstRandom, randomLength, mostRandoms, marksAt, firstMark, mostMarks, allLength}
 use Rattle.nch.specs.CallNumbers.{callFrom, callBy}
 use Rattle.nch.specs.Inner.{CallFits, reducedFrom, ReducedFits}
 use Rattle.nch.specs.NotificationNumbers.{randomFrom, release6By, release7By, recordFrom, most, Fits, recordBy, reducedBy}
-use Rattle.nch.proofs.NotificationFits.{fits-at, reduced-fits, call-fits}
+use Rattle.nch.proofs.NotificationFits.{mostAt, fits-at, reduced-fits, call-fits}
 use Rattle.receiver.specs.Model.{keyOf}
 use Rattle.receiver.specs.Step.{mostEntries}
 use Rattle.receiver.specs.Entries.{callWith, reducedWith, nchEntries}
@@ -110,27 +110,28 @@ record ReducedNo (ns : List ℕ) (at : ℕ) : Type 0 where
   pub service : getD ns (at + 1) 0 ≤ 1
 
 module _ (ns : List ℕ) (f : Fits ns) where
-  call-numbers : (at : ℕ) → CallFits ns at → at + 5 < 105 → getD most (at + 1) 0 ≡ 1 → getD most (at + 5) 0 ≡ 1 → CallNo ns at
-  call-numbers at c h s d = record { fits = c; service = fits-at ns f (at + 1) 1 (omega arith) s; described = fits-at ns f (at + 5) 1 (omega arith) d }
+  call-numbers : (at : ℕ) → CallFits ns at → at + 5 < allLength → mostAt (at + 1) ≡ 1 → mostAt (at + 5) ≡ 1 → CallNo ns at
+  call-numbers at c h s d =
+      record { fits = c; service = fits-at ns f (at + 1) 1 (omega arith) (omega arith) s; described = fits-at ns f (at + 5) 1 (omega arith) (omega arith) d }
 
   call-no : (i : ℕ) → i < mostCalls → CallNo ns (callAt i)
   unfolding most
-  call-no zero h = call-numbers (callAt 0) (call-fits ns f (callAt 0) (omega arith) refl refl refl refl refl) (omega arith) refl refl
-  call-no (suc zero) h = call-numbers (callAt 1) (call-fits ns f (callAt 1) (omega arith) refl refl refl refl refl) (omega arith) refl refl
-  call-no (suc (suc zero)) h = call-numbers (callAt 2) (call-fits ns f (callAt 2) (omega arith) refl refl refl refl refl) (omega arith) refl refl
-  call-no (suc (suc (suc zero))) h = call-numbers (callAt 3) (call-fits ns f (callAt 3) (omega arith) refl refl refl refl refl) (omega arith) refl refl
+  call-no zero h = call-numbers (callAt 0) (call-fits ns f (callAt 0) (omega arith) (omega arith) refl refl refl refl refl) (omega arith) refl refl
+  call-no (suc zero) h = call-numbers (callAt 1) (call-fits ns f (callAt 1) (omega arith) (omega arith) refl refl refl refl refl) (omega arith) refl refl
+  call-no (suc (suc zero)) h = call-numbers (callAt 2) (call-fits ns f (callAt 2) (omega arith) (omega arith) refl refl refl refl refl) (omega arith) refl refl
+  call-no (suc (suc (suc zero))) h = call-numbers (callAt 3) (call-fits ns f (callAt 3) (omega arith) (omega arith) refl refl refl refl refl) (omega arith) refl refl
   call-no (suc (suc (suc (suc i)))) h = absurd (omega arith)
 
-  reduced-numbers : (at : ℕ) → at + 2 ≤ 105 → getD most at 0 ≡ word → getD most (at + 1) 0 ≡ 1 → ReducedNo ns at
-  reduced-numbers at h r s = record { fits = reduced-fits ns f at h r; service = fits-at ns f (at + 1) 1 (omega arith) s }
+  reduced-numbers : (at : ℕ) → numberedAt ≤ at → at + reducedLength ≤ allLength → mostAt at ≡ word → mostAt (at + 1) ≡ 1 → ReducedNo ns at
+  reduced-numbers at o h r s = record { fits = reduced-fits ns f at o h r; service = fits-at ns f (at + 1) 1 (omega arith) (omega arith) s }
 
   reduced-no : (j : ℕ) → j < mostReduceds → ReducedNo ns (reducedAt j)
   unfolding most
-  reduced-no zero h = reduced-numbers (reducedAt 0) (omega arith) refl refl
-  reduced-no (suc zero) h = reduced-numbers (reducedAt 1) (omega arith) refl refl
-  reduced-no (suc (suc zero)) h = reduced-numbers (reducedAt 2) (omega arith) refl refl
-  reduced-no (suc (suc (suc zero))) h = reduced-numbers (reducedAt 3) (omega arith) refl refl
-  reduced-no (suc (suc (suc (suc zero)))) h = reduced-numbers (reducedAt 4) (omega arith) refl refl
+  reduced-no zero h = reduced-numbers (reducedAt 0) (omega arith) (omega arith) refl refl
+  reduced-no (suc zero) h = reduced-numbers (reducedAt 1) (omega arith) (omega arith) refl refl
+  reduced-no (suc (suc zero)) h = reduced-numbers (reducedAt 2) (omega arith) (omega arith) refl refl
+  reduced-no (suc (suc (suc zero))) h = reduced-numbers (reducedAt 3) (omega arith) (omega arith) refl refl
+  reduced-no (suc (suc (suc (suc zero)))) h = reduced-numbers (reducedAt 4) (omega arith) (omega arith) refl refl
   reduced-no (suc (suc (suc (suc (suc j))))) h = absurd (omega arith)
 
   call-entry-fits : (i : ℕ) → i < mostCalls → (mark : ℕ) → mark < mostMarks → EntryFits ns true (callAt i) mark

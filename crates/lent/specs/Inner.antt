@@ -2,11 +2,12 @@
 use mathlib.Core.Path.{_≡_}
 use mathlib.Core.List.{List}
 use mathlib.Core.Bool.{Bool, true, false}
-use Prim.Native.Nat.{ℕ, _+_, _≤_, _<_}
+use Prim.Native.Nat.{ℕ, _+_, _-_, _*_, _≤_, _<_}
 use lib.ListN.{length, getD}
 use lib.Dec.{eqb}
 use Rattle.bits.specs.Field.{pick}
 use Rattle.arrays.specs.Limits.{word}
+use Rattle.nch.specs.Places.{firstCall, callLength, mostCalls, firstReduced, reducedLength, mostReduceds, mostMarks}
 use Rattle.nch.specs.CallNumbers.{callFrom}
 use Rattle.nch.specs.Inner.{CallFits, reducedFrom, ReducedFits}
 use Rattle.nch.specs.NotificationNumbers.{recordFrom}
@@ -28,12 +29,19 @@ abbrev pub entryFrom : List ℕ → Bool → ℕ → ℕ → ℕ → Record
 entryFrom ns full at random mark =
     pick full (callWith (recordFrom ns) random mark (callFrom ns at)) (reducedWith (recordFrom ns) random (reducedFrom ns at))
 
+-- where the last call and the last reduced reference stand
+abbrev pub lastCall : ℕ
+lastCall = firstCall + callLength * (mostCalls - 1)
+
+abbrev pub lastReduced : ℕ
+lastReduced = firstReduced + reducedLength * (mostReduceds - 1)
+
 -- its numbers fit their fields
 pub record EntryFits (ns : List ℕ) (full : Bool) (at mark : ℕ) : Type 0 where
-  pub there : at ≤ 59
+  pub there : at ≤ lastReduced
   pub reference : getD ns at 0 ≤ word
   pub service : getD ns (at + 1) 0 ≤ 1
-  pub call : full ≡ true → CallFits ns at × ((at ≤ 36) × (mark < 4))
+  pub call : full ≡ true → CallFits ns at × ((at ≤ lastCall) × (mark < mostMarks))
   pub reduced : full ≡ false → ReducedFits ns at
 
 -- ## An entry, and all of them, told in place

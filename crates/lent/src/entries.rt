@@ -7,11 +7,12 @@ ghost use Rattle.bits.specs.Field.{pick};
 ghost use Rattle.call.specs.Call.{ciphered};
 ghost use Rattle.nch.specs.Write.{isDescribed};
 ghost use Rattle.nch.specs.Owners.{nth, orNot, randomsOf, marksOf};
+ghost use Rattle.nch.specs.Places.{mostRandoms, mostMarks};
 ghost use Rattle.nch.specs.CallNumbers.{callFrom};
 ghost use Rattle.nch.specs.Inner.{CallFits, reducedFrom, ReducedFits};
 ghost use Rattle.nch.specs.NotificationNumbers.{recordFrom, Fits};
 ghost use Rattle.receiver.specs.Entries.{nchCommon, ownedOf, reducedCall, callWith, reducedWith};
-ghost use Rattle.lent.specs.Inner.{entryFrom, EntryFits};
+ghost use Rattle.lent.specs.Inner.{entryFrom, lastCall, lastReduced, EntryFits};
 use call::Call;
 use nch::places;
 use receiver::Common;
@@ -42,7 +43,7 @@ fn common_from(m: &[u64]) -> Common
 
 // The k-th random entry in use, counted from 0.
 fn random_at(m: &[u64], k: usize) -> Owned
-    requires { ⌜ Fits (now m) × (k < 9) ⌝ }
+    requires { ⌜ Fits (now m) × (k < mostRandoms) ⌝ }
     ensures { λ r. ⌜ r ≡ ownedOf (nth k (randomsOf (recordFrom (now (m .entry))))) ⌝ }
 {
     if m[places::RANDOMS] as usize <= k {
@@ -59,7 +60,7 @@ fn random_at(m: &[u64], k: usize) -> Owned
 
 // Only a ciphered call owns a random entry.
 fn random_of_call(m: &[u64], at: usize, k: usize) -> Owned
-    requires { ⌜ Fits (now m) × ((k < 9) × (at ≤ 36)) ⌝ }
+    requires { ⌜ Fits (now m) × ((k < mostRandoms) × (at ≤ lastCall)) ⌝ }
     ensures { λ r. ⌜ r ≡ ownedOf (pick (ciphered (callFrom (now (m .entry)) at)) (nth k (randomsOf (recordFrom (now (m .entry))))) none) ⌝ }
 {
     if m[at + 4] < 1 {
@@ -70,7 +71,7 @@ fn random_of_call(m: &[u64], at: usize, k: usize) -> Owned
 
 // Only a call with a description owns an emergency mark: the k-th in use, and without one it is in no emergency.
 fn emergency_of_call(m: &[u64], at: usize, k: usize) -> bool
-    requires { ⌜ Fits (now m) × ((k < 4) × (at ≤ 36)) ⌝ }
+    requires { ⌜ Fits (now m) × ((k < mostMarks) × (at ≤ lastCall)) ⌝ }
     ensures { λ r. ⌜ r ≡ pick (isDescribed (callFrom (now (m .entry)) at)) (orNot (nth k (marksOf (recordFrom (now (m .entry)))))) false ⌝ }
 {
     if m[at + 5] != 1 {
@@ -84,7 +85,7 @@ fn emergency_of_call(m: &[u64], at: usize, k: usize) -> bool
 
 // The entry of the call whose numbers stand at a place, with the random entry and the mark at these places where it owns one.
 fn call_entry(m: &[u64], at: usize, random: usize, mark: usize) -> Record
-    requires { ⌜ Fits (now m) × (CallFits (now m) at × ((at ≤ 36) × ((random < 9) × (mark < 4)))) ⌝ }
+    requires { ⌜ Fits (now m) × (CallFits (now m) at × ((at ≤ lastCall) × ((random < mostRandoms) × (mark < mostMarks)))) ⌝ }
     ensures { λ r. ⌜ r ≡ callWith (recordFrom (now (m .entry))) random mark (callFrom (now (m .entry)) at) ⌝ }
 {
     let o = random_of_call(m, at, random);
@@ -102,7 +103,7 @@ fn call_entry(m: &[u64], at: usize, random: usize, mark: usize) -> Record
 
 // What a reduced reference says of its call.
 fn reduced_call(m: &[u64], at: usize) -> Call
-    requires { ⌜ ReducedFits (now m) at × (at ≤ 59) ⌝ }
+    requires { ⌜ ReducedFits (now m) at × (at ≤ lastReduced) ⌝ }
     ensures { λ c. ⌜ c ≡ reducedCall (reducedFrom (now (m .entry)) at) ⌝ }
 {
     let mut c = call::no_call();
@@ -113,7 +114,7 @@ fn reduced_call(m: &[u64], at: usize) -> Call
 
 // The entry of the reduced reference whose numbers stand at a place. It has no mark.
 fn reduced_entry(m: &[u64], at: usize, random: usize) -> Record
-    requires { ⌜ Fits (now m) × (ReducedFits (now m) at × ((at ≤ 59) × (random < 9))) ⌝ }
+    requires { ⌜ Fits (now m) × (ReducedFits (now m) at × ((at ≤ lastReduced) × (random < mostRandoms))) ⌝ }
     ensures { λ r. ⌜ r ≡ reducedWith (recordFrom (now (m .entry))) random (reducedFrom (now (m .entry)) at) ⌝ }
 {
     let o = random_at(m, random);
@@ -131,7 +132,7 @@ fn reduced_entry(m: &[u64], at: usize, random: usize) -> Record
 
 // The entry whose numbers stand at a place.
 pub(crate) fn entry_at(m: &[u64], full: bool, at: usize, random: usize, mark: usize) -> Record
-    requires { ⌜ Fits (now m) × ((random < 9) × EntryFits (now m) full at mark) ⌝ }
+    requires { ⌜ Fits (now m) × ((random < mostRandoms) × EntryFits (now m) full at mark) ⌝ }
     ensures { λ r. ⌜ r ≡ entryFrom (now (m .entry)) full at random mark ⌝ }
 {
     if full {

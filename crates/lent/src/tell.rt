@@ -2,6 +2,7 @@
 ghost use mathlib.Core.Path.{_≡_};
 ghost use Prim.Native.Nat.{_<_, _≤_};
 ghost use lib.ListN.{length};
+ghost use Rattle.nch.specs.Places.{mostRandoms};
 ghost use Rattle.nch.specs.NotificationNumbers.{recordFrom, Fits};
 ghost use Rattle.receiver.specs.Channels.{channels, keyCount, places, placeOn};
 ghost use Rattle.receiver.specs.Model.{keyOf, meetOf};
@@ -132,7 +133,7 @@ fn tell_numbers(
     random: usize,
     mark: usize,
 )
-    requires { ⌜ (length (now b) ≡ stateLength) × ((j < mostEntries) × (Fits (now m) × ((random < 9) × EntryFits (now m) full at mark))) ⌝ }
+    requires { ⌜ (length (now b) ≡ stateLength) × ((j < mostEntries) × (Fits (now m) × ((random < mostRandoms) × EntryFits (now m) full at mark))) ⌝ }
     ensures { λ _. ⌜ Telling (now (b .entry)) 0 tick j (entryFrom (now (m .entry)) full at random mark) (now (b .exit)) ⌝ }
 {
     let key = m[at] * 2 + m[at + 1];

@@ -4,18 +4,18 @@ use mathlib.Core.Option.{Option}
 use Prim.Native.Nat.{ℕ, _+_, _-_}
 use Rattle.csn1.specs.Told.{isThere, asBit}
 use Rattle.nch.specs.Told.{orFalse}
-use Rattle.nch.specs.Places.{release6At, release7At, privateAt}
+use Rattle.nch.specs.Places.{numberedAt, release6At, release7At, privateAt}
 
--- how many numbers each release has
+-- how many numbers a record has, behind that of the bits used
+abbrev pub recordLength : ℕ
+recordLength = privateAt + 1 - numberedAt
+
+-- how many each release has
 abbrev pub release6Length : ℕ
 release6Length = release7At - release6At
 
 abbrev pub release7Length : ℕ
 release7Length = privateAt + 1 - release7At
-
--- where the number of bits used stands
-abbrev pub usedAt : ℕ
-usedAt = privateAt + 1
 
 abbrev pub uplinkRun : Option ℕ → List ℕ
 uplinkRun v = asBit (isThere v) ∷ asBit (orFalse v) ∷ []

@@ -1,6 +1,6 @@
 -- The whole notification read into an array of zeros: what its reader passes on, and what then stands in the array. Assumes nothing.
-use mathlib.Core.Path.{_≡_, refl, sym, ap, _∙_}
-use mathlib.Core.List.{List, [], _∷_, _++_}
+use mathlib.Core.Path.{_≡_, refl, sym, ap, ap₂, _∙_}
+use mathlib.Core.List.{List, [], _∷_}
 use mathlib.Core.Bool.{Bool, true, false}
 use mathlib.Core.Option.{Option}
 use Prim.Native.Nat.{ℕ, _+_, _*_, _≤_, _<_}
@@ -18,7 +18,7 @@ use Rattle.csn1.specs.Told.{asBit, isThere, orZero, padded, flaggedAt, flaggedO
 use Rattle.csn1.proofs.Writing.{flag-byte}
 use Rattle.arrays.specs.Runs.{stored}
 use Rattle.arrays.specs.Inner.{Zeros, Filled, Left}
-use Rattle.arrays.proofs.Running.{more, stored-one, length-run}
+use Rattle.arrays.proofs.Running.{stored-led, length-run}
 use Rattle.arrays.proofs.Filling.{padded-whole}
 use Rattle.arrays.proofs.Zeroed.{zeros-later, zeros-set, zeros-behind, zeros-run, zeros-cleared, over-zeros, left-bad, left-ok, left-stored}
 use Rattle.call.specs.Call.{groupCall, callOf, noCall}
@@ -28,15 +28,15 @@ use Rattle.nch.specs.declared.additions.Release6Passed.{Release6Passed}
 use Rattle.nch.specs.declared.additions.PartPassed.{PartPassed}
 use Rattle.nch.specs.Octets.{Value, notification, release6, release7, readOctets}
 use Rattle.nch.specs.Told.{recordOf, readingOf, readOf}
-use Rattle.nch.specs.Places.{numberedAt, nlnAt, callsAt, callLength, mostCalls, release6At, release7At, recordLength}
-use Rattle.nch.specs.Inner.{allLength, callsPassed, partPassed, release6Passed, release7Passed, callsRun, release6Run, release7Run, allRun}
-use Rattle.nch.proofs.Ends.{usedAt, release6Length}
+use Rattle.nch.specs.Places.{numberedAt, nlnAt, callsAt, callLength, mostCalls, release6At, release7At, usedAt, allLength}
+use Rattle.nch.specs.Inner.{callsPassed, partPassed, release6Passed, release7Passed, callsRun, release6Run, release7Run, allRun}
+use Rattle.nch.proofs.Ends.{release6Length}
 use Rattle.nch.specs.CallNumbers.{callNumbers}
 use Rattle.nch.specs.NotificationNumbers.{numbersOf, readNumbers}
 use Rattle.nch.proofs.Round.{notification-lawful}
 use Rattle.nch.proofs.Whole as whole
 use Rattle.nch.proofs.Lengths.{length-call}
-use Rattle.nch.proofs.NotificationRuns.{length-six, all-runs, length-all, value-shaped, length-read}
+use Rattle.nch.proofs.NotificationRuns.{length-six, all-runs, value-shaped, length-read}
 use Rattle.nch.proofs.NotificationBack.{refused-zeros}
 
 -- ## What the reader of the whole leaves
@@ -130,7 +130,7 @@ module _ (s : List ℕ) (t : length s ≡ 20) (l : List ℕ) (y : Zeros l number
 -- ## In an array of any length
 
 pub zeros-in : (n : ℕ) (l : List ℕ) → l ≡ padded 0 n [] → Zeros l numberedAt
-zeros-in n l e k m = ap (λ (x : List ℕ). getD x k 0) e ∙ zeros-cleared n k m
+zeros-in n l e k m = ap (λ (x : List ℕ). getD x k 0) e ∙ zeros-cleared n k (omega arith)
 
 -- the refusal that is passed on is that of the reading
 pub refusal-read : (s : List ℕ) (r : PartPassed) → r ≡ partPassed (readOctets s) → r .refusal ≡ readOf s .refusal
@@ -148,18 +148,18 @@ grounded s = go (eqb (length s) 20)
     go true = notification-lawful .grounds s 0
     go false = omega arith
 
--- what is read stands in zeros, with the number of bits used behind it
+-- what is read stands in zeros, with the number of bits used before it
 pub filled-in : (s : List ℕ) (n : ℕ) (l l′ : List ℕ) (r : PartPassed) → l ≡ padded 0 n [] → LeftAll s r l l′ → r .refusal .number ≡ 0
     → set l′ usedAt (r .at) ≡ padded 0 n (readNumbers s)
 unfolding readNumbers
 filled-in s n l l′ r e f z = go (readOctets s) (grounded s) (f .0) (f .1)
   where
     go : (x : Res Value) → Grounded x → r ≡ partPassed x → Filled allRun numberedAt x l l′
-        → set l′ usedAt (r .at) ≡ padded 0 n (numbersOf (readingOf x .«record») ++ (readingOf x .used ∷ []))
+        → set l′ usedAt (r .at) ≡ padded 0 n (readingOf x .used ∷ numbersOf (readingOf x .«record»))
     go (ok v q) g p o =
-        more recordLength l l′ (set l′ usedAt (r .at)) numberedAt (numbersOf (recordOf v)) (q ∷ []) o (length-all (recordOf v) (value-shaped v))
-        (ap (set l′ usedAt) (ap (λ (x : PartPassed). x .at) p) ∙ stored-one l′ usedAt q)
-        ∙ ap (λ (x : List ℕ). stored x numberedAt (numbersOf (recordOf v) ++ (q ∷ []))) e ∙ over-zeros n (numbersOf (recordOf v) ++ (q ∷ []))
+        ap₂ (λ (x : List ℕ) (k : ℕ). set x usedAt k) o (ap (λ (x : PartPassed). x .at) p)
+        ∙ stored-led l usedAt q (numbersOf (recordOf v))
+        ∙ ap (λ (x : List ℕ). stored x usedAt (q ∷ numbersOf (recordOf v))) e ∙ over-zeros n (q ∷ numbersOf (recordOf v))
     go (bad w) g p o = absurd (let m : r .refusal .number ≡ w .number = ap (λ (x : PartPassed). x .refusal .number) p in omega arith)
 
 -- what is refused leaves zeros

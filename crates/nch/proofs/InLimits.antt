@@ -17,7 +17,7 @@ use Rattle.bits.proofs.Answers.{both-true}
 use Rattle.arrays.specs.Limits.{within, flag, octet, long, times}
 use Rattle.arrays.specs.Runs.{each}
 use Rattle.arrays.proofs.Filling.{padded-whole}
-use Rattle.arrays.proofs.Within.{Held, within-append, held-append, run-held}
+use Rattle.arrays.proofs.Within.{Held, held-append, run-held}
 use Rattle.call.specs.declared.Call.{Call}
 use Rattle.call.specs.declared.Description.{Description}
 use Rattle.call.specs.Call.{groupCall, callOf, noCall, oneToEight}
@@ -27,17 +27,15 @@ use Rattle.nch.specs.declared.Release7.{Release7}
 use Rattle.nch.specs.Octets.{Release6Value, Release7Value, Value, reduced, random, release6, release7, readOctets}
 use Rattle.nch.specs.Told.{reducedOf, noReduced, randomOf, noRandom, release6Of, release7Of, recordOf, readOf}
 use Rattle.nch.specs.Write.{flaggedRight}
-use Rattle.nch.specs.Places.{mostCalls, mostReduceds, mostRandoms, mostMarks}
-use Rattle.nch.specs.Inner.{allLength}
-use Rattle.nch.proofs.Ends.{usedAt}
+use Rattle.nch.specs.Places.{mostCalls, mostReduceds, mostRandoms, mostMarks, usedAt, allLength}
 use Rattle.nch.specs.CallNumbers.{callNumbers, callMost}
-use Rattle.nch.specs.NotificationNumbers.{reducedNumbers, randomNumbers, markNumbers, release6Numbers, partsNumbers, release7Numbers, numbersOf, readNumbers, recordFrom, headMost, reducedMost, randomMost, release6Most, partsMost, release7Most, most, Fits}
+use Rattle.nch.specs.NotificationNumbers.{reducedNumbers, randomNumbers, markNumbers, release6Numbers, partsNumbers, release7Numbers, numbersOf, readNumbers, recordFrom, headMost, reducedMost, randomMost, release6Most, partsMost, release7Most, most, fieldsHold, Fits}
 use Rattle.nch.proofs.Releases.{Right6, Right7, reduced-range}
 use Rattle.nch.proofs.Record.{Right, Fits as Said}
 use Rattle.nch.proofs.Round.{Accepted, read-accepted, again-right}
 use Rattle.nch.proofs.Lengths.{length-call, length-reduced, length-random, length-mark, length-parts}
-use Rattle.nch.proofs.NotificationRuns.{length-all, length-read, shaped}
-use Rattle.nch.proofs.NotificationBack.{record-back-from, used-back, refused-zeros}
+use Rattle.nch.proofs.NotificationRuns.{length-read, shaped}
+use Rattle.nch.proofs.NotificationBack.{record-back, refused-zeros}
 
 -- ## A call
 
@@ -196,23 +194,19 @@ value-within : (v : Value) → Said v → Right (recordOf v) → within (numbers
 unfolding most
 value-within v f t = value-held v f t .1
 
-accepted-within : (s : List ℕ) → Accepted s (readOf s) → within (readNumbers s) most ≡ true
-unfolding within readNumbers most
-accepted-within s a =
-    let m = readOf s .«record» in
-    let e : within (numbersOf m) most ≡ true =
-    rw (a .told) (value-within (a .value) (a .fitting) (rw (a .told) at (again-right s (readOf s) a))) in
-    within-append (numbersOf m) most (readOf s .used ∷ []) [] (length-all m (shaped (readOctets s))) e refl
+accepted-within : (s : List ℕ) → Accepted s (readOf s) → fieldsHold (readNumbers s) ≡ true
+unfolding readNumbers
+accepted-within s a = rw (a .told) (value-within (a .value) (a .fitting) (rw (a .told) at (again-right s (readOf s) a)))
 
-zeros-within : within (replicate allLength 0) most ≡ true
+zeros-within : fieldsHold (replicate allLength 0) ≡ true
 unfolding within most
 zeros-within = refl
 
 -- what was read stands within the limits, refused or not
-held-read : (s : List ℕ) → within (readNumbers s) most ≡ true
+held-read : (s : List ℕ) → fieldsHold (readNumbers s) ≡ true
 held-read s = go (eqb (readOf s .refusal .number) 0) refl
   where
-    go : (t : Bool) → eqb (readOf s .refusal .number) 0 ≡ t → within (readNumbers s) most ≡ true
+    go : (t : Bool) → eqb (readOf s .refusal .number) 0 ≡ t → fieldsHold (readNumbers s) ≡ true
     go false e =
         rw (refused-zeros s (λ z. absurd (let n : _≡_ {A = Bool} true false = sym (eq-eqb (readOf s .refusal .number) 0 z) ∙ e in let o : _≡_ {A = ℕ} 1 0 = ap asBit n in omega arith)))
         zeros-within
@@ -225,11 +219,11 @@ read-fits s = record { long = omega (arith, length-read s); held = held-read s }
 
 pub record-read : (s : List ℕ) → recordFrom (readNumbers s) ≡ readOf s .«record»
 unfolding readNumbers
-record-read s = record-back-from (readOf s .«record») (readOf s .used ∷ []) (shaped (readOctets s))
+record-read s = record-back (readOf s .«record») (readOf s .used) (shaped (readOctets s))
 
 pub used-read : (s : List ℕ) → getD (readNumbers s) usedAt 0 ≡ readOf s .used
 unfolding readNumbers
-used-read s = used-back (readOf s .«record») (readOf s .used) (shaped (readOctets s))
+used-read s = refl
 
 -- an array of as many places holds them all
 pub read-whole : (s all : List ℕ) → all ≡ padded 0 allLength (readNumbers s) → all ≡ readNumbers s

@@ -1,6 +1,6 @@
 -- NT/N Rest Octets: from a record to its numbers and back, and from numbers to their record and back. Assumes nothing.
-use mathlib.Core.Path.{_≡_, refl, sym, ap, _∙_}
-use mathlib.Core.List.{List, [], _∷_, _++_, append-nil}
+use mathlib.Core.Path.{_≡_, refl, ap, _∙_}
+use mathlib.Core.List.{List, [], _∷_}
 use mathlib.Core.Bool.{Bool, true, false}
 use Prim.Native.Nat.{ℕ, zero, suc, _+_, _≤_}
 use native.Mathlib.Nat.{add-zero, add-suc}
@@ -23,9 +23,8 @@ use Rattle.nch.specs.declared.Notification.{Notification}
 use Rattle.csn1.specs.Format.{Res, ok, bad}
 use Rattle.nch.specs.Octets.{Value, readOctets}
 use Rattle.nch.specs.Told.{Shaped, noReduced, noRandom, readingOf, readOf}
-use Rattle.nch.specs.Places.{mostCalls, mostReduceds, mostRandoms, mostMarks, recordLength}
-use Rattle.nch.specs.Inner.{allLength}
-use Rattle.nch.proofs.Ends.{usedAt}
+use Rattle.nch.specs.Places.{mostCalls, mostReduceds, mostRandoms, mostMarks, numberedAt, allLength}
+use Rattle.nch.proofs.Ends.{recordLength}
 use Rattle.nch.specs.CallNumbers.{callNumbers, descriptionBy, callBy}
 use Rattle.nch.specs.NotificationNumbers.{reducedNumbers, randomNumbers, markNumbers, release6Numbers, partsNumbers, release7Numbers, numbersOf, reducedBy, randomFrom, release6By, release7By, recordBy, recordFrom, readNumbers, most, Fits}
 
@@ -74,13 +73,18 @@ through-same (n ∷ ns) (m ∷ ms) e =
     let b = both-true (leb n m) (within ns ms) e in
     rw (through-one (eqb m 1) n m refl (leb-true n m (b .0)), through-same ns ms (b .1))
 
-through-all : (ns : List ℕ) → numbersOf (recordFrom ns) ≡ through (tabled ns 0 recordLength) most
+-- those behind the first
+tabled-rest : (l : List ℕ) (n : ℕ) → length l ≡ n + 1 → tabled l 1 n ≡ drop 1 l
+tabled-rest [] n e = absurd (omega arith)
+tabled-rest (x ∷ l) n e = tabled-behind x l 0 n ∙ tabled-all l n (omega arith)
+
+through-all : (ns : List ℕ) → numbersOf (recordFrom ns) ≡ through (tabled ns numberedAt recordLength) most
 unfolding tabled through most each callNumbers descriptionBy callBy reducedNumbers randomNumbers markNumbers release6Numbers partsNumbers release7Numbers numbersOf reducedBy randomFrom release6By release7By recordBy
 through-all ns = refl
 
-pub numbers-back : (ns : List ℕ) → length ns ≡ recordLength → Fits ns → numbersOf (recordFrom ns) ≡ ns
+pub numbers-back : (ns : List ℕ) → length ns ≡ allLength → Fits ns → numbersOf (recordFrom ns) ≡ drop numberedAt ns
 numbers-back ns n f =
-    through-all ns ∙ ap (λ (l : List ℕ). through l most) (tabled-all ns recordLength n) ∙ through-same ns most (f .held)
+    through-all ns ∙ ap (λ (l : List ℕ). through l most) (tabled-rest ns recordLength n) ∙ through-same (drop numberedAt ns) most (f .held)
 
 -- ## From a record to its numbers and back
 
@@ -158,28 +162,17 @@ spread-same m s =
     ∙ ap (λ (e : List Bool). with-arrays m (m .calls) (m .release6 .reduced) (m .release6 .randoms) e)
     (spread-all false mostMarks (m .release7 .marks) (s .marks))
 
--- whatever stands behind its numbers
-spread-back : (m : Notification) (rest : List ℕ) → recordFrom (numbersOf (spread-out m) ++ rest) ≡ spread-out m
+-- whatever number stands before its own
+spread-back : (m : Notification) (used : ℕ) → recordFrom (used ∷ numbersOf (spread-out m)) ≡ spread-out m
 unfolding spread-out spread each callNumbers descriptionBy callBy reducedNumbers randomNumbers markNumbers release6Numbers partsNumbers release7Numbers numbersOf reducedBy randomFrom release6By release7By recordBy
-spread-back m rest = simp flag-back
+spread-back m used = simp flag-back
 
-pub record-back-from : (m : Notification) (rest : List ℕ) → Shaped m → recordFrom (numbersOf m ++ rest) ≡ m
-record-back-from m rest s = rw (spread-same m s) at (spread-back m rest)
-
-pub record-back : (m : Notification) → Shaped m → recordFrom (numbersOf m) ≡ m
-record-back m s = ap recordFrom (sym (append-nil (numbersOf m))) ∙ record-back-from m [] s
-
--- the number behind them
-spread-used : (m : Notification) (used : ℕ) → getD (numbersOf (spread-out m) ++ (used ∷ [])) usedAt 0 ≡ used
-unfolding spread-out spread each callNumbers reducedNumbers randomNumbers markNumbers release6Numbers partsNumbers release7Numbers numbersOf
-spread-used m used = refl
-
-pub used-back : (m : Notification) (used : ℕ) → Shaped m → getD (numbersOf m ++ (used ∷ [])) usedAt 0 ≡ used
-used-back m used s = rw (spread-same m s) at (spread-used m used)
+pub record-back : (m : Notification) (used : ℕ) → Shaped m → recordFrom (used ∷ numbersOf m) ≡ m
+record-back m used s = rw (spread-same m s) at (spread-back m used)
 
 -- ## A refused reading is all zeros
 
-bad-zeros : (r : Res Value) → (readingOf r .refusal .number ≡ 0 → ⊥) → numbersOf (readingOf r .«record») ++ (readingOf r .used ∷ []) ≡ replicate allLength 0
+bad-zeros : (r : Res Value) → (readingOf r .refusal .number ≡ 0 → ⊥) → readingOf r .used ∷ numbersOf (readingOf r .«record») ≡ replicate allLength 0
 unfolding numbersOf each callNumbers reducedNumbers randomNumbers markNumbers release6Numbers partsNumbers release7Numbers
 bad-zeros (bad r) h = refl
 bad-zeros (ok v q) h = absurd (h refl)

@@ -3,7 +3,7 @@ use mathlib.Core.Path.{_≡_, refl, ap, sym, _∙_}
 use mathlib.Core.List.{List, [], _∷_, _++_, map, append-assoc}
 use mathlib.Core.Bool.{false}
 use mathlib.Core.Option.{Option, none, some}
-use Prim.Native.Nat.{ℕ, _+_, _-_, _*_}
+use Prim.Native.Nat.{ℕ, suc, _-_, _*_}
 use native.Mathlib.Omega.{arith}
 use lib.ListN.{length, length-append}
 use Rattle.csn1.specs.Format.{Res, ok, bad}
@@ -17,9 +17,8 @@ use Rattle.nch.specs.declared.Release7.{Release7}
 use Rattle.nch.specs.declared.Notification.{Notification}
 use Rattle.nch.specs.Octets.{Release6Value, Release7Value, Value, readOctets}
 use Rattle.nch.specs.Told.{readOf, readingOf, release6Of, release7Of, reducedOf, randomOf, noReduced, noRandom, recordOf, Shaped}
-use Rattle.nch.specs.Places.{numberedAt, callsAt, callLength, mostCalls, release6At, reducedsAt, reducedLength, mostReduceds, randomsAt, randomLength, mostRandoms, release7At, marksAt, mostMarks, uplinkedAt, amrAt, smsAt, recordLength}
-use Rattle.nch.specs.Inner.{allLength}
-use Rattle.nch.proofs.Ends.{release6Length, release7Length}
+use Rattle.nch.specs.Places.{numberedAt, callsAt, callLength, mostCalls, release6At, reducedsAt, reducedLength, mostReduceds, randomsAt, randomLength, mostRandoms, release7At, marksAt, mostMarks, uplinkedAt, amrAt, smsAt, allLength}
+use Rattle.nch.proofs.Ends.{recordLength, release6Length, release7Length}
 use Rattle.nch.specs.CallNumbers.{callNumbers}
 use Rattle.nch.specs.NotificationNumbers.{reducedNumbers, randomNumbers, markNumbers, release6Numbers, partsNumbers, release7Numbers, numbersOf, readNumbers}
 use Rattle.nch.proofs.Lengths.{length-call, length-reduced, length-random, length-mark, length-parts}
@@ -150,6 +149,4 @@ shaped (ok v q) = value-shaped v
 
 pub length-read : (s : List ℕ) → length (readNumbers s) ≡ allLength
 unfolding readNumbers
-length-read s =
-    length-append (numbersOf (readOf s .«record»)) (readOf s .used ∷ [])
-    ∙ ap (λ (k : ℕ). k + 1) (length-all (readOf s .«record») (shaped (readOctets s)))
+length-read s = ap suc (length-all (readOf s .«record») (shaped (readOctets s)))

@@ -19,7 +19,7 @@ use Rattle.nch.specs.declared.additions.Release6Passed.{Release6Passed}
 use Rattle.nch.specs.declared.additions.PartPassed.{PartPassed}
 use Rattle.nch.specs.Octets.{Release6Value, AmrValue, Release7Value, Value, count, cipheredValue, describedValue, reducedsIn, randomsIn, marksIn}
 use Rattle.nch.specs.Told.{reducedOf, noReduced, randomOf, noRandom, release6Of, fullRate, halfRate, confidentiality, privacy, release7Of, recordOf}
-use Rattle.nch.specs.Places.{mostCalls, reducedLength, mostReduceds, mostRandoms, mostMarks, recordLength}
+use Rattle.nch.specs.Places.{mostCalls, reducedLength, mostReduceds, mostRandoms, mostMarks}
 use Rattle.nch.specs.CallNumbers.{callNumbers, whole}
 use Rattle.nch.specs.NotificationNumbers.{reducedNumbers, randomNumbers, markNumbers, release6Numbers, release7Numbers, numbersOf, reducedBy}
 
@@ -75,10 +75,6 @@ release7Run v = release7Numbers (release7Of v)
 
 abbrev pub allRun : Value → List ℕ
 allRun v = numbersOf (recordOf v)
-
--- how many numbers there are with the number of bits used
-abbrev pub allLength : ℕ
-allLength = recordLength + 1
 
 -- ## What is told of numbers
 

@@ -3,7 +3,7 @@ use mathlib.Core.List.{List, [], _∷_, _++_}
 use mathlib.Core.Bool.{Bool, true}
 use mathlib.Core.Path.{_≡_}
 use Prim.Native.Nat.{ℕ, _+_, _≤_}
-use lib.ListN.{length, getD}
+use lib.ListN.{length, getD, drop}
 use lib.Dec.{eqb}
 use Rattle.bits.specs.Field.{pick, firstDue}
 use Rattle.csn1.specs.Told.{isOne, asBit}
@@ -17,7 +17,7 @@ use Rattle.nch.specs.declared.Notification.{Notification}
 use Rattle.nch.specs.Told.{readOf}
 use Rattle.nch.specs.Write as records
 use Rattle.nch.specs.CallNumbers.{callNumbers, callMost, Fields, whole, callBy}
-use Rattle.nch.specs.Places.{numberedAt, nlnAt, callsAt, firstCall, callLength, mostCalls, release6At, countedAt, cellcountAt, reducedsAt, firstReduced, reducedLength, mostReduceds, randomsAt, firstRandom, randomLength, mostRandoms, release7At, marksAt, firstMark, mostMarks, uplinkedAt, uplinkAt, amrAt, fullratedAt, fullrateAt, halfratedAt, halfrateAt, smsAt, confidentialAt, privateAt, recordLength}
+use Rattle.nch.specs.Places.{numberedAt, nlnAt, callsAt, firstCall, callLength, mostCalls, release6At, countedAt, cellcountAt, reducedsAt, firstReduced, reducedLength, mostReduceds, randomsAt, firstRandom, randomLength, mostRandoms, release7At, marksAt, firstMark, mostMarks, uplinkedAt, uplinkAt, amrAt, fullratedAt, fullrateAt, halfratedAt, halfrateAt, smsAt, confidentialAt, privateAt, allLength}
 
 -- ## A record's numbers
 
@@ -68,11 +68,11 @@ numbersOf m =
     ++ release6Numbers (m .release6)
     ++ release7Numbers (m .release7)
 
--- what is read of any octets: the record's numbers, and behind them the number of bits used
+-- what is read of any octets: the number of bits used, and behind it the record's numbers
 unfoldable pub readNumbers : List ℕ → List ℕ
-readNumbers s = numbersOf (readOf s .«record») ++ (readOf s .used ∷ [])
+readNumbers s = readOf s .used ∷ numbersOf (readOf s .«record»)
 
--- ## A record from its numbers
+-- ## A record from its numbers, each at its place behind the number of bits used
 
 unfoldable pub reducedBy : Fields → List ℕ → ℕ → Reduced
 reducedBy f ns at = record { reference = f .word (getD ns at 0); vgcs = isOne (getD ns (at + 1) 0) }
@@ -126,7 +126,7 @@ recordFrom ns = recordBy whole ns
 
 -- ## Writing
 
--- the largest number of each field
+-- the largest number of each field of a record
 abbrev pub headMost : List ℕ
 headMost = flag ∷ octet ∷ long ∷ []
 
@@ -148,15 +148,19 @@ release7Most = (flag ∷ long ∷ []) ++ times mostMarks (flag ∷ []) ++ partsM
 unfoldable pub most : List ℕ
 most = headMost ++ times mostCalls callMost ++ release6Most ++ release7Most
 
--- there are as many numbers as a record has, or more, and each fits its field
-pub record Fits (ns : List ℕ) : Type 0 where
-  pub long : recordLength ≤ length ns
-  pub held : within ns most ≡ true
+-- every field of the record can hold its number; the number of bits used is not looked at
+abbrev pub fieldsHold : List ℕ → Bool
+fieldsHold ns = within (drop numberedAt ns) most
 
--- 13 where there are not as many numbers as a record has, 12 where a field cannot hold its number, then what the writer refuses of the record and n octets
+-- there are as many numbers as a reader leaves, or more, and each fits its field
+pub record Fits (ns : List ℕ) : Type 0 where
+  pub long : allLength ≤ length ns
+  pub held : fieldsHold ns ≡ true
+
+-- 13 where there are not as many numbers as a reader leaves, 12 where a field cannot hold its number, then what the writer refuses of the record and n octets
 unfoldable pub writeCode : List ℕ → ℕ → ℕ
-writeCode ns n = firstDue ((eqb (length ns) recordLength, 13) ∷ (within ns most, 12) ∷ records.writeTests (recordFrom ns) n)
+writeCode ns n = firstDue ((eqb (length ns) allLength, 13) ∷ (fieldsHold ns, 12) ∷ records.writeTests (recordFrom ns) n)
 
 -- what the writer leaves of the octets b: where it refuses, b
 unfoldable pub afterWrite : List ℕ → List ℕ → List ℕ
-afterWrite ns b = pick (eqb (length ns) recordLength) (pick (within ns most) (records.afterWrite (recordFrom ns) b) b) b
+afterWrite ns b = pick (eqb (length ns) allLength) (pick (fieldsHold ns) (records.afterWrite (recordFrom ns) b) b) b

@@ -1,9 +1,13 @@
 -- Where the numbers of NT/N Rest Octets stand in an array: each place behind the one before it, as in src/places.rt. Assumes nothing.
 use Prim.Native.Nat.{ℕ, _+_, _-_, _*_}
 
+-- the number of bits used, which a reader leaves and no writer looks at
+abbrev pub usedAt : ℕ
+usedAt = 0
+
 -- NLN there, NLN, how many calls, and the calls
 abbrev pub numberedAt : ℕ
-numberedAt = 0
+numberedAt = usedAt + 1
 
 abbrev pub nlnAt : ℕ
 nlnAt = numberedAt + 1
@@ -99,6 +103,6 @@ confidentialAt = smsAt + 1
 abbrev pub privateAt : ℕ
 privateAt = confidentialAt + 1
 
--- the record's numbers; where a message was read, the number of bits used stands behind them
-abbrev pub recordLength : ℕ
-recordLength = privateAt + 1 - numberedAt
+-- how many numbers there are
+abbrev pub allLength : ℕ
+allLength = privateAt + 1 - usedAt

@@ -1,7 +1,10 @@
 // Where the numbers of NT/N Rest Octets stand in an array: each place behind the one before it.
 
+// The number of bits used, which a reader leaves and no writer looks at.
+pub const USED: usize = 0;
+
 // NLN there, NLN, how many calls, and the calls.
-pub const NUMBERED: usize = 0;
+pub const NUMBERED: usize = USED + 1;
 
 pub const NLN: usize = NUMBERED + 1;
 
@@ -67,9 +70,7 @@ pub const CONFIDENTIAL: usize = SMS + 1;
 
 pub const PRIVATE: usize = CONFIDENTIAL + 1;
 
-// The record's numbers, behind them the number of bits used, and all of these.
+// The record's numbers, and all: with the number of bits used before them.
 pub const RECORD_LENGTH: usize = PRIVATE + 1 - NUMBERED;
 
-pub const USED: usize = PRIVATE + 1;
-
-pub const LENGTH: usize = RECORD_LENGTH + 1;
+pub const LENGTH: usize = PRIVATE + 1 - USED;

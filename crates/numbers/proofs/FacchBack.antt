@@ -1,5 +1,6 @@
 -- NOTIFICATION/FACCH: from a record to its numbers and back, and from numbers to their record and back. Assumes nothing.
 use mathlib.Core.Path.{_≡_, refl}
+use mathlib.Core.List.{[], _∷_}
 use Prim.Native.Nat.{ℕ, _<_}
 use native.Mathlib.Omega.{arith}
 use lib.ListN.{getD}
@@ -13,11 +14,12 @@ use Rattle.numbers.specs.Promises.{A-facch-record-is-its-numbers, Number
 
 pub a-facch-record-is-its-numbers : A-facch-record-is-its-numbers
 unfolding numbersOf recordFrom callNumbers callBy descriptionBy
-a-facch-record-is-its-numbers m = simp flag-back
+a-facch-record-is-its-numbers m used = simp flag-back
 
 pub numbers-are-their-facch-record : Numbers-are-their-facch-record
 unfolding seen numbersOf recordFrom callNumbers callBy descriptionBy
-numbers-are-their-facch-record ns n w =
+numbers-are-their-facch-record [] n w = absurd (omega arith)
+numbers-are-their-facch-record (used ∷ ns) n w =
     rw (
       flag 1 (omega arith) refl,
       flag 2 (omega arith) refl,
@@ -33,7 +35,7 @@ numbers-are-their-facch-record ns n w =
       flag 19 (omega arith) refl,
       flag 20 (omega arith) refl,
     )
-    (seen-all ns 21 n)
+    (seen-all ns 21 (omega arith))
   where
     flag : (k : ℕ) → k < 21 → getD most k 0 ≡ 1 → asBit (isOne (getD ns k 0)) ≡ getD ns k 0
     flag k h e = bit-back (getD ns k 0) (omega (arith, within-at ns most k w h))

@@ -1,6 +1,6 @@
 -- Listed inputs as numbers, computed. Assumes nothing.
 use mathlib.Core.Path.{_≡_, refl}
-use mathlib.Core.List.{_∷_, [], _++_}
+use mathlib.Core.List.{_∷_}
 use lib.ListN.{replicate}
 use Rattle.bits.specs.Field.{bit, field, withBit, setBit}
 use Rattle.csn1.specs.Format.{numBits, readItems, padBit, putBits}
@@ -16,27 +16,27 @@ use Rattle.numbers.specs.FacchNumbers as facch-numbers
 use Rattle.nch.specs.NotificationNumbers.{reducedNumbers, randomNumbers, markNumbers, release6Numbers, partsNumbers, release7Numbers, numbersOf, readNumbers, reducedBy, randomFrom, release6By, release7By, recordBy, most, writeCode, afterWrite}
 use Rattle.numbers.specs.Promises.{firstParts, firstNumbers, everyFacchPart, everyFacchNumber, uplinkPart, uplinkNumbers, absentParts, absentNumbers, endParts, endNumbers, Every-listed-input-gives-its-numbers}
 
-facch-read : facch-numbers.readNumbers everyFacchPart ≡ everyFacchNumber ++ (183 ∷ [])
+facch-read : facch-numbers.readNumbers everyFacchPart ≡ 183 ∷ everyFacchNumber
 unfolding facch.notification groupCall field bit padBit callNumbers facch-numbers.numbersOf facch-numbers.readNumbers
 facch-read = refl
 
-facch-uplink : facch-numbers.readNumbers uplinkPart ≡ uplinkNumbers ++ (101 ∷ [])
+facch-uplink : facch-numbers.readNumbers uplinkPart ≡ 101 ∷ uplinkNumbers
 unfolding facch.notification groupCall field bit padBit callNumbers facch-numbers.numbersOf facch-numbers.readNumbers
 facch-uplink = refl
 
-facch-absent : facch-numbers.readNumbers absentParts ≡ absentNumbers ++ (48 ∷ [])
+facch-absent : facch-numbers.readNumbers absentParts ≡ 48 ∷ absentNumbers
 unfolding facch.notification groupCall field bit padBit callNumbers facch-numbers.numbersOf facch-numbers.readNumbers
 facch-absent = refl
 
-facch-end : facch-numbers.readNumbers endParts ≡ endNumbers ++ (136 ∷ [])
+facch-end : facch-numbers.readNumbers endParts ≡ 136 ∷ endNumbers
 unfolding facch.notification groupCall field bit padBit callNumbers facch-numbers.numbersOf facch-numbers.readNumbers
 facch-end = refl
 
-nch-accepted : writeCode firstNumbers 20 ≡ 0
+nch-accepted : writeCode (140 ∷ firstNumbers) 20 ≡ 0
 unfolding writeCode within most callBy descriptionBy reducedBy randomFrom release6By release7By recordBy records.writeNumber records.recordRefusal records.inRange records.placesRight records.all records.release6InRange records.release7InRange records.referencesLow records.lengthsRight records.hopsRight records.randomsOwned records.marksOwned calls.callInRange calls.callIsZero calls.callIsLow calls.callLengthRight calls.callHopsRight records.form notification groupCall numBits padBit
 nch-accepted = refl
 
-nch-written : afterWrite firstNumbers (replicate 20 0) ≡ firstParts
+nch-written : afterWrite (140 ∷ firstNumbers) (replicate 20 0) ≡ firstParts
 unfolding afterWrite within most callBy descriptionBy reducedBy randomFrom release6By release7By recordBy records.afterWrite records.writeNumber records.recordRefusal records.inRange records.placesRight records.all records.release6InRange records.release7InRange records.referencesLow records.lengthsRight records.hopsRight records.randomsOwned records.marksOwned calls.callInRange calls.callIsZero calls.callIsLow calls.callLengthRight calls.callHopsRight records.form records.written notification groupCall numBits padBit putBits setBit withBit
 nch-written = refl
 

@@ -1,6 +1,6 @@
 -- The promises of specs/Promises, each from the laws of numbers and of records. Assumes nothing.
 use mathlib.Core.Path.{_≡_, refl, ap, _∙_}
-use mathlib.Core.List.{List, [], _∷_, _++_}
+use mathlib.Core.List.{List, _∷_}
 use Prim.Native.Nat.{ℕ}
 use native.Mathlib.Omega.{arith}
 use lib.Dec.{eqb}
@@ -9,20 +9,20 @@ use borrow.Author.Tests.{eqb-true, eq-eqb}
 use Rattle.csn1.specs.Format.{Res, ok, bad}
 use Rattle.csn1.proofs.Telling.{picked}
 use Rattle.nch.specs.declared.Reading.{Reading}
-use Rattle.nch.specs.Told.{Shaped}
+use Rattle.nch.specs.Told.{Shaped, readOf}
 use Rattle.facch.specs.Message as facch-message
 use Rattle.facch.specs.Told as facch-told
 use Rattle.nch.specs.Write as records
-use Rattle.nch.proofs.Promises.{reading-gives-back-what-was-written}
-use Rattle.arrays.specs.Limits.{within}
-use Rattle.nch.specs.CallNumbers.{callNumbers}
+use Rattle.nch.proofs.Promises.{reading-gives-back-what-was-written, writing-gives-back-what-was-read}
+use Rattle.nch.specs.CallNumbers.{callNumbers, descriptionBy, callBy}
 use Rattle.numbers.specs.FacchNumbers as facch-numbers
-use Rattle.nch.specs.Places.{recordLength}
-use Rattle.nch.specs.NotificationNumbers.{Fits, most, numbersOf, release6By, release7By, recordBy, recordFrom, readNumbers, writeCode, afterWrite}
-use Rattle.numbers.specs.Promises.{A-record-is-its-numbers, Numbers-are-their-record, Reading-gives-the-numbers-back, All-have-their-places, A-refused-reading-is-all-zeros}
+use Rattle.nch.specs.Places.{allLength}
+use Rattle.nch.specs.NotificationNumbers.{fieldsHold, Fits, numbersOf, reducedBy, randomFrom, release6By, release7By, recordBy, recordFrom, readNumbers, writeCode, afterWrite}
+use Rattle.numbers.specs.Promises.{A-record-is-its-numbers, Numbers-are-their-record, Reading-gives-the-numbers-back, Writing-gives-the-octets-back, The-first-number-is-not-looked-at, All-have-their-places, A-refused-reading-is-all-zeros}
 use Rattle.numbers.proofs.FacchRuns as facch
-use Rattle.nch.proofs.NotificationRuns.{length-all}
+use Rattle.nch.proofs.NotificationRuns.{length-all, length-read}
 use Rattle.nch.proofs.NotificationBack.{record-back, numbers-back, refused-zeros}
+use Rattle.nch.proofs.InLimits.{read-fits, record-read, used-read}
 
 pub a-record-is-its-numbers : A-record-is-its-numbers
 a-record-is-its-numbers = record-back
@@ -34,7 +34,7 @@ pub all-have-their-places : All-have-their-places
 all-have-their-places = (length-all, facch.length-all)
 
 facch-zeros : (r : Res facch-message.Value) → (facch-told.readingOf r .refusal .number ≡ 0 → ⊥)
-    → facch-numbers.numbersOf (facch-told.readingOf r .«record») ++ (facch-told.readingOf r .used ∷ []) ≡ replicate 22 0
+    → facch-told.readingOf r .used ∷ facch-numbers.numbersOf (facch-told.readingOf r .«record») ≡ replicate 22 0
 unfolding facch-numbers.numbersOf callNumbers
 facch-zeros (bad r) h = refl
 facch-zeros (ok v q) h = absurd (h refl)
@@ -46,15 +46,16 @@ a-refused-reading-is-all-zeros = (refused-zeros, λ s h. facch-zeros (facch-mess
 -- the numbers were accepted
 record Accepted (ns : List ℕ) : Type 0 where
   fitting : Fits ns
-  exact : length ns ≡ recordLength
+  exact : length ns ≡ allLength
   right : records.writeNumber (recordFrom ns) 20 ≡ 0
 
 accepted : (ns : List ℕ) → writeCode ns 20 ≡ 0 → Accepted ns
 unfolding writeCode records.writeNumber
 accepted ns e =
-    let p = picked (eqb (length ns) recordLength) _ 13 (omega arith) e in
-    let q = picked (within ns most) _ 12 (omega arith) (p .1) in
-    record { fitting = record { long = omega (arith, eqb-true (length ns) recordLength (p .0)); held = q .0 }; exact = eqb-true (length ns) recordLength (p .0); right = q .1 }
+    let p = picked (eqb (length ns) allLength) _ 13 (omega arith) e in
+    let q = picked (fieldsHold ns) _ 12 (omega arith) (p .1) in
+    let n = eqb-true (length ns) allLength (p .0) in
+    record { fitting = record { long = omega arith; held = q .0 }; exact = n; right = q .1 }
 
 shaped : (ns : List ℕ) → Shaped (recordFrom ns)
 unfolding recordBy release6By release7By
@@ -63,12 +64,31 @@ shaped ns = record { calls = refl; reduced = refl; randoms = refl; marks = refl 
 left-behind : (ns b : List ℕ) → length b ≡ 20 → Accepted ns → afterWrite ns b ≡ records.written (recordFrom ns)
 unfolding afterWrite records.afterWrite
 left-behind ns b n a =
-    rw (eq-eqb (length ns) recordLength (a .exact), a .fitting .held, n, eq-eqb (records.writeNumber (recordFrom ns) 20) 0 (a .right))
+    rw (eq-eqb (length ns) allLength (a .exact), a .fitting .held, n, eq-eqb (records.writeNumber (recordFrom ns) 20) 0 (a .right))
 
 pub reading-gives-the-numbers-back : Reading-gives-the-numbers-back
 unfolding readNumbers
 reading-gives-the-numbers-back ns b n e =
     let a = accepted ns e in
     rw (left-behind ns b n a)
-    (ap (λ (r : Reading). numbersOf (r .«record») ++ (r .used ∷ [])) (reading-gives-back-what-was-written (recordFrom ns) (shaped ns) (a .right))
-    ∙ ap (λ (l : List ℕ). l ++ (length (records.form (recordFrom ns)) ∷ [])) (numbers-back ns (a .exact) (a .fitting)))
+    (ap (λ (r : Reading). r .used ∷ numbersOf (r .«record»)) (reading-gives-back-what-was-written (recordFrom ns) (shaped ns) (a .right))
+    ∙ ap (λ (l : List ℕ). length (records.form (recordFrom ns)) ∷ l) (numbers-back ns (a .exact) (a .fitting)))
+
+-- ## Writing the array that was read
+
+read-accepted : (s : List ℕ) → readOf s .refusal .number ≡ 0 → writeCode (readNumbers s) 20 ≡ 0
+unfolding writeCode records.writeNumber
+read-accepted s h =
+    rw (eq-eqb (length (readNumbers s)) allLength (length-read s), read-fits s .held, record-read s) (writing-gives-back-what-was-read s h .accepted)
+
+pub writing-gives-the-octets-back : Writing-gives-the-octets-back
+writing-gives-the-octets-back s b h n =
+    let w = writing-gives-back-what-was-read s h in
+    let e = read-accepted s h in
+    let o : afterWrite (readNumbers s) b ≡ records.written (readOf s .«record») =
+    left-behind (readNumbers s) b n (accepted (readNumbers s) e) ∙ ap records.written (record-read s) in
+    record { accepted = e; same = rw (o, used-read s) (w .same); rest = rw (o, used-read s) (w .rest) }
+
+pub the-first-number-is-not-looked-at : The-first-number-is-not-looked-at
+unfolding writeCode afterWrite recordBy release6By release7By callBy descriptionBy reducedBy randomFrom
+the-first-number-is-not-looked-at x y n ns b = (refl, refl)

@@ -23,22 +23,28 @@ release7Numbers r = asBit (r .there) ∷ asBit (r .uplink) ∷ asBit (r .emergen
 unfoldable pub numbersOf : Notification → List ℕ
 numbersOf m = callNumbers (m .call) ++ release6Numbers (m .release6) ++ release7Numbers (m .release7)
 
--- what is read of any octets: the record's numbers, and behind them the number of bits used
+-- what is read of any octets: the number of bits used, and behind it the record's numbers
 unfoldable pub readNumbers : List ℕ → List ℕ
-readNumbers s = numbersOf (readOf s .«record») ++ (readOf s .used ∷ [])
+readNumbers s = readOf s .used ∷ numbersOf (readOf s .«record»)
 
--- ## A record from its numbers
+-- ## A record from its numbers, each at its place behind the number of bits used
 
-abbrev release6At : ℕ
-release6At = callLength
+abbrev pub usedAt : ℕ
+usedAt = 0
 
-abbrev release7At : ℕ
+abbrev pub callAt : ℕ
+callAt = usedAt + 1
+
+abbrev pub release6At : ℕ
+release6At = callAt + callLength
+
+abbrev pub release7At : ℕ
 release7At = release6At + 6
 
 unfoldable pub recordFrom : List ℕ → Notification
 recordFrom ns =
     record {
-      call = callFrom ns 0;
+      call = callFrom ns callAt;
       release6 =
           record {
             there = isOne (getD ns release6At 0);
@@ -57,6 +63,6 @@ recordFrom ns =
           };
     }
 
--- the largest number of each field
+-- the largest number of each field of a record
 abbrev pub most : List ℕ
 most = callMost ++ (flag ∷ flag ∷ octet ∷ flag ∷ flag ∷ long ∷ []) ++ (flag ∷ flag ∷ flag ∷ flag ∷ [])

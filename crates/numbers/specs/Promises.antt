@@ -2,57 +2,75 @@
 use mathlib.Core.Path.{_≡_}
 use mathlib.Core.List.{List, [], _∷_, _++_}
 use mathlib.Core.Bool.{true}
-use Prim.Native.Nat.{ℕ}
-use lib.ListN.{length, replicate}
+use Prim.Native.Nat.{ℕ, _<_}
+use lib.ListN.{length, getD, drop, replicate}
+use Rattle.bits.specs.Field.{bit}
 use Rattle.arrays.specs.Limits.{within}
 use Rattle.facch.specs.declared.Notification as facch
 use Rattle.nch.specs.declared.Notification as nch
 use Rattle.facch.specs.Told as facch-told
 use Rattle.nch.specs.Told.{Shaped, readOf}
 use Rattle.nch.specs.Write.{form}
+use Rattle.nch.specs.Promises.{Padding}
 use Rattle.numbers.specs.FacchNumbers as facch-numbers
 use Rattle.nch.specs.NotificationNumbers.{Fits, numbersOf, recordFrom, readNumbers, writeCode, afterWrite}
 
--- 1. A record of NT/N Rest Octets is its numbers: no number is missing.
+-- 1. A record of NT/N Rest Octets is its numbers: no number is missing. They stand behind the number of bits used, whatever that is.
 abbrev pub A-record-is-its-numbers : Type 0
-A-record-is-its-numbers = (m : nch.Notification) → Shaped m → recordFrom (numbersOf m) ≡ m
+A-record-is-its-numbers = (m : nch.Notification) (used : ℕ) → Shaped m → recordFrom (used ∷ numbersOf m) ≡ m
 
--- 2. And numbers that its fields can hold are their record: no number is left aside.
+-- 2. And numbers that its fields can hold are their record: no number behind the first is left aside.
 abbrev pub Numbers-are-their-record : Type 0
-Numbers-are-their-record = (ns : List ℕ) → length ns ≡ 105 → Fits ns → numbersOf (recordFrom ns) ≡ ns
+Numbers-are-their-record = (ns : List ℕ) → length ns ≡ 106 → Fits ns → numbersOf (recordFrom ns) ≡ drop 1 ns
 
 -- 3. The same of NOTIFICATION/FACCH, which has no writer.
 abbrev pub A-facch-record-is-its-numbers : Type 0
 A-facch-record-is-its-numbers =
-    (m : facch.Notification)
-    → facch-numbers.recordFrom (facch-numbers.numbersOf m) ≡ m
+    (m : facch.Notification) (used : ℕ)
+    → facch-numbers.recordFrom (used ∷ facch-numbers.numbersOf m) ≡ m
 
 -- 4. And back.
 abbrev pub Numbers-are-their-facch-record : Type 0
 Numbers-are-their-facch-record =
-    (ns : List ℕ) → length ns ≡ 21 → within ns facch-numbers.most ≡ true → facch-numbers.numbersOf (facch-numbers.recordFrom ns) ≡ ns
+    (ns : List ℕ) → length ns ≡ 22 → within (drop 1 ns) facch-numbers.most ≡ true → facch-numbers.numbersOf (facch-numbers.recordFrom ns) ≡ drop 1 ns
 
--- 5. Reading what was written gives the numbers back, and behind them the length of the written form.
+-- 5. Reading what was written gives the numbers back, and before them the length of the written form.
 abbrev pub Reading-gives-the-numbers-back : Type 0
 Reading-gives-the-numbers-back =
     (ns b : List ℕ)
     → length b ≡ 20
     → writeCode ns 20 ≡ 0
-    → readNumbers (afterWrite ns b) ≡ ns ++ (length (form (recordFrom ns)) ∷ [])
+    → readNumbers (afterWrite ns b) ≡ length (form (recordFrom ns)) ∷ drop 1 ns
 
--- 6. A record of NT/N Rest Octets has 105 numbers, and one of NOTIFICATION/FACCH 21.
+-- the array that was read of s is written as it stands into any b of twenty octets: the same bits up to the last bit used, and padding after it
+pub record Array-written-again (s b : List ℕ) : Type 0 where
+  pub accepted : writeCode (readNumbers s) 20 ≡ 0
+  pub same : (k : ℕ) → k < getD (readNumbers s) 0 0 → bit (afterWrite (readNumbers s) b) k ≡ bit s k
+  pub rest : Padding (afterWrite (readNumbers s) b) (getD (readNumbers s) 0 0)
+
+-- 6. Writing the array that was read gives the octets back up to the last bit used, then padding.
+abbrev pub Writing-gives-the-octets-back : Type 0
+Writing-gives-the-octets-back = (s b : List ℕ) → readOf s .refusal .number ≡ 0 → length b ≡ 20 → Array-written-again s b
+
+-- 7. The first number is not looked at where an array is written.
+abbrev pub The-first-number-is-not-looked-at : Type 0
+The-first-number-is-not-looked-at =
+    (x y n : ℕ) (ns b : List ℕ)
+    → (writeCode (x ∷ ns) n ≡ writeCode (y ∷ ns) n) × (afterWrite (x ∷ ns) b ≡ afterWrite (y ∷ ns) b)
+
+-- 8. A record of NT/N Rest Octets has 105 numbers, and one of NOTIFICATION/FACCH 21.
 abbrev pub All-have-their-places : Type 0
 All-have-their-places =
     ((m : nch.Notification) → Shaped m → length (numbersOf m) ≡ 105)
     × ((m : facch.Notification) → length (facch-numbers.numbersOf m) ≡ 21)
 
--- 7. A refused reading is all zeros.
+-- 9. A refused reading is all zeros.
 abbrev pub A-refused-reading-is-all-zeros : Type 0
 A-refused-reading-is-all-zeros =
     ((s : List ℕ) → (readOf s .refusal .number ≡ 0 → ⊥) → readNumbers s ≡ replicate 106 0)
     × ((s : List ℕ) → (facch-told.readOf s .refusal .number ≡ 0 → ⊥) → facch-numbers.readNumbers s ≡ replicate 22 0)
 
--- 8. Listed inputs, with every kind of part: each field of the record, of a call, a reduced reference, a random entry and a mark has a number that is not zero in one of
+-- 10. Listed inputs, with every kind of part: each field of the record, of a call, a reduced reference, a random entry and a mark has a number that is not zero in one of
 -- them, and on both channels each release is there (H), is absent (L) and finds all bits used. First a call with an allocation of two octets, a reduced reference,
 -- a random entry without VSTK_RAND, a mark:
 abbrev pub firstParts : List ℕ
@@ -144,22 +162,22 @@ endNumbers = (12345678 ∷ 1 ∷ 0 ∷ 3 ∷ 5 ∷ 1 ∷ 0xabddef ∷ 1 ∷ 1 �
 
 pub record Every-listed-input-gives-its-numbers : Type 0 where
   -- twenty 2B: no parts, 4 bits used
-  pub nothing : readNumbers (replicate 20 0x2b) ≡ replicate 105 0 ++ (4 ∷ [])
+  pub nothing : readNumbers (replicate 20 0x2b) ≡ 4 ∷ replicate 105 0
   -- CB and nineteen 2B: NLN 2, 6 used
-  pub numbered : readNumbers (0xcb ∷ replicate 19 0x2b) ≡ (1 ∷ 2 ∷ replicate 103 0) ++ (6 ∷ [])
+  pub numbered : readNumbers (0xcb ∷ replicate 19 0x2b) ≡ 6 ∷ 1 ∷ 2 ∷ replicate 103 0
   -- twenty FF are refused: all zeros
   pub refused : readNumbers (replicate 20 0xff) ≡ replicate 106 0
-  pub first : readNumbers firstParts ≡ firstNumbers ++ (140 ∷ [])
-  pub second : readNumbers secondParts ≡ secondNumbers ++ (148 ∷ [])
-  pub third : readNumbers thirdParts ≡ thirdNumbers ++ (113 ∷ [])
-  pub fourth : readNumbers fourthParts ≡ fourthNumbers ++ (160 ∷ [])
-  pub facch : facch-numbers.readNumbers everyFacchPart ≡ everyFacchNumber ++ (183 ∷ [])
-  pub facch-uplink : facch-numbers.readNumbers uplinkPart ≡ uplinkNumbers ++ (101 ∷ [])
-  pub facch-absent : facch-numbers.readNumbers absentParts ≡ absentNumbers ++ (48 ∷ [])
-  pub facch-end : facch-numbers.readNumbers endParts ≡ endNumbers ++ (136 ∷ [])
+  pub first : readNumbers firstParts ≡ 140 ∷ firstNumbers
+  pub second : readNumbers secondParts ≡ 148 ∷ secondNumbers
+  pub third : readNumbers thirdParts ≡ 113 ∷ thirdNumbers
+  pub fourth : readNumbers fourthParts ≡ 160 ∷ fourthNumbers
+  pub facch : facch-numbers.readNumbers everyFacchPart ≡ 183 ∷ everyFacchNumber
+  pub facch-uplink : facch-numbers.readNumbers uplinkPart ≡ 101 ∷ uplinkNumbers
+  pub facch-absent : facch-numbers.readNumbers absentParts ≡ 48 ∷ absentNumbers
+  pub facch-end : facch-numbers.readNumbers endParts ≡ 136 ∷ endNumbers
   -- and written again, over zeros
-  pub accepted : writeCode firstNumbers 20 ≡ 0
-  pub written : afterWrite firstNumbers (replicate 20 0) ≡ firstParts
-  -- a flag of 2, and 104 numbers
-  pub flagged : writeCode (2 ∷ replicate 104 0) 20 ≡ 12
-  pub few : writeCode (replicate 104 0) 20 ≡ 13
+  pub accepted : writeCode (140 ∷ firstNumbers) 20 ≡ 0
+  pub written : afterWrite (140 ∷ firstNumbers) (replicate 20 0) ≡ firstParts
+  -- a flag of 2, and the 105 numbers without the first
+  pub flagged : writeCode (0 ∷ 2 ∷ replicate 104 0) 20 ≡ 12
+  pub few : writeCode firstNumbers 20 ≡ 13

@@ -1,4 +1,4 @@
-// The largest number of each field of NT/N Rest Octets, in the order of the numbers.
+// The largest number of each field of NT/N Rest Octets, in the order of the record's numbers.
 
 use arrays::limits::FLAG;
 use arrays::limits::LONG;

@@ -1,6 +1,6 @@
 // NOTIFICATION/FACCH as numbers.
 ghost use mathlib.Core.Path.{_≡_};
-ghost use mathlib.Core.List.{_∷_, [], _++_};
+ghost use mathlib.Core.List.{_∷_};
 ghost use lib.ListN.{length};
 ghost use Rattle.csn1.specs.Told.{padded};
 ghost use Rattle.facch.specs.Told.{readOf};
@@ -10,14 +10,22 @@ use facch::Notification;
 use facch::Release6;
 use facch::Release7;
 
-// Where the numbers of a notification stand: a call's from the start on, then those of the releases and the bits used, and all of them.
-const RELEASE6: usize = nch::places::CALL_LENGTH;
+// Where the numbers of a notification stand: the bits used, the call's, those of the releases; and how many there are.
+const USED: usize = 0;
 
-const RELEASE7: usize = RELEASE6 + 6;
+const CALL: usize = USED + 1;
 
-const LENGTH: usize = RELEASE7 + 5;
+const RELEASE6: usize = CALL + nch::places::CALL_LENGTH;
 
-fn release6_numbers(r: Release6) -> [u64; 6]
+const RELEASE6_LENGTH: usize = 6;
+
+const RELEASE7: usize = RELEASE6 + RELEASE6_LENGTH;
+
+const RELEASE7_LENGTH: usize = 4;
+
+const LENGTH: usize = RELEASE7 + RELEASE7_LENGTH;
+
+fn release6_numbers(r: Release6) -> [u64; RELEASE6_LENGTH]
     ensures { λ a. ⌜ a ≡ release6Numbers r ⌝ }
 {
     [
@@ -30,33 +38,32 @@ fn release6_numbers(r: Release6) -> [u64; 6]
     ]
 }
 
-// Release 7's numbers and behind them the bits used.
-fn last_numbers(r: Release7, used: usize) -> [u64; 5]
-    ensures { λ a. ⌜ a ≡ release7Numbers r ++ (used ∷ []) ⌝ }
+fn release7_numbers(r: Release7) -> [u64; RELEASE7_LENGTH]
+    ensures { λ a. ⌜ a ≡ release7Numbers r ⌝ }
 {
     [
         r.there as u64,
         r.uplink as u64,
         r.emergency as u64,
         r.caused as u64,
-        used as u64,
     ]
 }
 
-// The record's numbers and behind them the bits used.
+// The bits used and behind them the record's numbers.
 fn all_numbers(m: Notification, used: usize) -> [u64; LENGTH]
-    ensures { λ a. ⌜ a ≡ numbersOf m ++ (used ∷ []) ⌝ }
+    ensures { λ a. ⌜ a ≡ used ∷ numbersOf m ⌝ }
 {
     let mut all = [0u64; LENGTH];
+    all[USED] = used as u64;
     let c = m.call;
     let call = nch::numbers::numbers_of(c);
-    fill::run(&call, &mut all, 0);
+    fill::run(&call, &mut all, CALL);
     let r = m.release6;
     let six = release6_numbers(r);
     fill::run(&six, &mut all, RELEASE6);
     let s = m.release7;
-    let last = last_numbers(s, used);
-    fill::run(&last, &mut all, RELEASE7);
+    let seven = release7_numbers(s);
+    fill::run(&seven, &mut all, RELEASE7);
     all
 }
 

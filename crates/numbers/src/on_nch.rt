@@ -16,15 +16,16 @@ pub fn read(octets: &[u8], numbers: &mut [u64]) -> u8
     r.number
 }
 
-// Writes the record that the numbers are into twenty octets and says 0, or says the number of the refusal and leaves the octets as they are.
+// Writes the record that the numbers are into twenty octets and says 0, or says the number of the refusal and leaves the octets as they are. The first number, the
+// bits that a reader used, is not looked at.
 pub fn write(numbers: &[u64], octets: &mut [u8]) -> u8
     ensures { λ r. ⌜ (r ≡ writeCode (now (numbers .entry)) (length (now (octets .entry))))
         × (now (octets .exit) ≡ afterWrite (now (numbers .entry)) (now (octets .entry))) ⌝ }
 {
-    if numbers.len() != places::RECORD_LENGTH {
+    if numbers.len() != places::LENGTH {
         return 13;
     }
-    if !arrays::limits::holds(numbers, &limits::MOST) {
+    if !arrays::limits::holds(&numbers[places::NUMBERED..], &limits::MOST) {
         return 12;
     }
     let m = nch::numbers::record_from(numbers);

@@ -5,7 +5,7 @@ use mathlib.Core.List.{List}
 use Prim.Native.Nat.{ℕ}
 use native.Mathlib.Omega.{arith}
 use lib.ListN.{getD}
-use Rattle.nch.proofs.Ends.{usedAt}
+use Rattle.nch.specs.Places.{usedAt}
 use Rattle.nch.specs.NotificationNumbers.{recordFrom, Fits}
 use Rattle.nch.proofs.NotificationFits.{record-whole}
 use Rattle.nch.proofs.InLimits.{read-fits, record-read, used-read, read-whole}

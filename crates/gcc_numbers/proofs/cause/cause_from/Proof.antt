@@ -1,6 +1,7 @@
 -- `gcc_numbers::cause::cause_from` meets its contract. Assumes nothing.
 use denote.Ref.{now}
 use native.Mathlib.Omega.{arith}
+use Rattle.gcc_numbers.specs.ElementNumbers.{countAt, septetsAt, sizeAt, diagnosticsAt}
 use Rattle.gcc_numbers.proofs.Octets.{part-octets}
 use borrow.Author.Needs.{needs}
 use Rattle.gcc_numbers.proofs.cause.cause_from.Statement.{statement}
@@ -19,7 +20,9 @@ slice-aggregate-narrow : tie.Need-slice-aggregate-narrow
 slice-aggregate-narrow c = search needs
 
 narrow-requires : tie.Need-narrow-requires
-narrow-requires c κs = (search needs, part-octets 255 1 (now (c .before .before .before .args .numbers)) (c .before .before .before .pre .1))
+narrow-requires c κs =
+    let b = c .before .before .before in
+    (search needs, part-octets 255 septetsAt (now (b .args .numbers)) countAt (omega arith) (b .pre .1))
 
 sub-narrow-2 : tie.Need-sub-narrow-2
 sub-narrow-2 c = search needs
@@ -34,22 +37,31 @@ slice-aggregate-narrow-2 : tie.Need-slice-aggregate-narrow-2
 slice-aggregate-narrow-2 c = search needs
 
 narrow-requires-2 : tie.Need-narrow-requires-2
-narrow-requires-2 c κs = (search needs, part-octets 255 257 (now (c .before .before .before .before .before .before .before .args .numbers)) (c .before .before .before .before .before .before .before .pre .1))
+narrow-requires-2 c κs =
+    let b = c .before .before .before .before .before .before .before in
+    (search needs, part-octets 255 diagnosticsAt (now (b .args .numbers)) countAt (omega arith) (b .pre .1))
 
 shared-slice-read-t17 : tie.Need-shared-slice-read-t17
 shared-slice-read-t17 c = search needs
 
 cast-t18 : tie.Need-cast-t18
-cast-t18 c = omega (arith, c .before .before .before .before .before .before .before .before .before .before .pre .1 0)
+cast-t18 c =
+    let b = c .before .before .before .before .before .before .before .before .before .before in
+    omega (arith, b .pre .1 countAt (omega arith))
 
 shared-slice-read-t21 : tie.Need-shared-slice-read-t21
 shared-slice-read-t21 c = search needs
 
 cast-t22 : tie.Need-cast-t22
-cast-t22 c = omega (arith, c .before .before .before .before .before .before .before .before .before .before .before .pre .1 256)
+cast-t22 c =
+    let c3 = c .before .before .before in
+    let b = c3 .before .before .before .before .before .before .before .before in
+    omega (arith, b .pre .1 sizeAt (omega arith))
 
 returns : tie.Need-returns
-returns c = rw (c .before .before .before .before .before .before .before .narrow .ensures, c .before .before .before .narrow2 .ensures)
+returns c =
+    let c3 = c .before .before .before in
+    rw (c3 .before .before .before .before .narrow .ensures, c3 .narrow2 .ensures)
 
 pub cause-from-spec : {M : Type 1} → statement M
 cause-from-spec =

@@ -31,38 +31,46 @@ put-u32-requires-4 c κs = search needs
 slice-write-b : tie.Need-slice-write-b
 slice-write-b c = search needs
 
+put-u32-requires-5 : tie.Need-put-u32-requires-5
+put-u32-requires-5 c κs = simp length-set (search needs)
+
 put-keys-requires : tie.Need-put-keys-requires
 put-keys-requires c κs =
-    let fourth = c .before .before .before in
+    let mark = c .before .before .before in
+    let fourth = mark .before .before .before .before in
     let third = fourth .before .before .before .before in
     let second = third .before .before .before .before in
     let first = second .before .before .before .before in
     let zeros = first .before .before .before .before in
-    simp length-set
+    mark .put-u325 .kept .0
+    ∙ simp length-set
     (fourth .put-u324 .kept .0 ∙ third .put-u323 .kept .0 ∙ second .put-u322 .kept .0 ∙ first .put-u32 .kept .0 ∙ zeros .zero .kept .0 ∙ zeros .before .before .before .before .pre)
 
 same-length : tie.Need-same-length
 same-length c =
     let keys = c .before .before in
-    let fourth = keys .before .before .before .before in
+    let mark = keys .before .before .before .before in
+    let fourth = mark .before .before .before .before in
     let third = fourth .before .before .before .before in
     let second = third .before .before .before .before in
     let first = second .before .before .before .before in
     keys .put-keys .kept .0
+    ∙ mark .put-u325 .kept .0
     ∙ simp length-set
     (fourth .put-u324 .kept .0 ∙ third .put-u323 .kept .0 ∙ second .put-u322 .kept .0 ∙ first .put-u32 .kept .0 ∙ first .before .before .before .before .zero .kept .0)
 
 returns : tie.Need-returns
 returns c =
     let keys = c .before .before in
-    let fourth = keys .before .before .before .before in
+    let mark = keys .before .before .before .before in
+    let fourth = mark .before .before .before .before in
     let third = fourth .before .before .before .before in
     let second = third .before .before .before .before in
     let first = second .before .before .before .before in
     let zeros = first .before .before .before .before in
     let start = zeros .before .before .before .before in
-    filled (start .args .s) (start .args .keys .now) _ _ _ _ _ _ (zeros .zero .ensures ∙ ap (λ (n : ℕ). replicate n 0) (start .pre)) (first .put-u32 .ensures)
-    (second .put-u322 .ensures) (third .put-u323 .ensures) (fourth .put-u324 .ensures) (keys .put-keys .ensures)
+    filled (start .args .s) (start .args .keys .now) _ _ _ _ _ _ _ (zeros .zero .ensures ∙ ap (λ (n : ℕ). replicate n 0) (start .pre)) (first .put-u32 .ensures)
+    (second .put-u322 .ensures) (third .put-u323 .ensures) (fourth .put-u324 .ensures) (mark .put-u325 .ensures) (keys .put-keys .ensures)
 
 pub fill-spec : {M : Type 1} → statement M
 fill-spec =
@@ -76,6 +84,7 @@ fill-spec =
     add-put-u32-2
     put-u32-requires-4
     slice-write-b
+    put-u32-requires-5
     put-keys-requires
     same-length
     returns)

@@ -1,5 +1,7 @@
 -- `lent::entries::common_from` meets its contract. Assumes nothing.
 use mathlib.Core.Path.{refl}
+use Rattle.arrays.specs.Limits.{octet}
+use Rattle.nch.specs.Places.{cellcountAt, fullrateAt, halfrateAt}
 use Rattle.nch.specs.NotificationNumbers.{most, release6By, release7By, recordBy}
 use Rattle.nch.proofs.NotificationFits.{fits-at}
 use native.Mathlib.Omega.{arith}
@@ -14,7 +16,7 @@ shared-slice-read-t6 c = omega arith
 
 cast-t7 : tie.Need-cast-t7
 unfolding most
-cast-t7 c = omega (arith, fits-at _ (c .before .before .pre) 49 255 (omega arith) refl)
+cast-t7 c = omega (arith, fits-at _ (c .before .before .pre) cellcountAt octet (omega arith) (omega arith) refl)
 
 shared-slice-read-t9 : tie.Need-shared-slice-read-t9
 shared-slice-read-t9 c = omega arith
@@ -33,7 +35,7 @@ shared-slice-read-t21 c = omega arith
 
 cast-t22 : tie.Need-cast-t22
 unfolding most
-cast-t22 c = omega (arith, fits-at _ (c .before .before .before .before .before .before .before .pre) 99 255 (omega arith) refl)
+cast-t22 c = omega (arith, fits-at _ (c .before .before .before .before .before .before .before .pre) fullrateAt octet (omega arith) (omega arith) refl)
 
 shared-slice-read-t24 : tie.Need-shared-slice-read-t24
 shared-slice-read-t24 c = omega arith
@@ -43,7 +45,7 @@ shared-slice-read-t27 c = omega arith
 
 cast-t28 : tie.Need-cast-t28
 unfolding most
-cast-t28 c = omega (arith, fits-at _ (c .before .before .before .before .before .before .before .before .before .pre) 101 255 (omega arith) refl)
+cast-t28 c = omega (arith, fits-at _ (c .before .before .before .before .before .before .before .before .before .pre) halfrateAt octet (omega arith) (omega arith) refl)
 
 shared-slice-read-t30 : tie.Need-shared-slice-read-t30
 shared-slice-read-t30 c = omega arith

@@ -3,6 +3,8 @@ use mathlib.Core.Path.{refl}
 use denote.Ref.{now}
 use native.Mathlib.Omega.{arith}
 use borrow.Author.Needs.{needs}
+use Rattle.arrays.specs.Limits.{octet}
+use Rattle.nch.specs.Places.{nlnAt}
 use Rattle.nch.specs.NotificationNumbers.{most, recordFrom, recordBy}
 use Rattle.nch.proofs.NotificationFits.{fits-at}
 use Rattle.receiver.specs.Entries.{nchEntries}
@@ -21,7 +23,7 @@ shared-slice-read-nln c = search needs
 
 cast-nln : tie.Need-cast-nln
 unfolding most
-cast-nln c = omega (arith, fits-at _ (c .before .before .before .before .before .before .pre .1 .0) 1 255 (omega arith) refl)
+cast-nln c = omega (arith, fits-at _ (c .before .before .before .before .before .before .pre .1 .0) nlnAt octet (omega arith) (omega arith) refl)
 
 nln-rule-requires : tie.Need-nln-rule-requires
 nln-rule-requires c κs = tt

@@ -4,7 +4,7 @@ use mathlib.Core.Path.{_≡_, _∙_}
 use Prim.Native.Nat.{_≤_}
 use native.Mathlib.Omega.{arith}
 use lib.ListN.{length, length-set}
-use Rattle.nch.specs.Inner.{allLength}
+use Rattle.nch.specs.Places.{allLength}
 use Rattle.nch.proofs.Filled6.{length-led6, zeros-led6, zeros-reduceds, count-refused, reduceds-refused, randoms-refused, parts-filled}
 use Rattle.nch.proofs.additions.fill_parts6.Statement.{statement}
 use Rattle.nch.proofs.additions.fill_parts6.Tie as tie

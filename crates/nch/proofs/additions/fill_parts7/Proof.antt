@@ -4,8 +4,7 @@ use mathlib.Core.Path.{_≡_, _∙_}
 use Prim.Native.Nat.{_≤_}
 use native.Mathlib.Omega.{arith}
 use lib.ListN.{length, length-set}
-use Rattle.nch.specs.Places.{release7At}
-use Rattle.nch.specs.Inner.{allLength}
+use Rattle.nch.specs.Places.{release7At, allLength}
 use Rattle.nch.proofs.Filled7.{linked7, length-linked7, zeros-led7, marks-refused, uplink-refused, zeros-linked, amr-refused, zeros-rated, sms-refused, parts-filled}
 use Rattle.nch.proofs.additions.fill_parts7.Statement.{statement}
 use Rattle.nch.proofs.additions.fill_parts7.Tie as tie

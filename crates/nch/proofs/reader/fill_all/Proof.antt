@@ -4,7 +4,7 @@ use mathlib.Core.Path.{_≡_, _∙_}
 use Prim.Native.Nat.{_≤_}
 use native.Mathlib.Omega.{arith}
 use lib.ListN.{length, length-set}
-use Rattle.nch.specs.Inner.{allLength}
+use Rattle.nch.specs.Places.{allLength}
 use Rattle.nch.proofs.FilledAll.{length-led, zeros-led, zeros-calls, zeros-six, not-twenty, calls-refused, six-refused, seven-refused, few, six-due, seven-due, all-filled}
 use Rattle.nch.proofs.reader.fill_all.Statement.{statement}
 use Rattle.nch.proofs.reader.fill_all.Tie as tie

@@ -1,10 +1,13 @@
 -- `numbers::on_facch::all_numbers` meets its contract. Assumes nothing.
 use mathlib.Core.Path.{refl}
 use lib.ListN.{replicate}
-use Rattle.numbers.proofs.FacchRuns.{all-runs}
+use Rattle.numbers.proofs.FacchRuns.{allLength, all-runs}
 use native.Mathlib.Omega.{arith}
 use Rattle.numbers.proofs.on_facch.all_numbers.Statement.{statement}
 use Rattle.numbers.proofs.on_facch.all_numbers.Tie as tie
+
+array-write-all : tie.Need-array-write-all
+array-write-all c = omega arith
 
 numbers-of-requires : tie.Need-numbers-of-requires
 numbers-of-requires c κs = omega arith
@@ -30,8 +33,8 @@ slice-aggregate-run-4 c = omega arith
 run-requires-2 : tie.Need-run-requires-2
 run-requires-2 c κs = omega arith
 
-last-numbers-requires : tie.Need-last-numbers-requires
-last-numbers-requires c κs = omega arith
+release7-numbers-requires : tie.Need-release7-numbers-requires
+release7-numbers-requires c κs = omega arith
 
 slice-aggregate-run-5 : tie.Need-slice-aggregate-run-5
 slice-aggregate-run-5 c = omega arith
@@ -44,17 +47,20 @@ run-requires-3 c κs = omega arith
 
 returns : tie.Need-returns
 returns c =
-    let a = c .before .before .before .before .before .before .before .before .before .before .before .before .before .before .before .before .before .before .args in
-    all-runs (a .m) (a .used) (replicate 22 0) _ _ _ _ _ _ refl
-    (c .before .before .before .before .before .before .before .before .before .before .before .before .before .before .before .before .numbers-of .ensures)
-    (c .before .before .before .before .before .before .before .before .before .before .release6-numbers .ensures) (c .before .before .before .before .last-numbers .ensures)
-    (c .before .before .before .before .before .before .before .before .before .before .before .before .before .run .ensures)
-    (c .before .before .before .before .before .before .before .run2 .ensures) (c .before .run3 .ensures)
+    let c4 = c .before .before .before .before in
+    let c7 = c4 .before .before .before in
+    let c10 = c7 .before .before .before in
+    let c13 = c10 .before .before .before in
+    let c16 = c13 .before .before .before in
+    let a = c16 .before .before .args in
+    all-runs (a .m) (a .used) (replicate allLength 0) _ _ _ _ _ _ refl (c16 .numbers-of .ensures) (c10 .release6-numbers .ensures) (c4 .release7-numbers .ensures)
+    (c13 .run .ensures) (c7 .run2 .ensures) (c .before .run3 .ensures)
 
 pub all-numbers-spec : {M : Type 1} → statement M
 all-numbers-spec =
     tie.close
     (tie.spec
+    array-write-all
     numbers-of-requires
     slice-aggregate-run
     slice-aggregate-run-2
@@ -63,7 +69,7 @@ all-numbers-spec =
     slice-aggregate-run-3
     slice-aggregate-run-4
     run-requires-2
-    last-numbers-requires
+    release7-numbers-requires
     slice-aggregate-run-5
     slice-aggregate-run-6
     run-requires-3

@@ -1,7 +1,9 @@
 -- `numbers::on_nch::write` meets its contract. Assumes nothing.
 use denote.Ref.{now}
-use mathlib.Core.Path.{sym, _∙_}
+use mathlib.Core.Path.{_∙_}
 use borrow.Author.Tests.{not-true, not-false}
+use Rattle.arrays.proofs.Within.{within-rest}
+use Rattle.nch.specs.Places.{numberedAt}
 use Rattle.nch.specs.NotificationNumbers.{most}
 use Rattle.nch.proofs.NotificationFits.{record-whole, write-long, write-wide, write-held}
 use native.Mathlib.Omega.{arith}
@@ -10,6 +12,15 @@ use Rattle.numbers.proofs.on_nch.write.Tie as tie
 
 returns : tie.Need-returns
 returns c = let a = c .before .before .before .args in write-long (now (a .numbers)) (now (a .octets)) (c .if1 .taken)
+
+sub-holds : tie.Need-sub-holds
+sub-holds c = omega arith
+
+part-holds-start : tie.Need-part-holds-start
+part-holds-start c = omega arith
+
+part-holds-end : tie.Need-part-holds-end
+part-holds-end c = omega arith
 
 slice-aggregate-holds : tie.Need-slice-aggregate-holds
 slice-aggregate-holds c = omega arith
@@ -20,8 +31,10 @@ holds-requires c κs = omega arith
 returns-2 : tie.Need-returns-2
 unfolding most
 returns-2 c =
-    let a = c .before .before .before .before .before .before .args in write-wide (now (a .numbers)) (now (a .octets)) (c .before .before .before .if1 .left)
-    (sym (c .before .holds .ensures) ∙ not-true _ (c .if2 .taken))
+    let c4 = c .before .before .before .before in
+    let a = c4 .before .before .before .args in
+    write-wide (now (a .numbers)) (now (a .octets)) (c4 .if1 .left)
+    (within-rest numberedAt (now (a .numbers)) most _ (c .before .holds .ensures) ∙ not-true _ (c .if2 .taken))
 
 record-from-requires : tie.Need-record-from-requires
 record-from-requires c κs = tt
@@ -35,19 +48,24 @@ same-length c = omega arith
 returns-3 : tie.Need-returns-3
 unfolding most
 returns-3 c =
-    let a = c .before .before .before .before .before .before .before .before .before .before .before .args in
-    let w = c .before .before .write in
-    let m = c .before .before .before .before .record-from in
-    let n = c .before .before .before .before .before .before .before .before .if1 .left in
-    let h = sym (c .before .before .before .before .before .before .holds .ensures) ∙ not-false _ (c .before .before .before .before .before .if2 .left) in
-    write-held (now (a .numbers)) (now (a .octets)) n (m .result) (w .result) _ h (m .ensures ∙ record-whole (now (a .numbers)) (record { long = omega (arith, n); held = h }))
-    (w .ensures .0) (w .ensures .1)
+    let c2 = c .before .before in
+    let c4 = c2 .before .before in
+    let c6 = c4 .before .before in
+    let c9 = c6 .before .before .before in
+    let a = c9 .before .before .before .args in
+    let n = c9 .if1 .left in
+    let h = within-rest numberedAt (now (a .numbers)) most _ (c6 .holds .ensures) ∙ not-false _ (c4 .before .if2 .left) in
+    let f = record-whole (now (a .numbers)) (record { long = omega (arith, n); held = h }) in
+    write-held (now (a .numbers)) (now (a .octets)) n (c4 .record-from .result) (c2 .write .result) _ h (c4 .record-from .ensures ∙ f) (c2 .write .ensures .0) (c2 .write .ensures .1)
 
 pub write-spec : {M : Type 1} → statement M
 write-spec =
     tie.close
     (tie.spec
     returns
+    sub-holds
+    part-holds-start
+    part-holds-end
     slice-aggregate-holds
     holds-requires
     returns-2

@@ -1,0 +1,52 @@
+/* The words and sentences for refusal numbers and told numbers. No promise speaks of this file: it is plain C beside the proved functions, and touches no state. */
+#include <asternhaken.h>
+
+struct row {
+    const char *word, *sentence;
+};
+
+/* A number more is a row more. A number between rows has none, and is unknown like those behind the last. */
+static const struct row refusals[] = {
+    [ASTERNHAKEN_ACCEPTED] = { "accepted", "Nothing is refused." },
+    [ASTERNHAKEN_REFUSED_MESSAGE_LENGTH] = { "message length", "The message has a wrong length: an NCH message has 20 octets, a FACCH message has 2 to 23." },
+    [ASTERNHAKEN_REFUSED_RAN_OUT] = { "bits ran out", "The bits of the message ran out inside a part." },
+    [ASTERNHAKEN_REFUSED_ALLOCATION_LENGTH] = { "allocation length", "The length of a mobile allocation is not 1 to 8." },
+    [ASTERNHAKEN_REFUSED_REFERENCE] = { "reference", "The reference of a message, of a call reference element, of a joined key or of a PCH entry is above 99,999,999." },
+    [ASTERNHAKEN_REFUSED_HOPPING] = { "hopping", "The hopping bit of a channel description is unlike the hopping flag behind it." },
+    [ASTERNHAKEN_REFUSED_RANDOM_ENTRIES] = { "random entries", "The NCH message has more random entries than ciphered calls, reduced references included." },
+    [ASTERNHAKEN_REFUSED_EMERGENCY_MARKS] = { "emergency marks", "The NCH message has more emergency marks than calls with a channel description." },
+    [ASTERNHAKEN_REFUSED_PAGING] = { "paging", "The FACCH message has the paging branch, which is not read." },
+    [ASTERNHAKEN_REFUSED_CLOCK] = { "clock", "The tick is before the last one, or 2^31 ms or more behind it; after such a pause, set up anew." },
+    [ASTERNHAKEN_REFUSED_SETUP] = { "setup", "The setup has over 50 keys, a key above 199,999,999, a key twice, or a timer outside 1 to 60,000 ms." },
+    [ASTERNHAKEN_REFUSED_FORM_SIZE] = { "form size", "The written form is over 160 bits, or the buffer to write is not of its exact size." },
+    [ASTERNHAKEN_REFUSED_RANGE] = { "range", "A field is out of its range, an absent part or an unused place to be written is not zero, or parts of a PCH entry do not fit each other." },
+    [ASTERNHAKEN_REFUSED_LENGTH] = { "length", "An element, an array to write, a PCH entry or the lent state has a wrong length, or a cause never ends." },
+};
+
+static const struct row tellings[] = {
+    [ASTERNHAKEN_TOLD_NOT_OURS] = { "not ours", "The call is not ours: its key is not subscribed." },
+    [ASTERNHAKEN_TOLD_CLEAR] = { "complete, clear", "The call is complete: it is not ciphered, and its channel is given." },
+    [ASTERNHAKEN_TOLD_ONE_PIECE] = { "complete, one piece", "The call is complete: it is ciphered, and its channel and VSTK_RAND came in one message." },
+    [ASTERNHAKEN_TOLD_JOINED] = { "complete, joined", "The call is complete: the missing half came, and was joined with the one held." },
+    [ASTERNHAKEN_TOLD_HALF_STORED] = { "half stored", "One half of the notification came; it is kept until the other comes or it is dropped." },
+    [ASTERNHAKEN_TOLD_HALF_HELD] = { "half held already", "The same half came again; the one held and its timer stay." },
+    [ASTERNHAKEN_TOLD_NO_CHANNEL] = { "no channel", "The call has no channel description, and it is not a second half." },
+    [ASTERNHAKEN_TOLD_UNUSABLE] = { "unusable", "The entry cannot be used: it fits no other case, or its reference disagrees with that of the half held." },
+    [ASTERNHAKEN_TOLD_SECOND_BEFORE_FIRST] = { "second before first", "A second half came on the FACCH with no first one held; nothing is stored." },
+};
+
+static const struct row unknown_refusal = { "unknown", "This version of the library does not know this refusal number." };
+static const struct row unknown_telling = { "unknown", "This version of the library does not know this told number." };
+
+static const struct row *row_of(const struct row *rows, size_t n, const struct row *unknown, uint64_t number)
+{
+    return number < n && rows[number].word ? &rows[number] : unknown;
+}
+
+static const struct row *refusal_row(uint32_t refusal) { return row_of(refusals, sizeof refusals / sizeof *refusals, &unknown_refusal, refusal); }
+static const struct row *told_row(uint64_t told) { return row_of(tellings, sizeof tellings / sizeof *tellings, &unknown_telling, told); }
+
+const char *asternhaken_refusal_word(uint32_t refusal) { return refusal_row(refusal)->word; }
+const char *asternhaken_refusal_sentence(uint32_t refusal) { return refusal_row(refusal)->sentence; }
+const char *asternhaken_told_word(uint64_t told) { return told_row(told)->word; }
+const char *asternhaken_told_sentence(uint64_t told) { return told_row(told)->sentence; }

@@ -1,0 +1,196 @@
+"""The small control room of control_room.c in Python: events come as lines on standard input, and the calls they tell of go to standard output.
+
+    setup TICK T3206 T3208 T3210 CALL..   the calls to follow; NAME=CALL gives one a name
+    nch TICK HEX                          NT/N Rest Octets came
+    facch TICK HEX                        NOTIFICATION/FACCH came
+    pch TICK CALL PART..                  the paging channel told of the call
+    joined TICK CALL                      the call was joined
+    reselected TICK, handed_over TICK, reconfigured TICK, left_idle TICK, tick TICK
+
+PART is ciphered, full=HEX (the 36 bits of the reference), channel=HEX with allocation=HEX or list=HEX where it hops, rand=HEX (VSTK_RAND) or count=HEX.
+TICK and the timers are in ms. CALL is a reference and its service, 4711/VBS or 4711/VGCS, or the key itself: reference times 2, and 1 more for VGCS. A word that
+begins with # begins a comment. A line that cannot be understood is named on standard error and skipped, and the status is then 1.
+
+    PYTHONPATH=$(pkg-config --variable=python asternhaken) python3 control_room.py < sample.txt
+"""
+import io
+import itertools
+import re
+import sys
+
+import asternhaken
+from asternhaken import PchEntry, Receiver, Refused
+
+NAME = 12  # characters of a name at most
+
+
+class Wrong(Exception):
+    """What is wrong with a line."""
+
+
+def number(word, what):
+    if not re.fullmatch("[0-9]+", word) or int(word) >= 1 << 32:
+        raise Wrong("%s is no number of 32 bits" % what)
+    return int(word)
+
+
+def call_key(word):
+    match = re.fullmatch("([0-9]+)/(VBS|VGCS)", word) or re.fullmatch("([0-9]+)()", word)
+    found = match and (asternhaken.key(int(match[1]), match[2] == "VGCS") if match[2] else int(match[1]))
+    if found is None or found >= 1 << 32:
+        raise Wrong("CALL is no key, REFERENCE/VBS or REFERENCE/VGCS")
+    return found
+
+
+def octets(word):
+    if not re.fullmatch("([0-9a-fA-F]{2})*", word):
+        raise Wrong("HEX is not two hexadecimal digits for each octet")
+    return bytes.fromhex(word)
+
+
+def pch_part(word):
+    """What a part of a PCH entry sets there: NAME=HEX, whose digits make one number, or a mark."""
+    name, _, digits = word.partition("=")
+    if word == "ciphered":
+        return {"ciphered": 1}
+    value = int(digits, 16) if re.fullmatch("[0-9a-fA-F]{1,16}", digits) else None
+    parts = {
+        "full": {"reference_given": 1, "reference": value},
+        "channel": {"channel_given": 1, "channel": value},
+        "allocation": {"hops": 1, "allocation_octets": (len(digits) + 1) // 2, "frequencies": value},
+        "list": {"hops": 1, "short_list": 1, "frequencies": value},
+        "rand": {"rand_given": 1, "vstk_rand": value},
+        "count": {"count_given": 1, "cell_global_count": value},
+    }
+    if value is None or name not in parts:
+        raise Wrong("PART is no ciphered, full=, channel=, allocation=, list=, rand= or count= with up to 16 digits")
+    return parts[name]
+
+
+class ControlRoom:
+    """A receiver, the names of its calls, and for each call its last complete record with when it came and in which cell."""
+
+    def __init__(self):
+        self.receiver = None
+        self.names, self.complete = {}, {}
+        self.cells = 0  # that were left: a channel is of use only in its cell
+
+    # ---- Showing ----
+
+    def call(self, key):
+        return "%-*s  %-4s %8d" % (NAME, self.names.get(key, ""), "VGCS" if key % 2 else "VBS", key // 2)
+
+    def show(self, tick, word, parts):
+        """An event's line; what is further on it stands on lines of its own."""
+        print("%10d  %-12s  %s" % (tick, word, ("\n" + " " * 26).join(parts)))
+
+    def shown(self, entry):
+        text = "%s  %d " % (self.call(entry.key), entry.told)
+        return text + ("%-19s  %06x" % (entry.told_word, entry.record.channel) if entry.record else entry.told_word)
+
+    def show_list(self):
+        print("\nCall list")
+        for key in self.names:
+            if key not in self.complete:
+                print("  %s  not complete yet" % self.call(key))
+                continue
+            r, tick, cell = self.complete[key]
+            line = "channel %06x since %d, priority %d" % (r.channel, tick, r.priority)
+            if cell != self.cells:
+                line += ", in a cell left since"
+            if r.emergency:
+                line += ", EMERGENCY"
+            if r.hops:
+                line += ", hops by the list %016x" % r.frequencies if r.short_list else ", hops by the allocation %0*x" % (2 * r.allocation_octets, r.frequencies)
+            if r.cipher_key_number:
+                line += ", ciphered with key %d" % r.cipher_key_number
+            if r.rand_given:
+                line += ", VSTK_RAND %09x" % r.vstk_rand
+            if r.count_given:
+                line += ", count %d" % r.cell_global_count
+            print("  %s  %s" % (self.call(key), line))
+
+    # ---- Events ----
+
+    def set_up(self, words):
+        if len(words) < 5:
+            raise Wrong("a setup is TICK T3206 T3208 T3210 CALL..")
+        tick, *timers = (number(word, what) for word, what in zip(words[1:], ("TICK", "T3206", "T3208", "T3210")))
+        names, keys = [], []
+        for word in words[5:]:
+            name, _, call = word.partition("=") if "=" in word else ("", "", word)
+            if len(name) > NAME:
+                raise Wrong("a name is too long")
+            names.append(name)
+            keys.append(call_key(call))
+        receiver = Receiver(keys, tick, *timers)
+        if self.receiver:
+            self.show_list()
+            print()
+        self.receiver, self.names, self.complete = receiver, dict(zip(keys, names)), {}
+        self.show(tick, "setup", ["T3206 %d ms, T3208 %d ms, T3210 %d ms" % tuple(timers)] + [self.call(key) for key in keys])
+
+    def answer(self, tick, words):
+        if words[0] in ("nch", "facch"):
+            if len(words) != 3:
+                raise Wrong("the words are TICK HEX")
+            return getattr(self.receiver, words[0])(tick, octets(words[2]))
+        if words[0] == "pch":
+            if len(words) < 3:
+                raise Wrong("the words are TICK CALL PART..")
+            entry = PchEntry(call_key(words[2]))
+            for word in words[3:]:
+                entry = entry._replace(**pch_part(word))
+            return self.receiver.pch(tick, entry)
+        if words[0] == "joined":
+            if len(words) != 3:
+                raise Wrong("the words are TICK CALL")
+            return self.receiver.joined(tick, call_key(words[2]))
+        if len(words) != 2:
+            raise Wrong("nothing stands behind the TICK")
+        answer = getattr(self.receiver, words[0])(tick)
+        self.cells += words[0] in ("reselected", "handed_over")
+        return answer
+
+    def event(self, words):
+        if words[0] not in ("setup", "nch", "facch", "pch", "joined", "reselected", "handed_over", "reconfigured", "left_idle", "tick"):
+            raise Wrong("no such event")
+        if words[0] == "setup":
+            return self.set_up(words)
+        if not self.receiver:
+            raise Wrong("no setup was accepted yet")
+        tick = number(words[1] if len(words) > 1 else "", "TICK")
+        answer = self.answer(tick, words)
+        lost = [(n, how) for n, how in ((answer.expired, "ran out"), (answer.dropped, "dropped")) if n]
+        parts = [", ".join("%d %s %s" % (n, "half" if n == 1 else "halves", how) for n, how in lost)] if lost else []
+        self.show(tick, words[0], parts + [self.shown(entry) for entry in answer.entries] or ["-"])
+        for entry in answer.entries:
+            if entry.record and entry.key in self.names:
+                self.complete[entry.key] = entry.record, tick, self.cells
+
+    def line(self, text):
+        words = list(itertools.takewhile(lambda word: not word.startswith("#"), text.split()))
+        if not words:
+            return
+        try:
+            self.event(words)
+        except Refused as refused:
+            self.show(int(words[1]), words[0], ["refused %d: %s" % (refused.number, refused.word)])
+
+
+def main():
+    room, status = ControlRoom(), 0
+    print("%10s  %-12s  %-*s  %-13s  %-21s  %s" % ("tick", "event", NAME, "name", "call", "told", "channel"))
+    for place, text in enumerate(io.TextIOWrapper(sys.stdin.buffer, "utf-8", "replace", "\n"), 1):
+        try:
+            room.line(text.rstrip("\n"))
+        except Wrong as wrong:
+            print("line %d: %s" % (place, wrong), file=sys.stderr)
+            status = 1
+    if room.receiver:
+        room.show_list()
+    return status
+
+
+if __name__ == "__main__":
+    sys.exit(main())

@@ -1,0 +1,327 @@
+"""Asternhaken from Python: notifications of group calls (VGCS, VBS) in a GSM cell, read and followed.
+
+One file over the shared library of the C interface, with nothing to install beside it:
+
+    from asternhaken import Receiver, Refused, key
+
+    receiver = Receiver([key(4711, vgcs=False), key(4711, vgcs=True)], tick=1000)
+    try:
+        answer = receiver.nch(1480, bytes.fromhex("b00024cea3852091922b2b2b2b2b2b2b2b2b2b2b"))
+    except Refused as refused:
+        print(refused.number, refused)          # the receiver is as it was
+    else:
+        for entry in answer.entries:
+            print(entry.reference, entry.vgcs, entry.told_word, entry.record and entry.record.channel)
+
+Setup. Receiver(keys, tick, t3206, t3208, t3210) sets a receiver up, and receiver.setup(..) does so anew; its state is a bytearray of its own, and receivers are
+independent of each other. Calls on one receiver must not run at the same time.
+
+Events. nch, facch, pch, joined, reselected, handed_over, reconfigured, left_idle and tick each take the tick (a millisecond counter of 32 bits that wraps) and what
+belongs to the event, and answer with an Answer: how many halves ran out, how many the event dropped, and its entries. receiver.answer is the answer to the last
+accepted event. An entry told 1 to 3 carries a record, with a number for each part of the header's enum asternhaken_part; the others have None. What came on the
+paging channel is a PchEntry: its key, and by name those of the other numbers that are not 0.
+
+What is held. receiver.held is a tuple of the halves that wait for their other half, each with its key, what it came on, which half it is, how many ms it has left from
+the last accepted event, and its record; receiver.next_expiry is the least of those times, or None.
+
+Saved states. receiver.state is a copy of the octets, and Receiver.from_state goes on from one; is_set_up says whether a setup of this version left it.
+
+Refusals. What the library refuses raises Refused, with the number, its word, and its sentence as text; nothing has changed then, the clock included. An
+exception, since an answer that is not there cannot then be taken for an empty one.
+
+Numbers. A tick, key or timer outside 32 bits, or a number of a PCH entry outside 64, is a ValueError before the library is called, since C would cut it off.
+
+The library is the file that ASTERNHAKEN_LIBRARY names, else the one in ../../lib beside which this file was installed, else the one that the system finds.
+"""
+import collections
+import ctypes
+import os
+
+# ---- The library ----
+
+# Octets of the state, and the parts of an answer in their order: the header's, which the tests hold equal.
+STATE_LENGTH = 10040
+KEYS = 50
+T3206 = 10000
+T3208 = 5000
+T3210 = 5000
+PARTS = (
+    "expired", "dropped", "entry_count", "key", "told", "call_reference", "channel", "frequencies", "vstk_rand", "full", "vgcs", "acknowledged", "channel_given",
+    "hops", "short_list", "segment_given", "segment_id", "rand_given", "emergency", "count_given", "b22_count", "uplink_given", "uplink_access", "amr_given", "fr_amr_given",
+    "hr_amr_given", "sms_given", "sms_confidentiality", "sms_privacy", "priority", "cipher_key_number", "allocation_octets", "cell_global_count", "fr_amr_config",
+    "hr_amr_config",
+)
+
+# The refusal numbers.
+(ACCEPTED, REFUSED_MESSAGE_LENGTH, REFUSED_RAN_OUT, REFUSED_ALLOCATION_LENGTH, REFUSED_REFERENCE, REFUSED_HOPPING, REFUSED_RANDOM_ENTRIES, REFUSED_EMERGENCY_MARKS,
+ REFUSED_PAGING, REFUSED_CLOCK, REFUSED_SETUP, REFUSED_FORM_SIZE, REFUSED_RANGE, REFUSED_LENGTH) = range(14)
+
+# The told numbers; 1 to 3 are complete and carry a record.
+(TOLD_NOT_OURS, TOLD_CLEAR, TOLD_ONE_PIECE, TOLD_JOINED, TOLD_HALF_STORED, TOLD_HALF_HELD, TOLD_NO_CHANNEL, TOLD_UNUSABLE, TOLD_SECOND_BEFORE_FIRST) = range(9)
+
+# What a half came on, and which it is.
+ON_NCH, ON_FACCH, ON_PCH = range(3)
+FIRST_HALF, SECOND_HALF = 1, 2
+
+_SONAME = "libasternhaken.so.0"
+_OCTETS = ctypes.POINTER(ctypes.c_uint8)
+_SIZE = ctypes.c_size_t
+_U32 = ctypes.c_uint32
+_NUMBERS = ctypes.POINTER(ctypes.c_uint64)
+_NEVER = 4294967295
+
+
+def _load():
+    named = os.environ.get("ASTERNHAKEN_LIBRARY")
+    beside = os.path.join(os.path.dirname(os.path.abspath(__file__)), "..", "..", "lib", _SONAME)
+    library = ctypes.CDLL(named or (beside if os.path.exists(beside) else _SONAME))
+    message = [_OCTETS, _SIZE, _U32, _OCTETS, _SIZE]
+    plain = [_OCTETS, _SIZE, _U32]
+    for name, words in {
+        "setup": [_OCTETS, _SIZE, ctypes.POINTER(_U32), _SIZE, _U32, _U32, _U32, _U32],
+        "nch": message, "facch": message, "pch": plain + [_NUMBERS, _SIZE], "joined": plain + [_U32],
+        "reselected": plain, "handed_over": plain, "reconfigured": plain, "left_idle": plain, "tick": plain,
+        "read": plain + [_U32, _NUMBERS], "entry_numbers": plain + [_NUMBERS, _SIZE],
+        "held_count": [_OCTETS, _SIZE, _NUMBERS], "held_numbers": plain + [_NUMBERS, _SIZE], "next_expiry": [_OCTETS, _SIZE, _NUMBERS],
+        "is_set_up": [_OCTETS, _SIZE], "version": [],
+    }.items():
+        function = getattr(library, "asternhaken_" + name)
+        function.argtypes, function.restype = words, _U32
+    for name, number in {"refusal_word": _U32, "refusal_sentence": _U32, "told_word": ctypes.c_uint64, "told_sentence": ctypes.c_uint64}.items():
+        function = getattr(library, "asternhaken_" + name)
+        function.argtypes, function.restype = [number], ctypes.c_char_p
+    return library
+
+
+_library = _load()
+
+_number = _library.asternhaken_version()
+__version__ = "%d.%d.%d" % (_number // 10000, _number // 100 % 100, _number % 100)
+
+# ---- Words ----
+
+
+def refusal_word(number):
+    """A short word for a refusal number."""
+    return _library.asternhaken_refusal_word(_u32(number, "a refusal")).decode()
+
+
+def refusal_sentence(number):
+    """A sentence for a refusal number."""
+    return _library.asternhaken_refusal_sentence(_u32(number, "a refusal")).decode()
+
+
+def told_word(number):
+    """A short word for a told number."""
+    return _library.asternhaken_told_word(_u32(number, "a told number")).decode()
+
+
+def told_sentence(number):
+    """A sentence for a told number."""
+    return _library.asternhaken_told_sentence(_u32(number, "a told number")).decode()
+
+
+def key(reference, vgcs):
+    """A subscription's key: the reference times 2, and 1 more for VGCS."""
+    return reference * 2 + (1 if vgcs else 0)
+
+
+def _bits(number, what, bits):
+    if not 0 <= number < 1 << bits:
+        raise ValueError("%s is %r, and not a number of %d bits" % (what, number, bits))
+    return number
+
+
+def _u32(number, what):
+    return _bits(number, what, 32)
+
+
+# ---- Answers ----
+
+
+class Refused(Exception):
+    """The library refused a call. number is the ground's, word its short word; as text it is the sentence."""
+
+    def __init__(self, number):
+        super().__init__(refusal_sentence(number))
+        self.number = number
+        self.word = refusal_word(number)
+
+
+# The record of a complete call, or of a half: a number for each part from call_reference on. What is not there is 0.
+Record = collections.namedtuple("Record", PARTS[PARTS.index("call_reference"):])
+
+
+class _Keyed:
+    """What has a key."""
+
+    __slots__ = ()
+
+    @property
+    def reference(self):
+        return self.key // 2
+
+    @property
+    def vgcs(self):
+        """True for VGCS, False for VBS."""
+        return self.key % 2 == 1
+
+
+class Entry(_Keyed, collections.namedtuple("Entry", "key told record")):
+    """What one entry of a message is told: its key, the told number, and the record where that is 1 to 3, else None."""
+
+    __slots__ = ()
+
+    @property
+    def told_word(self):
+        return told_word(self.told)
+
+    @property
+    def told_sentence(self):
+        return told_sentence(self.told)
+
+
+class Answer(collections.namedtuple("Answer", "expired dropped entries")):
+    """The answer to an event: halves that ran out at it, halves that it dropped itself, and a tuple of entries."""
+
+    __slots__ = ()
+
+
+class Held(_Keyed, collections.namedtuple("Held", "key on half ms_left record")):
+    """A half that is held: ON_NCH, ON_FACCH or ON_PCH, then FIRST_HALF or SECOND_HALF, and for how many ms more from the last accepted event."""
+
+    __slots__ = ()
+
+
+# A notification on the paging channel, in the order of the header's enum asternhaken_pch_number. What is not given is 0: not there.
+PchEntry = collections.namedtuple(
+    "PchEntry", "key ciphered reference_given reference channel_given channel hops short_list allocation_octets frequencies rand_given vstk_rand count_given cell_global_count")
+PchEntry.__new__.__defaults__ = (0,) * 13
+
+
+# ---- The receiver ----
+
+
+class Receiver:
+    """A receiver in a state of its own. Every method but answer and state raises Refused where the library refuses."""
+
+    def __init__(self, keys, tick, t3206=T3206, t3208=T3208, t3210=T3210):
+        self._take(bytearray(STATE_LENGTH))
+        self.setup(keys, tick, t3206, t3208, t3210)
+
+    def _take(self, octets):
+        self._state = octets
+        self._lent = (ctypes.c_uint8 * STATE_LENGTH).from_buffer(octets)
+
+    @classmethod
+    def from_state(cls, octets):
+        """A receiver that goes on from a saved state. Other octets than a receiver's are answered too, as docs/STATE.md says (is_set_up tells them); another length is refused, 13."""
+        if len(octets) != STATE_LENGTH:
+            raise Refused(REFUSED_LENGTH)
+        receiver = cls.__new__(cls)
+        receiver._take(bytearray(octets))
+        return receiver
+
+    @property
+    def state(self):
+        """A copy of the state's octets, to be saved or sent; from_state goes on from it."""
+        return bytes(self._state)
+
+    def _call(self, function, *words):
+        refusal = function(self._lent, STATE_LENGTH, *words) & 255
+        if refusal:
+            raise Refused(refusal)
+
+    @property
+    def is_set_up(self):
+        """Whether the state has the mark of an accepted setup of this layout."""
+        return _library.asternhaken_is_set_up(self._lent, STATE_LENGTH) == 1
+
+    def setup(self, keys, tick, t3206=T3206, t3208=T3208, t3210=T3210):
+        """Makes this a receiver that holds nothing, with these subscriptions; refused (10), it stays as it was."""
+        keys = [_u32(k, "a key") for k in keys]
+        lent = (_U32 * max(1, len(keys)))(*keys)  # no pointer may be null
+        self._call(_library.asternhaken_setup, lent, len(keys), _u32(tick, "the tick"), _u32(t3206, "T3206"), _u32(t3208, "T3208"), _u32(t3210, "T3210"))
+
+    def _event(self, function, tick, *words):
+        self._call(function, _u32(tick, "the tick"), *words)
+        return self.answer
+
+    def _message(self, function, tick, octets):
+        octets = bytes(octets)
+        return self._event(function, tick, (ctypes.c_uint8 * max(1, len(octets)))(*octets), len(octets))
+
+    def nch(self, tick, octets):
+        """NT/N Rest Octets came."""
+        return self._message(_library.asternhaken_nch, tick, octets)
+
+    def facch(self, tick, octets):
+        """A NOTIFICATION/FACCH came."""
+        return self._message(_library.asternhaken_facch, tick, octets)
+
+    def pch(self, tick, entry):
+        """A notification came on the paging channel: a PchEntry, or its numbers in that order."""
+        numbers = [_bits(int(number), "a number of the entry", 64) for number in entry]
+        return self._event(_library.asternhaken_pch, tick, (ctypes.c_uint64 * max(1, len(numbers)))(*numbers), len(numbers))
+
+    def joined(self, tick, key):
+        """The call of this key was joined."""
+        return self._event(_library.asternhaken_joined, tick, _u32(key, "the key"))
+
+    def reselected(self, tick):
+        """Another cell was selected."""
+        return self._event(_library.asternhaken_reselected, tick)
+
+    def handed_over(self, tick):
+        return self._event(_library.asternhaken_handed_over, tick)
+
+    def reconfigured(self, tick):
+        return self._event(_library.asternhaken_reconfigured, tick)
+
+    def left_idle(self, tick):
+        """Idle mode was left."""
+        return self._event(_library.asternhaken_left_idle, tick)
+
+    def tick(self, tick):
+        """Time passed."""
+        return self._event(_library.asternhaken_tick, tick)
+
+    def _number(self, function, *words):
+        """One number, which a function of the library writes behind these words."""
+        value = ctypes.c_uint64()
+        self._call(function, *words, ctypes.byref(value))
+        return value.value
+
+    def _numbers(self, function, i, leading):
+        """The i-th of something: so many numbers that lead it, and a record."""
+        n = leading + len(Record._fields)
+        numbers = (ctypes.c_uint64 * n)()
+        self._call(function, i, numbers, n)
+        return numbers[:leading], Record(*numbers[leading:])
+
+    def _part(self, part):
+        return self._number(_library.asternhaken_read, 0, PARTS.index(part))
+
+    def _entry(self, i):
+        (key, told), record = self._numbers(_library.asternhaken_entry_numbers, i, 2)
+        return Entry(key, told, record if TOLD_CLEAR <= told <= TOLD_JOINED else None)
+
+    @property
+    def answer(self):
+        """The answer to the last accepted event; after a setup it is empty."""
+        return Answer(self._part("expired"), self._part("dropped"), tuple(self._entry(i) for i in range(self._part("entry_count"))))
+
+    def _held(self, i):
+        leading, record = self._numbers(_library.asternhaken_held_numbers, i, 4)
+        return Held(*leading, record)
+
+    @property
+    def held(self):
+        """The halves that are held, by the subscriptions' places, and for each on the NCH, the FACCH, the PCH."""
+        return tuple(self._held(i) for i in range(self._number(_library.asternhaken_held_count)))
+
+    @property
+    def next_expiry(self):
+        """In how many ms from the last accepted event the next half runs out; None where none is held."""
+        ms = self._number(_library.asternhaken_next_expiry)
+        return None if ms == _NEVER else ms

@@ -1,0 +1,217 @@
+"""The Python module against the header and known answers: tests/receiver.py HEADER, with the module on PYTHONPATH. tests/install.sh runs it."""
+import re
+import sys
+import unittest
+
+import asternhaken
+from asternhaken import Held, PchEntry, Receiver, Refused, key
+
+HEADER = open(sys.argv.pop(1)).read()
+YARD, DISPATCHER = key(4711, False), key(4711, True)
+FIRST = bytes.fromhex("b00024cea38520919a8b2b2b2b2b2b2b2b2b2b2b")  # of the yard: channel 0a4123, count 1
+SECOND = bytes.fromhex("b00024cea30712345678932b2b2b2b2b2b2b2b2b")  # VSTK_RAND 123456789
+FACCH_FIRST = bytes.fromhex("040001267aa56e11592b")  # of the dispatcher: channel 5b8456
+PCH_FIRST = PchEntry(YARD, ciphered=1, reference_given=1, reference=YARD << 8 | 0xA3, channel_given=1, channel=0x0A4123, count_given=1, cell_global_count=1)
+PCH_SECOND = PchEntry(YARD, ciphered=1, rand_given=1, vstk_rand=0x987654321)
+
+
+def constants(enum):
+    """The names of an enum of the header in the order of their numbers, without ASTERNHAKEN_."""
+    body = re.search(r"enum asternhaken_%s \{(.*?)\};" % enum, HEADER, re.S)[1]
+    rows = re.findall(r"ASTERNHAKEN_(\w+) = (\d+)", body)
+    assert rows
+    return {name: int(n) for name, n in rows}
+
+
+def in_order(enum, prefix):
+    """The names of an enum whose numbers begin at 0 and leave none out, without the prefix, in small letters."""
+    rows = constants(enum)
+    assert list(rows.values()) == list(range(len(rows))) and all(name.startswith(prefix) for name in rows)
+    return tuple(name[len(prefix):].lower() for name in rows)
+
+
+def members(struct):
+    """The names of a struct's members of the header, in their order."""
+    body = re.sub(r"/\*.*?\*/", "", re.search(r"struct asternhaken_%s \{(.*?)\n\};" % struct, HEADER, re.S)[1], flags=re.S)
+    return tuple(re.findall(r"(\w+)\s*[,;]", body))
+
+
+def defined(name):
+    return int(re.search(r"#define ASTERNHAKEN_%s (\d+)" % name, HEADER)[1])
+
+
+class TheHeader(unittest.TestCase):
+    def test_parts(self):
+        self.assertEqual(asternhaken.PARTS, in_order("part", "PART_"))
+        self.assertEqual(len(asternhaken.PARTS), defined("PARTS"))
+
+    def test_structs(self):
+        self.assertEqual(asternhaken.Record._fields, members("record"))
+        self.assertEqual(asternhaken.PARTS[5:], members("record"))
+        self.assertEqual(asternhaken.PARTS[:3], members("answer"))
+        self.assertEqual(asternhaken.Entry._fields, members("entry"))
+        self.assertEqual(asternhaken.Held._fields, members("held"))
+        self.assertEqual(asternhaken.PchEntry._fields, members("pch_entry"))
+        self.assertEqual(asternhaken.PchEntry._fields, in_order("pch_number", "PCH_"))
+        self.assertEqual(len(asternhaken.PchEntry._fields), defined("PCH_NUMBERS"))
+
+    def test_constants(self):
+        for enum, least in (("refusal", 14), ("told", 9), ("on", 3), ("half", 2)):
+            rows = constants(enum)
+            self.assertGreaterEqual(len(rows), least)
+            for name, number in rows.items():
+                self.assertEqual(getattr(asternhaken, name), number)
+
+    def test_numbers(self):
+        for name in ("STATE_LENGTH", "KEYS", "T3206", "T3208", "T3210"):
+            self.assertEqual(getattr(asternhaken, name), defined(name))
+        self.assertEqual(asternhaken._NEVER, defined("NEVER"))
+
+    def test_version(self):
+        self.assertEqual(asternhaken.__version__, "%d.%d.%d" % tuple(defined("VERSION_" + part) for part in ("MAJOR", "MINOR", "PATCH")))
+
+    def test_words(self):
+        for enum, word, sentence in (("refusal", asternhaken.refusal_word, asternhaken.refusal_sentence), ("told", asternhaken.told_word, asternhaken.told_sentence)):
+            n = len(constants(enum))
+            for say in (word, sentence):
+                self.assertEqual(len({say(i) for i in range(n + 1)}), n + 1)
+                self.assertEqual({say(i) for i in (n, 255, 1 << 31, (1 << 32) - 1)}, {say(n)})
+            self.assertEqual(word(n), "unknown")
+            for i in range(n + 1):
+                self.assertRegex(sentence(i), r"^[A-Z].* .*\.$")
+
+
+class TheReceiver(unittest.TestCase):
+    def setUp(self):
+        self.receiver = Receiver([YARD, DISPATCHER], tick=1000)
+
+    def refused(self, number, call, *words):
+        before = self.receiver.state
+        with self.assertRaises(Refused) as caught:
+            call(*words)
+        self.assertEqual(caught.exception.number, number)
+        self.assertEqual(str(caught.exception), asternhaken.refusal_sentence(number))
+        self.assertEqual(caught.exception.word, asternhaken.refusal_word(number))
+        self.assertEqual(self.receiver.state, before)
+
+    def test_two_halves(self):
+        self.assertEqual(self.receiver.answer, (0, 0, ()))
+        answer = self.receiver.nch(1480, FIRST)
+        self.assertEqual(answer, (0, 0, ((YARD, asternhaken.TOLD_HALF_STORED, None),)))
+        entry = self.receiver.nch(1960, SECOND).entries[0]
+        self.assertEqual((entry.key, entry.reference, entry.vgcs, entry.told, entry.told_word), (YARD, 4711, False, asternhaken.TOLD_JOINED, "complete, joined"))
+        self.assertEqual(entry.told_sentence, asternhaken.told_sentence(3))
+        there = {part: value for part, value in entry.record._asdict().items() if value}
+        self.assertEqual(there, dict(
+            call_reference=4711, channel=0x0A4123, vstk_rand=0x123456789, full=1, acknowledged=1, channel_given=1, segment_given=1, rand_given=1, count_given=1,
+            cell_global_count=1, priority=2, cipher_key_number=3))
+        self.assertEqual(self.receiver.answer.entries[0], entry)
+
+    def test_every_event(self):
+        self.receiver.nch(2000, FIRST)
+        self.assertEqual(self.receiver.facch(2000, FACCH_FIRST).entries, ((DISPATCHER, asternhaken.TOLD_HALF_STORED, None),))
+        self.assertEqual(self.receiver.reselected(2001), (0, 1, ()))
+        self.assertEqual(self.receiver.handed_over(2002), (0, 1, ()))
+        self.receiver.facch(2003, FACCH_FIRST)
+        self.assertEqual(self.receiver.reconfigured(2004), (0, 1, ()))
+        self.receiver.nch(2005, FIRST)
+        self.assertEqual(self.receiver.joined(2006, YARD), (0, 0, ()))
+        self.assertEqual(self.receiver.joined(2007, DISPATCHER), (0, 1, ()))
+        self.receiver.nch(2008, FIRST)
+        self.assertEqual(self.receiver.tick(2008 + asternhaken.T3206), (1, 0, ()))
+
+    def test_paging_channel(self):
+        now = 2000
+        self.assertEqual(self.receiver.pch(now, PCH_SECOND).entries, ((YARD, asternhaken.TOLD_HALF_STORED, None),))
+        record = self.receiver.pch(now, PCH_FIRST).entries[0].record
+        self.assertEqual((record.channel, record.vstk_rand, record.full, record.cell_global_count), (0x0A4123, 0x987654321, 1, 1))
+        self.receiver.pch(now, list(PCH_FIRST))
+        self.assertEqual(self.receiver.left_idle(now), (0, 1, ()))
+        self.receiver.pch(now, PCH_FIRST)
+        self.assertEqual(self.receiver.pch(now, PchEntry(1630)), (0, 1, ((1630, asternhaken.TOLD_NOT_OURS, None),)))
+        self.receiver.pch(now, PCH_FIRST)
+        self.assertEqual(self.receiver.tick(now + asternhaken.T3210 - 1), (0, 0, ()))
+        self.assertEqual(self.receiver.tick(now + asternhaken.T3210), (1, 0, ()))
+        self.refused(12, self.receiver.pch, 9000, PCH_FIRST._replace(ciphered=0))
+        self.refused(4, self.receiver.pch, 9000, PchEntry(200000000))
+        self.refused(13, self.receiver.pch, 9000, PCH_FIRST[:-1])
+        self.refused(13, self.receiver.pch, 9000, ())
+        self.refused(9, self.receiver.pch, 1999, PCH_FIRST)
+        self.refused(9, self.receiver.left_idle, 1999)
+
+    def test_what_is_held(self):
+        self.assertEqual((self.receiver.held, self.receiver.next_expiry), ((), None))
+        self.receiver.nch(1000, FIRST)
+        self.receiver.facch(1600, FACCH_FIRST)
+        self.receiver.pch(2000, PCH_SECOND)
+        held = self.receiver.held
+        self.assertEqual([h[:4] for h in held], [
+            (YARD, asternhaken.ON_NCH, asternhaken.FIRST_HALF, 9000), (YARD, asternhaken.ON_PCH, asternhaken.SECOND_HALF, 5000),
+            (DISPATCHER, asternhaken.ON_FACCH, asternhaken.FIRST_HALF, 4600)])
+        self.assertIsInstance(held[0], Held)
+        self.assertEqual((held[0].reference, held[0].vgcs, held[2].vgcs), (4711, False, True))
+        self.assertEqual((held[0].record.channel, held[1].record.vstk_rand, held[2].record.channel), (0x0A4123, 0x987654321, 0x5B8456))
+        self.assertEqual(self.receiver.next_expiry, 4600)
+        self.assertEqual(self.receiver.tick(2000 + 4600), (1, 0, ()))
+        self.assertEqual((len(self.receiver.held), self.receiver.next_expiry), (2, 400))
+
+    def test_the_mark(self):
+        self.assertTrue(self.receiver.is_set_up)
+        self.assertFalse(Receiver.from_state(bytes(asternhaken.STATE_LENGTH)).is_set_up)
+        state = bytearray(self.receiver.state)
+        self.assertEqual(state[20:24], b"AHK\1")
+        self.receiver.nch(2000, FIRST)
+        self.assertTrue(Receiver.from_state(self.receiver.state).is_set_up)
+        state[23] = 2  # another layout
+        self.assertFalse(Receiver.from_state(state).is_set_up)
+
+    def test_refusals(self):
+        self.refused(1, self.receiver.nch, 1001, b"")
+        self.refused(1, self.receiver.nch, 1001, FIRST[:19])
+        self.refused(1, self.receiver.facch, 1001, bytes(24))
+        self.refused(4, self.receiver.joined, 1001, 200000000)
+        self.refused(8, self.receiver.facch, 1001, b"\4\200")
+        self.refused(9, self.receiver.tick, 999)
+        self.refused(9, self.receiver.nch, 999, b"")
+        self.refused(10, self.receiver.setup, [YARD, YARD], 0)
+        self.refused(10, self.receiver.setup, range(51), 0)
+        self.refused(10, self.receiver.setup, [], 0, 0, 1, 1)
+        self.refused(10, self.receiver.setup, [], 0, 1, 0, 1)
+        self.refused(10, self.receiver.setup, [], 0, 1, 1, 0)
+        self.refused(10, Receiver, [200000000], 0)
+        self.refused(13, Receiver.from_state, bytes(asternhaken.STATE_LENGTH - 1))
+        self.refused(13, Receiver.from_state, bytes(6984))
+
+    def test_setups(self):
+        self.receiver.setup([], 5)
+        self.receiver.setup(range(50), 5, 1, 60000, 60000)
+        self.assertEqual(self.receiver.nch(5, bearer(FIRST)).entries, ((YARD, asternhaken.TOLD_NOT_OURS, None),))
+
+    def test_numbers_that_c_would_cut(self):
+        for call in (lambda: self.receiver.tick(1 << 32), lambda: self.receiver.tick(-1), lambda: self.receiver.joined(1001, YARD + (1 << 32)),
+                     lambda: self.receiver.setup([YARD + (1 << 32)], 0), lambda: self.receiver.setup([], 1 << 32), lambda: self.receiver.setup([], 0, (1 << 32) + 5),
+                     lambda: self.receiver.setup([], 0, 5, (1 << 32) + 5), lambda: self.receiver.setup([], 0, 5, 5, (1 << 32) + 5),
+                     lambda: self.receiver.left_idle(1 << 32), lambda: self.receiver.pch(1 << 32, PCH_FIRST),
+                     lambda: self.receiver.pch(1001, PCH_FIRST._replace(channel=1 << 64)), lambda: self.receiver.pch(1001, PCH_FIRST._replace(key=-1)),
+                     lambda: asternhaken.refusal_word(1 << 32)):
+            before = self.receiver.state
+            self.assertRaises(ValueError, call)
+            self.assertEqual(self.receiver.state, before)
+        self.assertEqual(self.receiver.tick((1000 + (1 << 31) - 1)), (0, 0, ()))
+
+    def test_states(self):
+        self.receiver.nch(1480, FIRST)
+        other = Receiver.from_state(self.receiver.state)
+        self.receiver.reselected(1500)
+        self.assertEqual(other.nch(1960, SECOND).entries[0].told, asternhaken.TOLD_JOINED)
+        self.assertEqual(self.receiver.nch(1960, SECOND).entries[0].told, asternhaken.TOLD_HALF_STORED)
+        self.assertEqual(len(other.state), asternhaken.STATE_LENGTH)
+
+
+def bearer(octets):
+    """The same octets in another kind of bytes."""
+    return memoryview(bytearray(octets))
+
+
+if __name__ == "__main__":
+    unittest.main()
