@@ -119,16 +119,16 @@ pub fn run(tally: &mut Tally) {
                 // Refusal, bit and bits used; tests/drive.sh compares the record with the library's, and the reading both sides.
                 let octets = octets(words[2]);
                 let (reading, second) = match words[0] {
-                    "nch" => (compare_nch(tally, &octets, nch::NUMBERS + 1), second_nch(&octets)),
-                    _ => (compare_facch(tally, &octets, facch::NUMBERS + 1), second_facch(&octets)),
+                    "nch" => (compare_nch(tally, &octets, nch::NUMBERS), second_nch(&octets)),
+                    _ => (compare_facch(tally, &octets, facch::NUMBERS), second_facch(&octets)),
                 };
                 let line = |refusal: Refusal, used: u64| format!("{} {} {used}", number_of(refusal), bit_of(refusal));
                 let second = match second {
-                    Ok(numbers) => line(0, numbers[numbers.len() - 1]),
+                    Ok(numbers) => line(0, numbers[0]),
                     Err(refusal) => line(refusal, 0),
                 };
                 expected = expected.splitn(4, ' ').take(3).collect::<Vec<&str>>().join(" ");
-                (line(reading.0, reading.1[reading.1.len() - 1]), second)
+                (line(reading.0, reading.1[0]), second)
             }
             _ => continue,
         };
