@@ -54,7 +54,7 @@ PARTS = (
 
 # The refusal numbers.
 (ACCEPTED, REFUSED_MESSAGE_LENGTH, REFUSED_RAN_OUT, REFUSED_ALLOCATION_LENGTH, REFUSED_REFERENCE, REFUSED_HOPPING, REFUSED_RANDOM_ENTRIES, REFUSED_EMERGENCY_MARKS,
- REFUSED_PAGING, REFUSED_CLOCK, REFUSED_SETUP, REFUSED_FORM_SIZE, REFUSED_RANGE, REFUSED_LENGTH, REFUSED_RAN_OUT_6, REFUSED_RAN_OUT_7) = range(16)
+ REFUSED_PAGING, REFUSED_CLOCK, REFUSED_SETUP, REFUSED_FORM_SIZE, REFUSED_RANGE, REFUSED_LENGTH) = range(14)
 
 # The told numbers; 1 to 3 are complete and carry a record.
 (TOLD_NOT_OURS, TOLD_CLEAR, TOLD_ONE_PIECE, TOLD_JOINED, TOLD_HALF_STORED, TOLD_HALF_HELD, TOLD_NO_CHANNEL, TOLD_UNUSABLE, TOLD_SECOND_BEFORE_FIRST) = range(9)
@@ -140,14 +140,12 @@ def _u32(number, what):
 
 
 class Refused(Exception):
-    """The library refused a call. number is the ground's, word its short word; as text it is the sentence. bit: where bits ran out (2, 14, 15), the number of the
-    bit at which the missing field begins, else 0."""
+    """The library refused a call. number is the ground's, word its short word; as text it is the sentence."""
 
-    def __init__(self, result):
-        self.number = result & 255
-        self.bit = result >> 8
-        self.word = refusal_word(self.number)
-        super().__init__(refusal_sentence(self.number))
+    def __init__(self, number):
+        super().__init__(refusal_sentence(number))
+        self.number = number
+        self.word = refusal_word(number)
 
 
 # The record of a complete call, or of a half: a number for each part from call_reference on. What is not there is 0.
@@ -230,9 +228,9 @@ class Receiver:
         return bytes(self._state)
 
     def _call(self, function, *words):
-        result = function(self._lent, STATE_LENGTH, *words)
-        if result:
-            raise Refused(result)
+        refusal = function(self._lent, STATE_LENGTH, *words) & 255
+        if refusal:
+            raise Refused(refusal)
 
     @property
     def is_set_up(self):

@@ -166,25 +166,13 @@ fn event(rng: &mut Rng, pair: &Pair, pool: &Pool) -> Event {
             if receiver.nln.is_some() && !rng.one_in(12) {
                 draft.nln = rng.one_in(2).then_some(receiver.nln.map(u64::from).filter(|&nln| nln < 4)).flatten();
             }
-            // Now and then so much in Release 7 that it runs out.
-            if rng.one_in(16) {
-                draft.seven.get_or_insert_with(SevenDraft::default).marks = vec![1; 80];
-            }
             let mut octets = draft.octets();
             octets.truncate(20);
             Event::Nch(octets)
         }
         18..=31 => {
-            let draft = pool.facch(rng);
-            let mut octets = draft.octets();
+            let mut octets = pool.facch(rng).octets();
             octets.truncate(23);
-            // Often clipped, mostly inside the last parts.
-            if rng.one_in(4) {
-                let whole = draft.bits().0.len().div_ceil(8);
-                let most = if rng.one_in(4) { 20 } else { 3 };
-                let less = 1 + rng.below(most) as usize;
-                octets.truncate(whole.saturating_sub(less).max(2));
-            }
             Event::Facch(octets)
         }
         32 => {

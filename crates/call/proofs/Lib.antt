@@ -1,4 +1,3 @@
-pub mod Numbering
 pub mod Reading
 pub mod Laws
 pub mod Put

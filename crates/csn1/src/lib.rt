@@ -1,57 +1,36 @@
 // CSN.1: formats of bits. Their meaning stands in specs/, the one theorem over all of them in proofs/; the code is what readers of every format share.
 ghost use mathlib.Core.Path.{_≡_};
-ghost use Rattle.csn1.specs.Format.{bad, ranOut, ground, noRefusal, renumbered, padBit, coded};
-ghost use Rattle.csn1.specs.Told.{readAt, flaggedAt, leadAt, flaggedOf, leadOf, codedOf, codeOf};
+ghost use Rattle.csn1.specs.Format.{bad, ranOut, ground, noRefusal, padBit, coded};
+ghost use Rattle.csn1.specs.Told.{readAt, flaggedAt, leadAt, flaggedOf, leadOf, codedOf};
 use bits::Got;
 
 // The longest message that is read, in octets: ours have at most 255. A longer one is answered as if its bits had run out.
 pub const LONGEST: usize = 4096;
 
-// Why a reading ended: its number, 0 where nothing was refused, and of bits that ran out the place where their field begins.
+// Why a reading ended: today its number alone, and 0 where nothing was refused. A place goes in here when it is asked for.
 pub struct Refusal {
     pub number: u8,
-    pub bit: usize,
 }
 
 // Nothing is refused.
 pub fn no_refusal() -> Refusal
     ensures { λ r. ⌜ r ≡ noRefusal ⌝ }
 {
-    Refusal { number: 0, bit: 0 }
+    Refusal { number: 0 }
 }
 
 // The bits of the field that begins at `at` ran out.
 pub fn ran_out(at: usize) -> Refusal
     ensures { λ r. ⌜ r ≡ ranOut at ⌝ }
 {
-    Refusal { number: 2, bit: at }
+    Refusal { number: 2 }
 }
 
 // A test was not met.
 pub fn ground(number: u8) -> Refusal
     ensures { λ r. ⌜ r ≡ ground number ⌝ }
 {
-    Refusal { number, bit: 0 }
-}
-
-// Inside a later release, bits that ran out have its number.
-pub fn inside(number: u8, refusal: Refusal) -> Refusal
-    ensures { λ r. ⌜ r ≡ renumbered number refusal ⌝ }
-{
-    if refusal.number == 2 {
-        return Refusal {
-            number,
-            bit: refusal.bit,
-        };
-    }
-    refusal
-}
-
-// A refusal as C functions return it: its number in the low octet, and its bit above it.
-pub fn code(refusal: Refusal) -> u32
-    ensures { λ r. ⌜ r ≡ codeOf refusal ⌝ }
-{
-    refusal.number as u32 + 256 * (refusal.bit % 16777216) as u32
+    Refusal { number }
 }
 
 // The padding bit at a place: that of octet 2B hex.
@@ -65,7 +44,7 @@ pub fn padding_bit(at: usize) -> u64
 // A number led by a flag, and the place behind it.
 pub struct Flagged {
     pub refusal: Refusal,
-    pub hasValue: bool,
+    pub there: bool,
     pub value: u64,
     pub at: usize,
 }
@@ -75,7 +54,7 @@ fn no_number(refusal: Refusal) -> Flagged
 {
     Flagged {
         refusal,
-        hasValue: false,
+        there: false,
         value: 0,
         at: 0,
     }
@@ -97,7 +76,7 @@ pub fn read_flagged(s: &[u8], at: usize, width: usize) -> Flagged
     if flag == 0 {
         return Flagged {
             refusal: no_refusal(),
-            hasValue: false,
+            there: false,
             value: 0,
             at: at + 1,
         };
@@ -107,7 +86,7 @@ pub fn read_flagged(s: &[u8], at: usize, width: usize) -> Flagged
     };
     Flagged {
         refusal: no_refusal(),
-        hasValue: true,
+        there: true,
         value,
         at: at + 1 + width,
     }

@@ -1,5 +1,3 @@
-pub mod Numbering
 pub mod Callees
-pub mod Clips
 pub mod Promises
 pub mod Back

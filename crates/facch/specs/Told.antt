@@ -27,30 +27,30 @@ b22CountIn none = false
 b22CountIn (some c) = isOne (b22Count c)
 
 abbrev pub noRelease6 : Release6
-noRelease6 = record { hasRelease = false; hasCount = false; cellcount = 0; b22 = false; hasRandom = false; rand = 0 }
+noRelease6 = record { there = false; counted = false; cellcount = 0; b22 = false; given = false; rand = 0 }
 
 abbrev pub release6Of : Option Release6Value → Release6
 release6Of none = noRelease6
 release6Of (some v) =
     record {
-      hasRelease = true;
-      hasCount = isThere (countPart v);
+      there = true;
+      counted = isThere (countPart v);
       cellcount = cellCountIn (countPart v);
       b22 = b22CountIn (countPart v);
-      hasRandom = isThere (vstkRand v);
+      given = isThere (vstkRand v);
       rand = orZero (vstkRand v);
     }
 
 -- ## Release 7
 
 abbrev pub noRelease7 : Release7
-noRelease7 = record { hasRelease = false; uplink = false; emergency = false; hasCause = false }
+noRelease7 = record { there = false; uplink = false; emergency = false; caused = false }
 
 -- the Paging Cause itself is thrown away
 abbrev pub release7Of : Option Release7Value → Release7
 release7Of none = noRelease7
 release7Of (some v) =
-    record { hasRelease = true; uplink = isOne (uplinkAccess v); emergency = isOne (emergencyInd v); hasCause = isThere (pagingCause v) }
+    record { there = true; uplink = isOne (uplinkAccess v); emergency = isOne (emergencyInd v); caused = isThere (pagingCause v) }
 
 -- ## The whole
 
@@ -65,7 +65,7 @@ recordOf v = record { call = notified (callOrPaging v); release6 = release6Of (r
 abbrev pub noRecord : Notification
 noRecord = record { call = noCall; release6 = noRelease6; release7 = noRelease7 }
 
--- a refusal is its number and its bit alone
+-- a refusal is its number alone
 abbrev pub readingOf : Res Value → Reading
 readingOf (bad r) = record { refusal = r; used = 0; «record» = noRecord }
 readingOf (ok v q) = record { refusal = noRefusal; used = q; «record» = recordOf v }

@@ -3,7 +3,7 @@ ghost use mathlib.Core.Path.{_≡_};
 ghost use mathlib.Core.Option.{some};
 ghost use Prim.Native.Nat.{_≤_};
 ghost use lib.ListN.{length};
-ghost use Rattle.csn1.specs.Format.{ok, bad, _then_, renumbered, num, opt, release, _⨟_};
+ghost use Rattle.csn1.specs.Format.{ok, bad, _then_, num, opt, release, _⨟_};
 ghost use Rattle.csn1.specs.Grammar.{format};
 ghost use Rattle.csn1.specs.Told.{readAt};
 ghost use Rattle.facch.specs.Message.{release6, release7};
@@ -17,7 +17,7 @@ use csn1::Refusal;
 
 pub struct CountAt {
     pub refusal: Refusal,
-    pub hasCount: bool,
+    pub there: bool,
     pub cellcount: u8,
     pub b22: bool,
     pub at: usize,
@@ -40,11 +40,11 @@ pub fn no_release6() -> Release6
     ensures { λ r. ⌜ r ≡ noRelease6 ⌝ }
 {
     Release6 {
-        hasRelease: false,
-        hasCount: false,
+        there: false,
+        counted: false,
         cellcount: 0,
         b22: false,
-        hasRandom: false,
+        given: false,
         rand: 0,
     }
 }
@@ -54,10 +54,10 @@ pub fn no_release7() -> Release7
     ensures { λ r. ⌜ r ≡ noRelease7 ⌝ }
 {
     Release7 {
-        hasRelease: false,
+        there: false,
         uplink: false,
         emergency: false,
-        hasCause: false,
+        caused: false,
     }
 }
 
@@ -66,7 +66,7 @@ fn refused_count(refusal: Refusal) -> CountAt
 {
     CountAt {
         refusal,
-        hasCount: false,
+        there: false,
         cellcount: 0,
         b22: false,
         at: 0,
@@ -84,7 +84,7 @@ fn read_count(s: &[u8], at: usize) -> CountAt
     if flag == 0 {
         return CountAt {
             refusal: csn1::no_refusal(),
-            hasCount: false,
+            there: false,
             cellcount: 0,
             b22: false,
             at: at + 1,
@@ -98,7 +98,7 @@ fn read_count(s: &[u8], at: usize) -> CountAt
     };
     CountAt {
         refusal: csn1::no_refusal(),
-        hasCount: true,
+        there: true,
         cellcount: cellcount as u8,
         b22: b22 == 1,
         at: at + 4,
@@ -115,13 +115,6 @@ fn refused_release6(refusal: Refusal) -> Release6At
     }
 }
 
-// Bits that ran out behind Release 6's H are 14.
-fn clipped6(refusal: Refusal) -> Release6At
-    ensures { λ r. ⌜ r ≡ release6AtOf (bad (renumbered 14 refusal)) ⌝ }
-{
-    refused_release6(csn1::inside(14, refusal))
-}
-
 // The parts behind Release 6's H.
 fn read_parts6(s: &[u8], at: usize) -> Release6At
     requires { ⌜ length (now s) ≤ 4096 ⌝ }
@@ -129,20 +122,20 @@ fn read_parts6(s: &[u8], at: usize) -> Release6At
 {
     let c = read_count(s, at);
     if c.refusal.number != 0 {
-        return clipped6(c.refusal);
+        return refused_release6(c.refusal);
     }
     let v = csn1::read_flagged(s, c.at, 36);
     if v.refusal.number != 0 {
-        return clipped6(v.refusal);
+        return refused_release6(v.refusal);
     }
     Release6At {
         refusal: csn1::no_refusal(),
         release: Release6 {
-            hasRelease: true,
-            hasCount: c.hasCount,
+            there: true,
+            counted: c.there,
             cellcount: c.cellcount,
             b22: c.b22,
-            hasRandom: v.hasValue,
+            given: v.there,
             rand: v.value,
         },
         at: v.at,
@@ -180,13 +173,6 @@ fn refused_release7(refusal: Refusal) -> Release7At
     }
 }
 
-// Bits that ran out behind Release 7's H are 15.
-fn clipped7(refusal: Refusal) -> Release7At
-    ensures { λ r. ⌜ r ≡ release7AtOf (bad (renumbered 15 refusal)) ⌝ }
-{
-    refused_release7(csn1::inside(15, refusal))
-}
-
 // The parts behind Release 7's H. The two bits are L/H-coded (003), and a call's Paging Cause is read past.
 fn read_parts7(s: &[u8], at: usize) -> Release7At
     requires { ⌜ length (now s) ≤ 4096 ⌝ }
@@ -194,23 +180,23 @@ fn read_parts7(s: &[u8], at: usize) -> Release7At
 {
     let u = csn1::read_coded(s, at);
     if u.refusal.number != 0 {
-        return clipped7(u.refusal);
+        return refused_release7(u.refusal);
     }
     let e = csn1::read_coded(s, u.at);
     if e.refusal.number != 0 {
-        return clipped7(e.refusal);
+        return refused_release7(e.refusal);
     }
     let p = csn1::read_flagged(s, e.at, 1);
     if p.refusal.number != 0 {
-        return clipped7(p.refusal);
+        return refused_release7(p.refusal);
     }
     Release7At {
         refusal: csn1::no_refusal(),
         release: Release7 {
-            hasRelease: true,
+            there: true,
             uplink: u.high,
             emergency: e.high,
-            hasCause: p.hasValue,
+            caused: p.there,
         },
         at: p.at,
     }

@@ -10,26 +10,26 @@ mod additions;
 
 // What Release 6 added.
 pub struct Release6 {
-    pub hasRelease: bool,
-    pub hasCount: bool,
+    pub there: bool,
+    pub counted: bool,
     // CELL_GLOBAL_COUNT.
     pub cellcount: u8,
     // B22_COUNT.
     pub b22: bool,
-    pub hasRandom: bool,
+    pub given: bool,
     // VSTK_RAND, 36 bits.
     pub rand: u64,
 }
 
 // What Release 7 added.
 pub struct Release7 {
-    pub hasRelease: bool,
+    pub there: bool,
     // Priority Uplink Access: on the group channel where true.
     pub uplink: bool,
     // Emergency_Ind.
     pub emergency: bool,
     // Whether a Paging Cause stands there; for a call it is read past.
-    pub hasCause: bool,
+    pub caused: bool,
 }
 
 // The record of a notification. What is absent is zero.

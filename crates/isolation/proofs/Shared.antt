@@ -88,24 +88,24 @@ a-record-is-its-three-parts a b p q w =
     record {
       full = p i .full;
       call = p i .call;
-      hasSegment = p i .hasSegment;
+      segmented = p i .segmented;
       segment = p i .segment;
-      hasRandom = q i .0;
+      given = q i .0;
       rand = q i .1;
       emergency = p i .emergency;
       common =
           record {
-            hasCount = w i .0;
+            counted = w i .0;
             cellcount = w i .1;
             b22 = w i .2;
-            hasUplink = p i .common .hasUplink;
+            uplinked = p i .common .uplinked;
             uplink = p i .common .uplink;
-            hasAmr = p i .common .hasAmr;
-            hasFullrate = p i .common .hasFullrate;
+            amr = p i .common .amr;
+            fullrated = p i .common .fullrated;
             fullrate = p i .common .fullrate;
-            hasHalfrate = p i .common .hasHalfrate;
+            halfrated = p i .common .halfrated;
             halfrate = p i .common .halfrate;
-            hasSms = p i .common .hasSms;
+            sms = p i .common .sms;
             confidential = p i .common .confidential;
             private = p i .common .private;
           };

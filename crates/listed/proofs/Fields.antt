@@ -68,37 +68,37 @@ ofCall c =
     ∷ flag (c .acknowledged)
     ∷ number (c .priority)
     ∷ number (c .cipher)
-    ∷ flag (c .hasDescription)
+    ∷ flag (c .described)
     ∷ ofDescription (c .description)
 
 abbrev pub ofReduced : Reduced → Nested 1
 ofReduced r = number (r .reference) ∷ flag (r .vgcs) ∷ []
 
 abbrev pub ofRandom : Random → Nested 1
-ofRandom r = flag (r .segment) ∷ flag (r .hasRandom) ∷ number (r .rand) ∷ []
+ofRandom r = flag (r .segment) ∷ flag (r .given) ∷ number (r .rand) ∷ []
 
 abbrev pub ofRelease6 : Release6 → Nested 1
-ofRelease6 r = flag (r .hasRelease) ∷ flag (r .hasCount) ∷ number (r .cellcount) ∷ number (r .reducedcount) ∷ number (r .randomcount) ∷ []
+ofRelease6 r = flag (r .there) ∷ flag (r .counted) ∷ number (r .cellcount) ∷ number (r .reducedcount) ∷ number (r .randomcount) ∷ []
 
 abbrev pub ofRelease7 : Release7 → Nested 1
 ofRelease7 r =
-    flag (r .hasRelease)
+    flag (r .there)
     ∷ number (r .markcount)
-    ∷ flag (r .hasUplink)
+    ∷ flag (r .uplinked)
     ∷ flag (r .uplink)
-    ∷ flag (r .hasAmr)
-    ∷ flag (r .hasFullrate)
+    ∷ flag (r .amr)
+    ∷ flag (r .fullrated)
     ∷ number (r .fullrate)
-    ∷ flag (r .hasHalfrate)
+    ∷ flag (r .halfrated)
     ∷ number (r .halfrate)
-    ∷ flag (r .hasSms)
+    ∷ flag (r .sms)
     ∷ flag (r .confidential)
     ∷ flag (r .private)
     ∷ map flag (r .marks)
 
 abbrev pub ofNotification : Notification → Nested 3
 ofNotification m =
-    alone (flag (m .hasNln) ∷ number (m .nln) ∷ number (m .callcount) ∷ [])
+    alone (flag (m .numbered) ∷ number (m .nln) ∷ number (m .callcount) ∷ [])
     ∷ map ofCall (m .calls)
     ∷ alone (ofRelease6 (m .release6))
     ∷ map ofReduced (m .release6 .reduced)
@@ -107,23 +107,23 @@ ofNotification m =
     ∷ []
 
 abbrev pub ofReading : Reading → Nested 3
-ofReading r = alone (number (r .refusal .number) ∷ number (r .refusal .bit) ∷ number (r .used) ∷ []) ∷ ofNotification (r .«record»)
+ofReading r = alone (number (r .refusal .number) ∷ number (r .used) ∷ []) ∷ ofNotification (r .«record»)
 
 -- ## What an event is answered
 
 abbrev pub ofCommon : Common → Nested 1
 ofCommon c =
-    flag (c .hasCount)
+    flag (c .counted)
     ∷ number (c .cellcount)
     ∷ flag (c .b22)
-    ∷ flag (c .hasUplink)
+    ∷ flag (c .uplinked)
     ∷ flag (c .uplink)
-    ∷ flag (c .hasAmr)
-    ∷ flag (c .hasFullrate)
+    ∷ flag (c .amr)
+    ∷ flag (c .fullrated)
     ∷ number (c .fullrate)
-    ∷ flag (c .hasHalfrate)
+    ∷ flag (c .halfrated)
     ∷ number (c .halfrate)
-    ∷ flag (c .hasSms)
+    ∷ flag (c .sms)
     ∷ flag (c .confidential)
     ∷ flag (c .private)
     ∷ []
@@ -131,9 +131,9 @@ ofCommon c =
 abbrev pub ofRecord : Record → Nested 1
 ofRecord r =
     flag (r .full)
-    ∷ flag (r .hasSegment)
+    ∷ flag (r .segmented)
     ∷ flag (r .segment)
-    ∷ flag (r .hasRandom)
+    ∷ flag (r .given)
     ∷ number (r .rand)
     ∷ flag (r .emergency)
     ∷ ofCall (r .call)
@@ -150,7 +150,7 @@ ofReceiver r = map ofSlot (r .slots) ∷ numbers (r .keys) ∷ numbers (r .tick 
 
 abbrev pub ofAnswer : Answer → Nested 3
 ofAnswer a =
-    numbers (a .refusal .number ∷ a .refusal .bit ∷ a .expired ∷ a .dropped ∷ a .count ∷ [])
+    numbers (a .refusal .number ∷ a .expired ∷ a .dropped ∷ a .count ∷ [])
     ∷ map ofTold (a .entries)
     ∷ ofReceiver (a .receiver)
 

@@ -60,14 +60,14 @@ noParts = noRecord
 abbrev pub bothEmpty : Notification
 bothEmpty =
     record {
-      hasNln = false;
+      numbered = false;
       nln = 0;
       callcount = 0;
       calls = replicate 4 noCall;
       release6 =
           record {
-            hasRelease = true;
-            hasCount = false;
+            there = true;
+            counted = false;
             cellcount = 0;
             reducedcount = 0;
             reduced = replicate 5 noReduced;
@@ -76,17 +76,17 @@ bothEmpty =
           };
       release7 =
           record {
-            hasRelease = true;
+            there = true;
             markcount = 0;
             marks = replicate 4 false;
-            hasUplink = false;
+            uplinked = false;
             uplink = false;
-            hasAmr = false;
-            hasFullrate = false;
+            amr = false;
+            fullrated = false;
             fullrate = 0;
-            hasHalfrate = false;
+            halfrated = false;
             halfrate = 0;
-            hasSms = false;
+            sms = false;
             confidential = false;
             private = false;
           };
@@ -94,7 +94,7 @@ bothEmpty =
 
 -- an NLN and nothing else
 abbrev pub onlyNln : ℕ → Notification
-onlyNln n = record { hasNln = true; nln = n; callcount = 0; calls = replicate 4 noCall; release6 = noRelease6; release7 = noRelease7 }
+onlyNln n = record { numbered = true; nln = n; callcount = 0; calls = replicate 4 noCall; release6 = noRelease6; release7 = noRelease7 }
 
 -- a cause of these septets without diagnostics
 abbrev pub means : Meaning → List ℕ → CauseReading
@@ -121,12 +121,12 @@ firstRecord =
             acknowledged = false;
             priority = 3;
             cipher = 5;
-            hasDescription = true;
+            described = true;
             description = record { channel = 0x120345; hopping = false; shortlist = false; length = 0; frequencies = 0 };
           };
-      hasSegment = true;
+      segmented = true;
       segment = false;
-      hasRandom = false;
+      given = false;
       rand = 0;
       emergency = false;
       common = noCommon;
@@ -137,10 +137,10 @@ abbrev pub secondRecord : Record
 secondRecord =
     record {
       full = false;
-      call = record { reference = 1234567; vgcs = true; acknowledged = false; priority = 0; cipher = 0; hasDescription = false; description = noDescription };
-      hasSegment = true;
+      call = record { reference = 1234567; vgcs = true; acknowledged = false; priority = 0; cipher = 0; described = false; description = noDescription };
+      segmented = true;
       segment = true;
-      hasRandom = true;
+      given = true;
       rand = 0xabcdef012;
       emergency = false;
       common = noCommon;
@@ -152,9 +152,9 @@ bothRecord =
     record {
       full = true;
       call = firstRecord .call;
-      hasSegment = true;
+      segmented = true;
       segment = false;
-      hasRandom = true;
+      given = true;
       rand = 0xabcdef012;
       emergency = false;
       common = noCommon;

@@ -25,7 +25,6 @@ use Rattle.call.specs.declared.CallAt.{CallAt}
 use Rattle.call.specs.declared.Call.{Call}
 use Rattle.call.specs.Call.{CallValue, callGrammar, groupCall, callOf, noCall}
 use Rattle.call.specs.Told.{callAtOf}
-use Rattle.call.proofs.Numbering.{call-numbered}
 use Rattle.nch.specs.declared.lists.CallsPassed.{CallsPassed}
 use Rattle.nch.specs.Octets.{count, cipheredValue, describedValue}
 use Rattle.nch.specs.Places.{callsAt, firstCall, callLength, mostCalls}
@@ -38,7 +37,7 @@ use Rattle.nch.proofs.Lengths.{length-call}
 
 pub call-lawful : Lawful groupCall
 unfolding groupCall
-call-lawful = lawful callGrammar call-numbered
+call-lawful = lawful callGrammar ((omega arith, tt), ((omega arith, (tt, tt)), λ v. (((omega arith, tt), λ n. tt), tt)))
 
 abbrev pub one : Telling CallValue CallAt
 one = record { of = callAtOf; refusal = λ c. c .refusal; at = λ c. c .at; fine = λ a q. refl; place = λ a q. refl; why = λ r. refl }
@@ -117,24 +116,24 @@ module _ (s : List ℕ) (start : ℕ) (old : List ℕ) where
 
       added : (new : List ℕ) (k : Kept callNumbers callLength length-call groupCall callOf noCall mostCalls s start old firstCall new (n + 1) (c .at))
           → k .entries .acc ≡ i .kept .entries .acc ++ (g .value ∷ [])
-          → CallsKept s start old new (n + 1) (ciphered + boolByte (leb 1 (c .call .cipher))) (described + boolByte (c .call .hasDescription)) (c .at)
+          → CallsKept s start old new (n + 1) (ciphered + boolByte (leb 1 (c .call .cipher))) (described + boolByte (c .call .described)) (c .at)
       added new k a =
           record {
             kept = k;
             ciphers = counted-one cipheredValue (i .kept .entries .acc) (k .entries .acc) (g .value) ciphered (leb 1 (c .call .cipher)) (i .ciphers) (ap (λ (w : Call). leb 1 (w .cipher)) call-is) a;
-            describes = counted-one describedValue (i .kept .entries .acc) (k .entries .acc) (g .value) described (c .call .hasDescription) (i .describes) (ap (λ (w : Call). w .hasDescription) call-is) a;
+            describes = counted-one describedValue (i .kept .entries .acc) (k .entries .acc) (g .value) described (c .call .described) (i .describes) (ap (λ (w : Call). w .described) call-is) a;
           }
 
       -- one that has a place, and one that has none
       pub calls-one : (vs new : List ℕ) → n < mostCalls → vs ≡ callNumbers (c .call) → new ≡ stored numbers (firstCall + callLength * n) vs
-          → CallsKept s start old new (n + 1) (ciphered + boolByte (leb 1 (c .call .cipher))) (described + boolByte (c .call .hasDescription)) (c .at)
+          → CallsKept s start old new (n + 1) (ciphered + boolByte (leb 1 (c .call .cipher))) (described + boolByte (c .call .described)) (c .at)
       calls-one vs new h v m =
           let o : new ≡ stored numbers (firstCall + callLength * n) (callNumbers (c .call)) = m ∙ ap (stored numbers (firstCall + callLength * n)) v in
           added new (kept-one (i .kept) f (g .value) (c .at) (c .call) new e z (g .is) l h call-is o)
           (one-acc (i .kept) f (g .value) (c .at) (c .call) new e z (g .is) l h call-is o)
 
       pub calls-more : mostCalls ≤ n
-          → CallsKept s start old numbers (n + 1) (ciphered + boolByte (leb 1 (c .call .cipher))) (described + boolByte (c .call .hasDescription)) (c .at)
+          → CallsKept s start old numbers (n + 1) (ciphered + boolByte (leb 1 (c .call .cipher))) (described + boolByte (c .call .described)) (c .at)
       calls-more h = added numbers (kept-more (i .kept) f (g .value) (c .at) e z (g .is) l h) (more-acc (i .kept) f (g .value) (c .at) e z (g .is) l h)
 
     -- the loop has met the 0 that closes the list

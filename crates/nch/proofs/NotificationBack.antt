@@ -107,8 +107,8 @@ spread-all z (suc n) (x ∷ l) e = ap (λ y. x ∷ y) (spread-all z n l (omega a
 abbrev with6 : Release6 → List Reduced → List Random → Release6
 with6 r a b =
     record {
-      hasRelease = r .hasRelease;
-      hasCount = r .hasCount;
+      there = r .there;
+      counted = r .counted;
       cellcount = r .cellcount;
       reducedcount = r .reducedcount;
       reduced = a;
@@ -119,17 +119,17 @@ with6 r a b =
 abbrev with7 : Release7 → List Bool → Release7
 with7 r a =
     record {
-      hasRelease = r .hasRelease;
+      there = r .there;
       markcount = r .markcount;
       marks = a;
-      hasUplink = r .hasUplink;
+      uplinked = r .uplinked;
       uplink = r .uplink;
-      hasAmr = r .hasAmr;
-      hasFullrate = r .hasFullrate;
+      amr = r .amr;
+      fullrated = r .fullrated;
       fullrate = r .fullrate;
-      hasHalfrate = r .hasHalfrate;
+      halfrated = r .halfrated;
       halfrate = r .halfrate;
-      hasSms = r .hasSms;
+      sms = r .sms;
       confidential = r .confidential;
       private = r .private;
     }
@@ -137,7 +137,7 @@ with7 r a =
 abbrev with-arrays : Notification → List Call → List Reduced → List Random → List Bool → Notification
 with-arrays m a b d e =
     record {
-      hasNln = m .hasNln;
+      numbered = m .numbered;
       nln = m .nln;
       callcount = m .callcount;
       calls = a;

@@ -20,15 +20,15 @@ pub struct Reduced {
 pub struct Random {
     // Segment Id: the second segment where true.
     pub segment: bool,
-    pub hasRandom: bool,
+    pub given: bool,
     // VSTK_RAND, 36 bits.
     pub rand: u64,
 }
 
 // What Release 6 added.
 pub struct Release6 {
-    pub hasRelease: bool,
-    pub hasCount: bool,
+    pub there: bool,
+    pub counted: bool,
     // CELL_GLOBAL_COUNT.
     pub cellcount: u8,
     pub reducedcount: usize,
@@ -39,21 +39,21 @@ pub struct Release6 {
 
 // What Release 7 added.
 pub struct Release7 {
-    pub hasRelease: bool,
+    pub there: bool,
     pub markcount: usize,
     // Emergency_Ind.
     pub marks: [bool; places::MOST_MARKS],
-    pub hasUplink: bool,
+    pub uplinked: bool,
     // Priority Uplink Access: on the group channel where true.
     pub uplink: bool,
-    pub hasAmr: bool,
-    pub hasFullrate: bool,
+    pub amr: bool,
+    pub fullrated: bool,
     // FR AMR Config.
     pub fullrate: u8,
-    pub hasHalfrate: bool,
+    pub halfrated: bool,
     // HR AMR Config.
     pub halfrate: u8,
-    pub hasSms: bool,
+    pub sms: bool,
     // SMS Data Confidentiality Ind.
     pub confidential: bool,
     // SMS Guaranteed Privacy Ind.
@@ -62,7 +62,7 @@ pub struct Release7 {
 
 // The record of a notification. What is absent, and every unused place, is zero.
 pub struct Notification {
-    pub hasNln: bool,
+    pub numbered: bool,
     pub nln: u8,
     pub callcount: usize,
     pub calls: [Call; places::MOST_CALLS],

@@ -6,7 +6,6 @@ ghost use Rattle.csn1.specs.Told.{padded};
 ghost use Rattle.facch.specs.Told.{readOf};
 ghost use Rattle.numbers.specs.FacchNumbers.{release6Numbers, release7Numbers, numbersOf, readNumbers};
 use arrays::fill;
-use csn1::Refusal;
 use facch::Notification;
 use facch::Release6;
 use facch::Release7;
@@ -30,11 +29,11 @@ fn release6_numbers(r: Release6) -> [u64; RELEASE6_LENGTH]
     ensures { λ a. ⌜ a ≡ release6Numbers r ⌝ }
 {
     [
-        r.hasRelease as u64,
-        r.hasCount as u64,
+        r.there as u64,
+        r.counted as u64,
         r.cellcount as u64,
         r.b22 as u64,
-        r.hasRandom as u64,
+        r.given as u64,
         r.rand,
     ]
 }
@@ -43,10 +42,10 @@ fn release7_numbers(r: Release7) -> [u64; RELEASE7_LENGTH]
     ensures { λ a. ⌜ a ≡ release7Numbers r ⌝ }
 {
     [
-        r.hasRelease as u64,
+        r.there as u64,
         r.uplink as u64,
         r.emergency as u64,
-        r.hasCause as u64,
+        r.caused as u64,
     ]
 }
 
@@ -69,13 +68,13 @@ fn all_numbers(m: Notification, used: usize) -> [u64; LENGTH]
 }
 
 // Reads any octets, into as many places as there are.
-pub fn read(octets: &[u8], numbers: &mut [u64]) -> Refusal
-    ensures { λ r. ⌜ (r ≡ readOf (now (octets .entry)) .refusal)
+pub fn read(octets: &[u8], numbers: &mut [u64]) -> u8
+    ensures { λ r. ⌜ (r ≡ readOf (now (octets .entry)) .refusal .number)
         × (now (numbers .exit) ≡ padded 0 (length (now (numbers .entry))) (readNumbers (now (octets .entry)))) ⌝ }
 {
     let r = facch::read(octets);
     let m = r.record;
     let all = all_numbers(m, r.used);
     fill::store(&all, &mut *numbers);
-    r.refusal
+    r.refusal.number
 }

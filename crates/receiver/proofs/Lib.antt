@@ -1,4 +1,3 @@
-pub mod Refusals
 pub mod Cases
 pub mod Classes
 pub mod Loops

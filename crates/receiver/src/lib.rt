@@ -11,19 +11,19 @@ pub mod store;
 
 // The parts that a message has once for all of its calls.
 pub struct Common {
-    pub hasCount: bool,
+    pub counted: bool,
     // CELL_GLOBAL_COUNT, and B22_COUNT where the channel has it.
     pub cellcount: u8,
     pub b22: bool,
-    pub hasUplink: bool,
+    pub uplinked: bool,
     // Priority Uplink Access.
     pub uplink: bool,
-    pub hasAmr: bool,
-    pub hasFullrate: bool,
+    pub amr: bool,
+    pub fullrated: bool,
     pub fullrate: u8,
-    pub hasHalfrate: bool,
+    pub halfrated: bool,
     pub halfrate: u8,
-    pub hasSms: bool,
+    pub sms: bool,
     pub confidential: bool,
     pub private: bool,
 }
@@ -33,10 +33,10 @@ pub struct Record {
     // A full reference of 36 bits; else a reduced one, whose other fields are zero.
     pub full: bool,
     pub call: Call,
-    pub hasSegment: bool,
+    pub segmented: bool,
     // Segment Id.
     pub segment: bool,
-    pub hasRandom: bool,
+    pub given: bool,
     // VSTK_RAND.
     pub rand: u64,
     pub emergency: bool,
@@ -89,7 +89,7 @@ pub struct Told {
 // A message has at most this many entries: four calls and five reduced references.
 pub const MOST_ENTRIES: usize = 9;
 
-// What an event is answered. A refusal is its number and its bit alone, and the receiver as it stood.
+// What an event is answered. A refusal is its number alone, and the receiver as it stood.
 pub struct Answer {
     pub refusal: Refusal,
     pub expired: usize,

@@ -43,23 +43,23 @@ pub fn facch_entry(m: facch::Notification) -> Record
     Record {
         full: true,
         call,
-        hasSegment: false,
+        segmented: false,
         segment: false,
-        hasRandom: m.release6.hasRandom,
+        given: m.release6.given,
         rand: m.release6.rand,
         emergency: m.release7.emergency,
         common: Common {
-            hasCount: m.release6.hasCount,
+            counted: m.release6.counted,
             cellcount: m.release6.cellcount,
             b22: m.release6.b22,
-            hasUplink: m.release7.hasRelease,
+            uplinked: m.release7.there,
             uplink: m.release7.uplink,
-            hasAmr: false,
-            hasFullrate: false,
+            amr: false,
+            fullrated: false,
             fullrate: 0,
-            hasHalfrate: false,
+            halfrated: false,
             halfrate: 0,
-            hasSms: false,
+            sms: false,
             confidential: false,
             private: false,
         },
@@ -81,27 +81,27 @@ pub fn pch_entry(p: pch::Entry) -> Record
     ensures { λ r. ⌜ r ≡ pchEntry p ⌝ }
 {
     let call = p.call;
-    let given = p.hasRandom && (p.full || p.ciphered);
+    let given = p.given && (p.full || p.ciphered);
     Record {
         full: p.full,
         call,
-        hasSegment: false,
+        segmented: false,
         segment: false,
-        hasRandom: given,
+        given,
         rand: if given { p.rand } else { 0 },
         emergency: false,
         common: Common {
-            hasCount: p.hasCount,
+            counted: p.counted,
             cellcount: p.cellcount,
             b22: false,
-            hasUplink: false,
+            uplinked: false,
             uplink: false,
-            hasAmr: false,
-            hasFullrate: false,
+            amr: false,
+            fullrated: false,
             fullrate: 0,
-            hasHalfrate: false,
+            halfrated: false,
             halfrate: 0,
-            hasSms: false,
+            sms: false,
             confidential: false,
             private: false,
         },
@@ -122,17 +122,17 @@ pub fn nch_common(m: nch::Notification) -> Common
     ensures { λ r. ⌜ r ≡ nchCommon m ⌝ }
 {
     Common {
-        hasCount: m.release6.hasCount,
+        counted: m.release6.counted,
         cellcount: m.release6.cellcount,
         b22: false,
-        hasUplink: m.release7.hasUplink,
+        uplinked: m.release7.uplinked,
         uplink: m.release7.uplink,
-        hasAmr: m.release7.hasAmr,
-        hasFullrate: m.release7.hasFullrate,
+        amr: m.release7.amr,
+        fullrated: m.release7.fullrated,
         fullrate: m.release7.fullrate,
-        hasHalfrate: m.release7.hasHalfrate,
+        halfrated: m.release7.halfrated,
         halfrate: m.release7.halfrate,
-        hasSms: m.release7.hasSms,
+        sms: m.release7.sms,
         confidential: m.release7.confidential,
         private: m.release7.private,
     }
@@ -140,9 +140,9 @@ pub fn nch_common(m: nch::Notification) -> Common
 
 // The random entry that an entry owns, and all zero where it owns none.
 pub struct Owned {
-    pub hasSegment: bool,
+    pub there: bool,
     pub segment: bool,
-    pub hasRandom: bool,
+    pub given: bool,
     pub rand: u64,
 }
 
@@ -150,9 +150,9 @@ pub fn owns_none() -> Owned
     ensures { λ r. ⌜ r ≡ ownedOf none ⌝ }
 {
     Owned {
-        hasSegment: false,
+        there: false,
         segment: false,
-        hasRandom: false,
+        given: false,
         rand: 0,
     }
 }
@@ -170,9 +170,9 @@ fn random_at(m: nch::Notification, k: usize) -> Owned
     let six = m.release6;
     let one = six.randoms[k];
     Owned {
-        hasSegment: true,
+        there: true,
         segment: one.segment,
-        hasRandom: one.hasRandom,
+        given: one.given,
         rand: one.rand,
     }
 }
@@ -191,7 +191,7 @@ fn random_of_call(m: nch::Notification, c: Call, k: usize) -> Owned
 fn emergency_of_call(m: nch::Notification, c: Call, k: usize) -> bool
     ensures { λ r. ⌜ r ≡ pick (isDescribed c) (orNot (nth k (marksOf m))) false ⌝ }
 {
-    if !c.hasDescription {
+    if !c.described {
         return false;
     }
     if m.release7.markcount <= k {
@@ -212,9 +212,9 @@ pub fn call_entry(m: nch::Notification, c: Call, random: usize, mark: usize) -> 
     Record {
         full: true,
         call: c,
-        hasSegment: owned.hasSegment,
+        segmented: owned.there,
         segment: owned.segment,
-        hasRandom: owned.hasRandom,
+        given: owned.given,
         rand: owned.rand,
         emergency: emergency_of_call(m, c, mark),
         common: nch_common(m),
@@ -232,9 +232,9 @@ pub fn reduced_entry(m: nch::Notification, r: Reduced, random: usize) -> Record
     Record {
         full: false,
         call,
-        hasSegment: owned.hasSegment,
+        segmented: owned.there,
         segment: owned.segment,
-        hasRandom: owned.hasRandom,
+        given: owned.given,
         rand: owned.rand,
         emergency: false,
         common: nch_common(m),
@@ -266,7 +266,7 @@ fn call_entries(m: nch::Notification) -> CallEntries
         let c = m.calls[i];
         items[i] = call_entry(m, c, random, mark);
         random += one_if(1 <= c.cipher);
-        mark += one_if(c.hasDescription);
+        mark += one_if(c.described);
         i += 1;
     }
     CallEntries {
