@@ -96,9 +96,9 @@ sizeFrom true false s n = 62
 sizeFrom true true true n = 127
 sizeFrom true true false n = 71 + 8 * n
 
-pub call-size : (c : Call) → callSize c ≡ sizeFrom (c .described) (c .description .hopping) (c .description .shortlist) (c .description .length)
+pub call-size : (c : Call) → callSize c ≡ sizeFrom (c .hasDescription) (c .description .hopping) (c .description .shortlist) (c .description .length)
 unfolding callSize
-call-size c = value-size 0 0 (callValue c) refl ∙ go (c .described) (c .description .hopping) (c .description .shortlist)
+call-size c = value-size 0 0 (callValue c) refl ∙ go (c .hasDescription) (c .description .hopping) (c .description .shortlist)
   where
     go : (d h s : Bool)
         → 37 + partSize (there d ((c .description .channel, asBit h), there h (pick s (inr (c .description .frequencies)) (inl (c .description .length, c .description .frequencies)))))

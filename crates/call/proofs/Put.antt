@@ -97,12 +97,12 @@ module _ (s d : List ℕ) (p : ℕ) (c : Description) (r : Room (format descript
 
 -- d is s after the 36 bits and the flag behind them were put
 module _ (s d : List ℕ) (p : ℕ) (c : Call) (r : Room groupCall (callValue c) s p) (x : d ≡ afterPut s p 37 (headNumber c)) where
-  head-is : headNumber c ≡ glued widths (callValue c .0) * 2 + asBit (c .described)
+  head-is : headNumber c ≡ glued widths (callValue c .0) * 2 + asBit (c .hasDescription)
   head-is = omega arith
 
   head-lt : headNumber c < 2 ^ 37
   unfolding groupCall
-  head-lt = omega (arith, head-is, glued-lt widths (callValue c .0) (r .fits .0 .0), flag-lt (c .described))
+  head-lt = omega (arith, head-is, glued-lt widths (callValue c .0) (r .fits .0 .0), flag-lt (c .hasDescription))
 
   head-within : p + 37 ≤ length s * 8
   head-within = omega (arith, r .enough, value-size 0 0 (callValue c) refl)
@@ -110,28 +110,28 @@ module _ (s d : List ℕ) (p : ℕ) (c : Call) (r : Room groupCall (callValue c)
   pub head-length : length d ≡ length s
   head-length = put-length s d p 37 (headNumber c) x (omega arith) head-within head-lt
 
-  call-put : putBits d (p + 37) (whenBits (format description) 0 0 (there (c .described) (descriptionValue (c .description)))) ≡ putBits s p (groupCall .bits 0 0 (callValue c))
+  call-put : putBits d (p + 37) (whenBits (format description) 0 0 (there (c .hasDescription) (descriptionValue (c .description)))) ≡ putBits s p (groupCall .bits 0 0 (callValue c))
   unfolding groupCall
   call-put =
       let l = callValue c .0 in
-      let t = c .described in
+      let t = c .hasDescription in
       let bs = whenBits (format description) 0 0 (there t (descriptionValue (c .description))) in
       let e : numBits 37 (headNumber c) ++ bs ≡ rowBits widths l ++ (asBit t ∷ bs) = ap (λ (k : ℕ). numBits 37 k ++ bs) head-is ∙ sym (row-led widths l (asBit t) bs (r .fits .0 .0) (flag-lt t)) in
       put-then s d p 37 (headNumber c) x (omega arith) head-within head-lt bs
       ∙ ap (putBits s p) (e ∙ ap (λ (b : List ℕ). rowBits widths l ++ b) (opt-anywhere (format description) description-anywhere 0 (0 + length (rowBits widths l)) t (descriptionValue (c .description))))
 
-  pub plain-put : c .described ≡ false → d ≡ putBits s p (groupCall .bits 0 0 (callValue c))
+  pub plain-put : c .hasDescription ≡ false → d ≡ putBits s p (groupCall .bits 0 0 (callValue c))
   plain-put e =
       sym (put-none d (p + 37))
       ∙ ap (λ (t : Bool). putBits d (p + 37) (whenBits (format description) 0 0 (there t (descriptionValue (c .description))))) (sym e)
       ∙ call-put
 
-  pub described-put : c .described ≡ true → putBits d (p + 37) (format description .bits 0 0 (descriptionValue (c .description))) ≡ putBits s p (groupCall .bits 0 0 (callValue c))
+  pub described-put : c .hasDescription ≡ true → putBits d (p + 37) (format description .bits 0 0 (descriptionValue (c .description))) ≡ putBits s p (groupCall .bits 0 0 (callValue c))
   described-put e = ap (λ (t : Bool). putBits d (p + 37) (whenBits (format description) 0 0 (there t (descriptionValue (c .description))))) (sym e) ∙ call-put
 
-  pub description-room : c .described ≡ true → Room (format description) (descriptionValue (c .description)) d (p + 37)
+  pub description-room : c .hasDescription ≡ true → Room (format description) (descriptionValue (c .description)) d (p + 37)
   unfolding groupCall
-  description-room = go (c .described) r
+  description-room = go (c .hasDescription) r
     where
       go : (t : Bool) → Room groupCall (callValue c .0, there t (descriptionValue (c .description))) s p → t ≡ true → Room (format description) (descriptionValue (c .description)) d (p + 37)
       go false r e = absurd (let z : _≡_ {A = ℕ} 0 1 = cc in omega arith)

@@ -79,8 +79,8 @@ pub call-fits : (c : Call) → callInRange c ≡ true → callIsLow c ≡ true �
 unfolding groupCall callInRange callIsLow callLengthRight callHopsRight
 call-fits c r w l h =
     let d : Description = c .description in
-    let t = both-true (headInRange c) (pick (c .described) (descriptionInRange d) (descriptionIsZero d)) r in
-    ((head-fits c (t .0), w), part (c .described) (t .1) l h)
+    let t = both-true (headInRange c) (pick (c .hasDescription) (descriptionInRange d) (descriptionIsZero d)) r in
+    ((head-fits c (t .0), w), part (c .hasDescription) (t .1) l h)
   where
     part : (t : Bool) → pick t (descriptionInRange (c .description)) (descriptionIsZero (c .description)) ≡ true
         → pick (both t (both (c .description .hopping) (not (c .description .shortlist)))) (oneToEight (c .description .length)) true ≡ true
@@ -115,8 +115,8 @@ call-back c r =
     rw (
       flag-back (c .vgcs),
       flag-back (c .acknowledged),
-      there-back (c .described) (descriptionValue (c .description)),
-      part (c .described) (both-true (headInRange c) (pick (c .described) (descriptionInRange (c .description)) (descriptionIsZero (c .description))) r .1),
+      there-back (c .hasDescription) (descriptionValue (c .description)),
+      part (c .hasDescription) (both-true (headInRange c) (pick (c .hasDescription) (descriptionInRange (c .description)) (descriptionIsZero (c .description))) r .1),
     )
   where
     part : (t : Bool) → pick t (descriptionInRange (c .description)) (descriptionIsZero (c .description)) ≡ true
@@ -188,18 +188,18 @@ module _ (v : CallValue) (h : groupCall .fits v) where
 
 -- ## What others ask of a value
 
-pub call-described : (v : CallValue) → callOf v .described ≡ isThere (v .1)
+pub call-described : (v : CallValue) → callOf v .hasDescription ≡ isThere (v .1)
 call-described v = refl
 
 -- ## The unused place
 
 pub zero-is : (c : Call) → callIsZero c ≡ true → c ≡ noCall
 unfolding callIsZero
-zero-is c e = all (c .reference) (c .vgcs) (c .acknowledged) (c .priority) (c .cipher) (c .described) (c .description) e
+zero-is c e = all (c .reference) (c .vgcs) (c .acknowledged) (c .priority) (c .cipher) (c .hasDescription) (c .description) e
   where
     all : (r : ℕ) (v a : Bool) (p k : ℕ) (t : Bool) (d : Description)
         → both (eqb r 0) (both (not v) (both (not a) (both (eqb p 0) (both (eqb k 0) (both (not t) (descriptionIsZero d)))))) ≡ true
-        → record { reference = r; vgcs = v; acknowledged = a; priority = p; cipher = k; described = t; description = d } ≡ noCall
+        → record { reference = r; vgcs = v; acknowledged = a; priority = p; cipher = k; hasDescription = t; description = d } ≡ noCall
     all r v a p k t d e =
         let e1 = both-true (eqb r 0) _ e in
         let e2 = both-true (not v) _ (e1 .1) in

@@ -110,7 +110,7 @@ abbrev pub noDescription : Description
 noDescription = record { channel = 0; hopping = false; shortlist = false; length = 0; frequencies = 0 }
 
 abbrev pub noCall : Call
-noCall = record { reference = 0; vgcs = false; acknowledged = false; priority = 0; cipher = 0; described = false; description = noDescription }
+noCall = record { reference = 0; vgcs = false; acknowledged = false; priority = 0; cipher = 0; hasDescription = false; description = noDescription }
 
 -- a description from its channel, its hopping flag and its frequencies
 abbrev pub withFrequencies : ℕ → Bool → Option ((ℕ × ℕ) ⊎ ℕ) → Description
@@ -130,7 +130,7 @@ callOf v =
       acknowledged = isOne (acknowledgementFlag (groupCallReference v));
       priority = callPriority (groupCallReference v);
       cipher = cipherKeyNumber (groupCallReference v);
-      described = isThere (groupChannelDescription v);
+      hasDescription = isThere (groupChannelDescription v);
       description = descriptionOf (groupChannelDescription v);
     }
 
@@ -144,7 +144,7 @@ descriptionValue d = ((d .channel, asBit (d .hopping)), there (d .hopping) (freq
 
 abbrev pub callValue : Call → CallValue
 callValue c =
-    (c .reference ∷ asBit (c .vgcs) ∷ asBit (c .acknowledged) ∷ c .priority ∷ c .cipher ∷ [], there (c .described) (descriptionValue (c .description)))
+    (c .reference ∷ asBit (c .vgcs) ∷ asBit (c .acknowledged) ∷ c .priority ∷ c .cipher ∷ [], there (c .hasDescription) (descriptionValue (c .description)))
 
 -- ## What others ask of a call
 

@@ -38,7 +38,7 @@ callFromHead head described description =
       acknowledged = isOne (head / 128 % 2);
       priority = head / 16 % 8;
       cipher = head % 16;
-      described = described;
+      hasDescription = described;
       description = description;
     }
 
@@ -54,7 +54,7 @@ gathered p =
             acknowledged = p .acknowledged;
             priority = p .priority;
             cipher = p .cipher;
-            described = p .described;
+            hasDescription = p .hasDescription;
             description = record { channel = p .channel; hopping = p .hopping; shortlist = p .shortlist; length = p .length; frequencies = p .frequencies };
           };
       at = p .at;
@@ -70,7 +70,7 @@ flatFrom led described channel at =
       acknowledged = isOne (led / 256 % 2);
       priority = led / 32 % 8;
       cipher = led / 2 % 16;
-      described = described;
+      hasDescription = described;
       channel = channel;
       hopping = false;
       shortlist = false;
@@ -80,19 +80,19 @@ flatFrom led described channel at =
     }
 
 abbrev pub notQuick : Quick
-notQuick = record { done = false; led = 0; described = false; channel = 0; at = 0 }
+notQuick = record { done = false; led = 0; hasDescription = false; channel = 0; at = 0 }
 
 -- where it was done, it tells what was read
 pub record Quickly (q : Quick) (x : Res CallValue) : Type 0 where
   pub small : q .led < 137438953472
-  pub right : q .done ≡ true → gathered (flatFrom (q .led) (q .described) (q .channel) (q .at)) ≡ callAtOf x
+  pub right : q .done ≡ true → gathered (flatFrom (q .led) (q .hasDescription) (q .channel) (q .at)) ≡ callAtOf x
 
 -- ## Writing
 
 -- the 36 bits and the flag behind them, as one number
 abbrev pub headNumber : Call → ℕ
 headNumber c =
-    ((c .reference * 4 + asBit (c .vgcs) * 2 + asBit (c .acknowledged)) * 256 + c .priority * 32) + c .cipher * 2 + asBit (c .described)
+    ((c .reference * 4 + asBit (c .vgcs) * 2 + asBit (c .acknowledged)) * 256 + c .priority * 32) + c .cipher * 2 + asBit (c .hasDescription)
 
 -- a part that can be written, and octets, not too many, that have its bits from p on
 pub record Room {A : Type 0} (F : Format A) (v : A) (s : List ℕ) (p : ℕ) : Type 0 where

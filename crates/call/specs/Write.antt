@@ -31,7 +31,7 @@ abbrev pub headInRange : Call → Bool
 headInRange c = both (ltb (c .reference) (2 ^ 27)) (both (ltb (c .priority) 8) (ltb (c .cipher) 16))
 
 unfoldable pub callInRange : Call → Bool
-callInRange c = both (headInRange c) (pick (c .described) (descriptionInRange (c .description)) (descriptionIsZero (c .description)))
+callInRange c = both (headInRange c) (pick (c .hasDescription) (descriptionInRange (c .description)) (descriptionIsZero (c .description)))
 
 -- an unused place for a call
 unfoldable pub callIsZero : Call → Bool
@@ -39,7 +39,7 @@ callIsZero c =
     both (eqb (c .reference) 0)
     (both (not (c .vgcs))
     (both (not (c .acknowledged))
-    (both (eqb (c .priority) 0) (both (eqb (c .cipher) 0) (both (not (c .described)) (descriptionIsZero (c .description)))))))
+    (both (eqb (c .priority) 0) (both (eqb (c .cipher) 0) (both (not (c .hasDescription)) (descriptionIsZero (c .description)))))))
 
 -- ## 4: a reference above 99,999,999
 
@@ -49,7 +49,7 @@ callIsLow c = leb (c .reference) 99999999
 -- ## 3: a mobile allocation's length not 1 to 8
 
 abbrev pub allocates : Call → Bool
-allocates c = both (c .described) (both (c .description .hopping) (not (c .description .shortlist)))
+allocates c = both (c .hasDescription) (both (c .description .hopping) (not (c .description .shortlist)))
 
 unfoldable pub callLengthRight : Call → Bool
 callLengthRight c = pick (allocates c) (oneToEight (c .description .length)) true
@@ -57,7 +57,7 @@ callLengthRight c = pick (allocates c) (oneToEight (c .description .length)) tru
 -- ## 5: the hopping bit unlike the hopping flag
 
 unfoldable pub callHopsRight : Call → Bool
-callHopsRight c = pick (c .described) (eqb (hoppingBit (c .description .channel)) (asBit (c .description .hopping))) true
+callHopsRight c = pick (c .hasDescription) (eqb (hoppingBit (c .description .channel)) (asBit (c .description .hopping))) true
 
 -- ## The call as bits
 

@@ -35,7 +35,7 @@ pub struct Call {
     pub priority: u8,
     // The cipher key number; the call is ciphered where it is not 0.
     pub cipher: u8,
-    pub described: bool,
+    pub hasDescription: bool,
     pub description: Description,
 }
 
@@ -193,7 +193,7 @@ pub fn no_call() -> Call
         acknowledged: false,
         priority: 0,
         cipher: 0,
-        described: false,
+        hasDescription: false,
         description: no_description(),
     }
 }
@@ -219,7 +219,7 @@ fn call_from(head: u64, described: bool, description: Description) -> Call
         acknowledged: head / 128 % 2 == 1,
         priority: (head / 16 % 8) as u8,
         cipher: (head % 16) as u8,
-        described,
+        hasDescription: described,
         description,
     }
 }
@@ -267,7 +267,7 @@ struct Flat {
     acknowledged: bool,
     priority: u8,
     cipher: u8,
-    described: bool,
+    hasDescription: bool,
     channel: u32,
     hopping: bool,
     shortlist: bool,
@@ -289,7 +289,7 @@ fn flat_steps(s: &[u8], at: usize) -> Flat
         acknowledged: c.call.acknowledged,
         priority: c.call.priority,
         cipher: c.call.cipher,
-        described: c.call.described,
+        hasDescription: c.call.hasDescription,
         channel: c.call.description.channel,
         hopping: c.call.description.hopping,
         shortlist: c.call.description.shortlist,
@@ -311,7 +311,7 @@ fn fixed(led: u64, described: bool, channel: u32, at: usize) -> Flat
         acknowledged: led / 256 % 2 == 1,
         priority: (led / 32 % 8) as u8,
         cipher: (led / 2 % 16) as u8,
-        described,
+        hasDescription: described,
         channel,
         hopping: false,
         shortlist: false,
@@ -325,7 +325,7 @@ fn fixed(led: u64, described: bool, channel: u32, at: usize) -> Flat
 struct Quick {
     done: bool,
     led: u64,
-    described: bool,
+    hasDescription: bool,
     channel: u32,
     at: usize,
 }
@@ -336,7 +336,7 @@ fn not_quick() -> Quick
     Quick {
         done: false,
         led: 0,
-        described: false,
+        hasDescription: false,
         channel: 0,
         at: 0,
     }
@@ -359,7 +359,7 @@ fn read_quick(s: &[u8], at: usize) -> Quick
         return Quick {
             done: true,
             led,
-            described: false,
+            hasDescription: false,
             channel: 0,
             at: at + 37,
         };
@@ -376,7 +376,7 @@ fn read_quick(s: &[u8], at: usize) -> Quick
     Quick {
         done: true,
         led,
-        described: true,
+        hasDescription: true,
         channel: (channel / 2) as u32,
         at: at + 62,
     }
@@ -388,7 +388,7 @@ fn read_flat(s: &[u8], at: usize) -> Flat
 {
     let q = read_quick(s, at);
     if q.done {
-        return fixed(q.led, q.described, q.channel, q.at);
+        return fixed(q.led, q.hasDescription, q.channel, q.at);
     }
     flat_steps(s, at)
 }
@@ -407,7 +407,7 @@ pub fn read(s: &[u8], at: usize) -> CallAt
             acknowledged: p.acknowledged,
             priority: p.priority,
             cipher: p.cipher,
-            described: p.described,
+            hasDescription: p.hasDescription,
             description: Description {
                 channel: p.channel,
                 hopping: p.hopping,

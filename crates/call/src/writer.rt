@@ -25,7 +25,7 @@ pub fn in_range(c: Call) -> bool
         return false;
     }
     let d = c.description;
-    if !c.described {
+    if !c.hasDescription {
         return description_is_zero(d);
     }
     if 16777215 < d.channel {
@@ -92,7 +92,7 @@ pub fn is_zero(c: Call) -> bool
     if c.cipher != 0 {
         return false;
     }
-    if c.described {
+    if c.hasDescription {
         return false;
     }
     let d = c.description;
@@ -110,7 +110,7 @@ pub fn is_low(c: Call) -> bool
 pub fn length_right(c: Call) -> bool
     ensures { λ r. ⌜ r ≡ callLengthRight c ⌝ }
 {
-    if !c.described {
+    if !c.hasDescription {
         return true;
     }
     if !c.description.hopping {
@@ -129,7 +129,7 @@ pub fn length_right(c: Call) -> bool
 pub fn hops_right(c: Call) -> bool
     ensures { λ r. ⌜ r ≡ callHopsRight c ⌝ }
 {
-    if !c.described {
+    if !c.hasDescription {
         return true;
     }
     let bit = c.description.channel / 4096 % 2;
@@ -143,7 +143,7 @@ pub fn hops_right(c: Call) -> bool
 pub fn size(c: Call) -> usize
     ensures { λ r. ⌜ r ≡ callSize c ⌝ }
 {
-    if !c.described {
+    if !c.hasDescription {
         return 37;
     }
     if !c.description.hopping {
@@ -189,7 +189,7 @@ fn head(c: Call) -> u64
     ensures { λ r. ⌜ r ≡ headNumber c ⌝ }
 {
     let call = c.reference as u64 * 4 + c.vgcs as u64 * 2 + c.acknowledged as u64;
-    call * 256 + c.priority as u64 * 32 + c.cipher as u64 * 2 + c.described as u64
+    call * 256 + c.priority as u64 * 32 + c.cipher as u64 * 2 + c.hasDescription as u64
 }
 
 // { 0 < Mobile Allocation > | 1 < Frequency Short List >}
@@ -228,7 +228,7 @@ pub fn put(buf: &mut [u8], at: usize, c: Call) -> bool
         return false;
     }
     bits::put(&mut *buf, at, 37, head(c));
-    if c.described {
+    if c.hasDescription {
         let d = c.description;
         put_description(&mut *buf, at + 37, d);
     }

@@ -24,7 +24,7 @@ use Rattle.csn1.proofs.Reading.{flagged-at, lead-at, release-led}
 pub record Flag (r : Flagged) (x : Res (Option ℕ)) : Type 0 where
   pub number : Option ℕ
   pub is : x ≡ ok number (r .at)
-  pub there : r .there ≡ isThere number
+  pub there : r .hasValue ≡ isThere number
   pub value : r .value ≡ orZero number
 
 pub flagged-ok : (r : Flagged) (x : Res (Option ℕ)) → r ≡ flaggedOf x → Grounded x → r .refusal .number ≡ 0 → Flag r x
@@ -32,7 +32,7 @@ flagged-ok r (ok v q) e g z =
     record {
       number = v;
       is = ap (λ (n : ℕ). ok v n) (sym (ap (λ (f : Flagged). f .at) e));
-      there = ap (λ (f : Flagged). f .there) e;
+      there = ap (λ (f : Flagged). f .hasValue) e;
       value = ap (λ (f : Flagged). f .value) e;
     }
 flagged-ok r (bad w) e g z = absurd (let n : r .refusal .number ≡ w .number = ap (λ (f : Flagged). f .refusal .number) e in omega arith)

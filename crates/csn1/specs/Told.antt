@@ -52,8 +52,8 @@ abbrev pub flaggedAt : List ℕ → ℕ → ℕ → Res (Option ℕ)
 flaggedAt s p w = pick (leb w 64) (readAt (opt (num w)) s p) (bad (ranOut p))
 
 abbrev pub flaggedOf : Res (Option ℕ) → Flagged
-flaggedOf (bad r) = record { refusal = r; there = false; value = 0; at = 0 }
-flaggedOf (ok v q) = record { refusal = noRefusal; there = isThere v; value = orZero v; at = q }
+flaggedOf (bad r) = record { refusal = r; hasValue = false; value = 0; at = 0 }
+flaggedOf (ok v q) = record { refusal = noRefusal; hasValue = isThere v; value = orZero v; at = q }
 
 -- ## What leads a later release's part
 

@@ -44,7 +44,7 @@ pub fn padding_bit(at: usize) -> u64
 // A number led by a flag, and the place behind it.
 pub struct Flagged {
     pub refusal: Refusal,
-    pub there: bool,
+    pub hasValue: bool,
     pub value: u64,
     pub at: usize,
 }
@@ -54,7 +54,7 @@ fn no_number(refusal: Refusal) -> Flagged
 {
     Flagged {
         refusal,
-        there: false,
+        hasValue: false,
         value: 0,
         at: 0,
     }
@@ -76,7 +76,7 @@ pub fn read_flagged(s: &[u8], at: usize, width: usize) -> Flagged
     if flag == 0 {
         return Flagged {
             refusal: no_refusal(),
-            there: false,
+            hasValue: false,
             value: 0,
             at: at + 1,
         };
@@ -86,7 +86,7 @@ pub fn read_flagged(s: &[u8], at: usize, width: usize) -> Flagged
     };
     Flagged {
         refusal: no_refusal(),
-        there: true,
+        hasValue: true,
         value,
         at: at + 1 + width,
     }

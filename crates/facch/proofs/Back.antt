@@ -22,13 +22,13 @@ unfolding groupCall
 call-back (inl c) h = ap inl (value-back c h)
 call-back (inr p) h = absurd (let z : _≡_ {A = ℕ} 0 1 = cc in omega arith)
 
-six-back : (v : Option Release6Value) → optFits (format release6) v → there (release6Of v .there) (release6Value (release6Of v)) ≡ v
+six-back : (v : Option Release6Value) → optFits (format release6) v → there (release6Of v .hasRelease) (release6Value (release6Of v)) ≡ v
 six-back none h = refl
 six-back (some (none, r)) h = ap (λ (x : Option ℕ). some (none, x)) (number-back r)
 six-back (some (some (n, b), r)) h =
     ap₂ (λ (y : ℕ) (x : Option ℕ). some (some (n, y), x)) (bit-back b (h .0 .1)) (number-back r)
 
-seven-back : (v : Option Release7Value) → optFits (format release7) v → there (release7Of v .there) (release7Value (causeIn v) (release7Of v)) ≡ v
+seven-back : (v : Option Release7Value) → optFits (format release7) v → there (release7Of v .hasRelease) (release7Value (causeIn v) (release7Of v)) ≡ v
 seven-back none h = refl
 seven-back (some (u, (e, c))) h = rw (bit-back u (h .0), bit-back e (h .1 .0), number-back c)
 

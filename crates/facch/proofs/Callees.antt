@@ -45,7 +45,7 @@ abbrev whole6 : Refusal → CountAt → Flagged → Release6At
 whole6 r c v =
     record {
       refusal = r;
-      release = record { there = true; counted = c .there; cellcount = c .cellcount; b22 = c .b22; given = v .there; rand = v .value };
+      release = record { hasRelease = true; hasCount = c .hasCount; cellcount = c .cellcount; b22 = c .b22; hasRandom = v .hasValue; rand = v .value };
       at = v .at;
     }
 
@@ -76,7 +76,7 @@ module _ (s : List ℕ) (p : ℕ) (l : length s ≤ 4096) (c : CountAt) (ec : c 
 -- ## Release 7: Priority Uplink Access, Emergency_Ind, Paging Cause
 
 abbrev whole7 : Refusal → Lead → Lead → Flagged → Release7At
-whole7 r u e p = record { refusal = r; release = record { there = true; uplink = u .high; emergency = e .high; caused = p .there }; at = p .at }
+whole7 r u e p = record { refusal = r; release = record { hasRelease = true; uplink = u .high; emergency = e .high; hasCause = p .hasValue }; at = p .at }
 
 -- what stands behind Priority Uplink Access
 abbrev rest7 : Format (ℕ × Option ℕ)

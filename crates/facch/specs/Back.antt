@@ -12,22 +12,22 @@ use Rattle.facch.specs.declared.Notification.{Notification}
 
 abbrev pub release6Value : Release6 → Release6Value
 release6Value r =
-    let counts : Option (ℕ × ℕ) = there (r .counted) (r .cellcount, asBit (r .b22)) in
-    let rand = there (r .given) (r .rand) in
+    let counts : Option (ℕ × ℕ) = there (r .hasCount) (r .cellcount, asBit (r .b22)) in
+    let rand = there (r .hasRandom) (r .rand) in
     (counts, rand)
 
 abbrev pub release7Value : ℕ → Release7 → Release7Value
 release7Value cause r =
     let uplink = asBit (r .uplink) in
     let emergency = asBit (r .emergency) in
-    let caused = there (r .caused) cause in
+    let caused = there (r .hasCause) cause in
     (uplink, (emergency, caused))
 
 abbrev pub valueOf : ℕ → ℕ → Notification → Value
 valueOf first cause m =
     let notified : CallValue ⊎ List ℕ = inl (callValue (m .call)) in
-    let six = there (m .release6 .there) (release6Value (m .release6)) in
-    let seven = there (m .release7 .there) (release7Value cause (m .release7)) in
+    let six = there (m .release6 .hasRelease) (release6Value (m .release6)) in
+    let seven = there (m .release7 .hasRelease) (release7Value cause (m .release7)) in
     (first, (notified, (six, seven)))
 
 -- the Paging Cause bit of a value, 0 where there is none

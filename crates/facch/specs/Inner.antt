@@ -9,5 +9,5 @@ use Rattle.facch.specs.declared.additions.CountAt.{CountAt}
 
 -- the counts behind their flag, and the place behind them
 abbrev pub countAtOf : Res (Option (ℕ × ℕ)) → CountAt
-countAtOf (bad r) = record { refusal = r; there = false; cellcount = 0; b22 = false; at = 0 }
-countAtOf (ok v q) = record { refusal = noRefusal; there = isThere v; cellcount = cellCountIn v; b22 = b22CountIn v; at = q }
+countAtOf (bad r) = record { refusal = r; hasCount = false; cellcount = 0; b22 = false; at = 0 }
+countAtOf (ok v q) = record { refusal = noRefusal; hasCount = isThere v; cellcount = cellCountIn v; b22 = b22CountIn v; at = q }

@@ -54,11 +54,11 @@ withRelease7 uplink emergency =
                   acknowledged = false;
                   priority = 0;
                   cipher = 5;
-                  described = false;
+                  hasDescription = false;
                   description = noDescription;
                 };
             release6 = noRelease6;
-            release7 = record { there = true; uplink = uplink; emergency = emergency; caused = false };
+            release7 = record { hasRelease = true; uplink = uplink; emergency = emergency; hasCause = false };
           };
     }
 

@@ -27,30 +27,30 @@ b22CountIn none = false
 b22CountIn (some c) = isOne (b22Count c)
 
 abbrev pub noRelease6 : Release6
-noRelease6 = record { there = false; counted = false; cellcount = 0; b22 = false; given = false; rand = 0 }
+noRelease6 = record { hasRelease = false; hasCount = false; cellcount = 0; b22 = false; hasRandom = false; rand = 0 }
 
 abbrev pub release6Of : Option Release6Value → Release6
 release6Of none = noRelease6
 release6Of (some v) =
     record {
-      there = true;
-      counted = isThere (countPart v);
+      hasRelease = true;
+      hasCount = isThere (countPart v);
       cellcount = cellCountIn (countPart v);
       b22 = b22CountIn (countPart v);
-      given = isThere (vstkRand v);
+      hasRandom = isThere (vstkRand v);
       rand = orZero (vstkRand v);
     }
 
 -- ## Release 7
 
 abbrev pub noRelease7 : Release7
-noRelease7 = record { there = false; uplink = false; emergency = false; caused = false }
+noRelease7 = record { hasRelease = false; uplink = false; emergency = false; hasCause = false }
 
 -- the Paging Cause itself is thrown away
 abbrev pub release7Of : Option Release7Value → Release7
 release7Of none = noRelease7
 release7Of (some v) =
-    record { there = true; uplink = isOne (uplinkAccess v); emergency = isOne (emergencyInd v); caused = isThere (pagingCause v) }
+    record { hasRelease = true; uplink = isOne (uplinkAccess v); emergency = isOne (emergencyInd v); hasCause = isThere (pagingCause v) }
 
 -- ## The whole
 

@@ -17,7 +17,7 @@ use csn1::Refusal;
 
 pub struct CountAt {
     pub refusal: Refusal,
-    pub there: bool,
+    pub hasCount: bool,
     pub cellcount: u8,
     pub b22: bool,
     pub at: usize,
@@ -40,11 +40,11 @@ pub fn no_release6() -> Release6
     ensures { λ r. ⌜ r ≡ noRelease6 ⌝ }
 {
     Release6 {
-        there: false,
-        counted: false,
+        hasRelease: false,
+        hasCount: false,
         cellcount: 0,
         b22: false,
-        given: false,
+        hasRandom: false,
         rand: 0,
     }
 }
@@ -54,10 +54,10 @@ pub fn no_release7() -> Release7
     ensures { λ r. ⌜ r ≡ noRelease7 ⌝ }
 {
     Release7 {
-        there: false,
+        hasRelease: false,
         uplink: false,
         emergency: false,
-        caused: false,
+        hasCause: false,
     }
 }
 
@@ -66,7 +66,7 @@ fn refused_count(refusal: Refusal) -> CountAt
 {
     CountAt {
         refusal,
-        there: false,
+        hasCount: false,
         cellcount: 0,
         b22: false,
         at: 0,
@@ -84,7 +84,7 @@ fn read_count(s: &[u8], at: usize) -> CountAt
     if flag == 0 {
         return CountAt {
             refusal: csn1::no_refusal(),
-            there: false,
+            hasCount: false,
             cellcount: 0,
             b22: false,
             at: at + 1,
@@ -98,7 +98,7 @@ fn read_count(s: &[u8], at: usize) -> CountAt
     };
     CountAt {
         refusal: csn1::no_refusal(),
-        there: true,
+        hasCount: true,
         cellcount: cellcount as u8,
         b22: b22 == 1,
         at: at + 4,
@@ -131,11 +131,11 @@ fn read_parts6(s: &[u8], at: usize) -> Release6At
     Release6At {
         refusal: csn1::no_refusal(),
         release: Release6 {
-            there: true,
-            counted: c.there,
+            hasRelease: true,
+            hasCount: c.hasCount,
             cellcount: c.cellcount,
             b22: c.b22,
-            given: v.there,
+            hasRandom: v.hasValue,
             rand: v.value,
         },
         at: v.at,
@@ -193,10 +193,10 @@ fn read_parts7(s: &[u8], at: usize) -> Release7At
     Release7At {
         refusal: csn1::no_refusal(),
         release: Release7 {
-            there: true,
+            hasRelease: true,
             uplink: u.high,
             emergency: e.high,
-            caused: p.there,
+            hasCause: p.hasValue,
         },
         at: p.at,
     }

@@ -10,26 +10,26 @@ mod additions;
 
 // What Release 6 added.
 pub struct Release6 {
-    pub there: bool,
-    pub counted: bool,
+    pub hasRelease: bool,
+    pub hasCount: bool,
     // CELL_GLOBAL_COUNT.
     pub cellcount: u8,
     // B22_COUNT.
     pub b22: bool,
-    pub given: bool,
+    pub hasRandom: bool,
     // VSTK_RAND, 36 bits.
     pub rand: u64,
 }
 
 // What Release 7 added.
 pub struct Release7 {
-    pub there: bool,
+    pub hasRelease: bool,
     // Priority Uplink Access: on the group channel where true.
     pub uplink: bool,
     // Emergency_Ind.
     pub emergency: bool,
     // Whether a Paging Cause stands there; for a call it is read past.
-    pub caused: bool,
+    pub hasCause: bool,
 }
 
 // The record of a notification. What is absent is zero.

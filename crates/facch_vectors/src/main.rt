@@ -25,7 +25,7 @@ fn show_call(line: Line, c: Call) -> Line {
         .number(b" ack ", c.acknowledged as u64)
         .number(b" priority ", c.priority as u64)
         .number(b" cipher ", c.cipher as u64);
-    if c.described {
+    if c.hasDescription {
         let d = c.description;
         return show_description(line, d);
     }
@@ -34,11 +34,11 @@ fn show_call(line: Line, c: Call) -> Line {
 
 fn show_six(line: Line, r: Release6) -> Line {
     let mut line = line.word(b" six");
-    if r.counted {
+    if r.hasCount {
         line = line.number(b" count ", r.cellcount as u64)
             .number(b" b22 ", r.b22 as u64);
     }
-    if r.given {
+    if r.hasRandom {
         line = line.hex(b" rand ", r.rand, 9);
     }
     line
@@ -48,7 +48,7 @@ fn show_seven(line: Line, r: Release7) -> Line {
     let line = line.word(b" seven")
         .number(b" uplink ", r.uplink as u64)
         .number(b" emergency ", r.emergency as u64);
-    if r.caused {
+    if r.hasCause {
         return line.word(b" caused");
     }
     line
@@ -58,11 +58,11 @@ fn show_record(line: Line, m: Notification) -> Line {
     let c = m.call;
     let mut line = show_call(line, c);
     let six = m.release6;
-    if six.there {
+    if six.hasRelease {
         line = show_six(line, six);
     }
     let seven = m.release7;
-    if seven.there {
+    if seven.hasRelease {
         line = show_seven(line, seven);
     }
     line

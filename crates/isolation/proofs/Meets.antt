@@ -80,11 +80,11 @@ unfolding classOf kindOn
 class-kind c e = rw (asks-same c) (by-segments (hasSegments c))
   where
     by-segments : (b : Bool)
-        → tests (isCiphered e) (e .call .described) (e .given) (pick b (both (e .segmented) (not (e .segment))) true) (pick b (both (e .segmented) (e .segment)) true) (e .full)
+        → tests (isCiphered e) (e .call .hasDescription) (e .hasRandom) (pick b (both (e .hasSegment) (not (e .segment))) true) (pick b (both (e .hasSegment) (e .segment)) true) (e .full)
         ≡ classNumber
-        (pick b (withSegments (isCiphered e) (e .call .described) (there (e .segmented) (e .segment)) (e .given) (e .full)) (withoutSegments (isCiphered e) (e .call .described) (e .given) (e .full)))
-    by-segments true = nch-table (isCiphered e) (e .call .described) (e .segmented) (e .segment) (e .given) (e .full)
-    by-segments false = facch-table (isCiphered e) (e .call .described) (e .given) (e .full)
+        (pick b (withSegments (isCiphered e) (e .call .hasDescription) (there (e .hasSegment) (e .segment)) (e .hasRandom) (e .full)) (withoutSegments (isCiphered e) (e .call .hasDescription) (e .hasRandom) (e .full)))
+    by-segments true = nch-table (isCiphered e) (e .call .hasDescription) (e .hasSegment) (e .segment) (e .hasRandom) (e .full)
+    by-segments false = facch-table (isCiphered e) (e .call .hasDescription) (e .hasRandom) (e .full)
 
 -- ## What an entry meets
 

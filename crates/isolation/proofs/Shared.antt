@@ -88,24 +88,24 @@ a-record-is-its-three-parts a b p q w =
     record {
       full = p i .full;
       call = p i .call;
-      segmented = p i .segmented;
+      hasSegment = p i .hasSegment;
       segment = p i .segment;
-      given = q i .0;
+      hasRandom = q i .0;
       rand = q i .1;
       emergency = p i .emergency;
       common =
           record {
-            counted = w i .0;
+            hasCount = w i .0;
             cellcount = w i .1;
             b22 = w i .2;
-            uplinked = p i .common .uplinked;
+            hasUplink = p i .common .hasUplink;
             uplink = p i .common .uplink;
-            amr = p i .common .amr;
-            fullrated = p i .common .fullrated;
+            hasAmr = p i .common .hasAmr;
+            hasFullrate = p i .common .hasFullrate;
             fullrate = p i .common .fullrate;
-            halfrated = p i .common .halfrated;
+            hasHalfrate = p i .common .hasHalfrate;
             halfrate = p i .common .halfrate;
-            sms = p i .common .sms;
+            hasSms = p i .common .hasSms;
             confidential = p i .common .confidential;
             private = p i .common .private;
           };

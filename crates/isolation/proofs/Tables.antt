@@ -111,7 +111,7 @@ pub heard-same : (c : Channel) (h : Happening) → hears c (listedIn h .channel)
 heard-same c h = rw (listed-same h) (sym (hears-same c (contentOf h .channel)))
 
 cause-same : (c : Channel) (h : Happening) → causeSeen c h ≡ shown c (contentOf h .cause)
-cause-same c (heardNch s) = nln-same c (showsNln c) (readOf s .«record» .numbered) (readOf s .«record» .nln) (shows-same c)
+cause-same c (heardNch s) = nln-same c (showsNln c) (readOf s .«record» .hasNln) (readOf s .«record» .nln) (shows-same c)
 cause-same c (heardFacch s) = refl
 cause-same c (heardPch ns) = page-same c (showsPages c) (keyOf (readPch ns .«record» .call)) (pages-same c)
 cause-same c (joins k) = refl

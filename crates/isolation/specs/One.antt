@@ -97,8 +97,8 @@ withoutSegments false false g false = unusable
 
 unfoldable pub kindOn : Channel → Record → Kind
 kindOn c e =
-    pick (hasSegments c) (withSegments (isCiphered e) (e .call .described) (there (e .segmented) (e .segment)) (e .given) (e .full))
-    (withoutSegments (isCiphered e) (e .call .described) (e .given) (e .full))
+    pick (hasSegments c) (withSegments (isCiphered e) (e .call .hasDescription) (there (e .hasSegment) (e .segment)) (e .hasRandom) (e .full))
+    (withoutSegments (isCiphered e) (e .call .hasDescription) (e .hasRandom) (e .full))
 
 -- ## The half that is held
 
@@ -118,9 +118,6 @@ pub record Known : Type 0 where
 pub record One : Type 0 where
   pub held : Option Half
   pub cell : Known
-
-abbrev pub holding : One → Option Half → One
-holding s h = record { held = h; cell = s .cell }
 
 -- ## What it is told
 
@@ -221,7 +218,7 @@ pageSeen false k = nothing
 
 -- what in an event may discard a half on a channel
 abbrev pub causeSeen : Channel → Happening → Cause
-causeSeen c (heardNch s) = nlnSeen (showsNln c) (readOf s .«record» .numbered) (readOf s .«record» .nln)
+causeSeen c (heardNch s) = nlnSeen (showsNln c) (readOf s .«record» .hasNln) (readOf s .«record» .nln)
 causeSeen c (heardFacch s) = nothing
 causeSeen c (heardPch ns) = pageSeen (showsPages c) (keyOf (readPch ns .«record» .call))
 causeSeen c (joins k) = joining k
@@ -255,12 +252,9 @@ seen key c last (e ∷ es) = pick (accepts last e) (sees key c last e ∷ seen k
 -- ## What it does
 
 -- time passes: a half as old as its timer is gone
-abbrev pub older : ℕ → ℕ → Half → Option Half
-older timer d h = pick (ltb (h .age + d) timer) (some (record { which = h .which; age = h .age + d; entry = h .entry })) none
-
 abbrev pub aged : ℕ → ℕ → Option Half → Option Half
 aged timer d none = none
-aged timer d (some h) = older timer d h
+aged timer d (some h) = pick (ltb (h .age + d) timer) (some (record { which = h .which; age = h .age + d; entry = h .entry })) none
 
 -- another NLN than the last one seen
 abbrev pub changed : Option ℕ → ℕ → Bool
@@ -295,7 +289,7 @@ abbrev pub spared : ℕ → Channel → One → Sight → Option Half
 spared key c s v = sparedBy key c (s .cell) (v .cause) (s .held)
 
 abbrev pub passed : ℕ → One → ℕ → One
-passed timer s d = holding s (aged timer d (s .held))
+passed timer s d = record { held = aged timer d (s .held); cell = s .cell }
 
 unfoldable pub stepOne : ℕ → Channel → ℕ → One → Seen → One
 stepOne key c timer s v =

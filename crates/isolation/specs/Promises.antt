@@ -318,34 +318,34 @@ Full-references-agree-in-all-bits =
 
 -- a record in three parts: VSTK_RAND, the count with B22, and the rest
 abbrev pub randIn : Record → Bool × ℕ
-randIn e = (e .given, e .rand)
+randIn e = (e .hasRandom, e .rand)
 
 abbrev pub countIn : Record → Bool × ℕ × Bool
-countIn e = (e .common .counted, e .common .cellcount, e .common .b22)
+countIn e = (e .common .hasCount, e .common .cellcount, e .common .b22)
 
 abbrev pub restIn : Record → Record
 restIn e =
     record {
       full = e .full;
       call = e .call;
-      segmented = e .segmented;
+      hasSegment = e .hasSegment;
       segment = e .segment;
-      given = false;
+      hasRandom = false;
       rand = 0;
       emergency = e .emergency;
       common =
           record {
-            counted = false;
+            hasCount = false;
             cellcount = 0;
             b22 = false;
-            uplinked = e .common .uplinked;
+            hasUplink = e .common .hasUplink;
             uplink = e .common .uplink;
-            amr = e .common .amr;
-            fullrated = e .common .fullrated;
+            hasAmr = e .common .hasAmr;
+            hasFullrate = e .common .hasFullrate;
             fullrate = e .common .fullrate;
-            halfrated = e .common .halfrated;
+            hasHalfrate = e .common .hasHalfrate;
             halfrate = e .common .halfrate;
-            sms = e .common .sms;
+            hasSms = e .common .hasSms;
             confidential = e .common .confidential;
             private = e .common .private;
           };
@@ -360,14 +360,14 @@ The-rest-is-of-the-first-half = (first second : Record) → restIn (joinedOf fir
 
 -- "VSTK_RAND from the second", which always has one
 abbrev pub The-rand-is-of-the-second-half : Type 0
-The-rand-is-of-the-second-half = (first second : Record) → second .given ≡ true → randIn (joinedOf first second) ≡ randIn second
+The-rand-is-of-the-second-half = (first second : Record) → second .hasRandom ≡ true → randIn (joinedOf first second) ≡ randIn second
 
 -- "and the count (with B22) from the second if there, else the first, else none"
 abbrev pub The-count-is-of-the-second-half-or-the-first : Type 0
 The-count-is-of-the-second-half-or-the-first =
     (first second : Record)
-    → (second .common .counted ≡ true → countIn (joinedOf first second) ≡ countIn second)
-    × (second .common .counted ≡ false → countIn (joinedOf first second) ≡ countIn first)
+    → (second .common .hasCount ≡ true → countIn (joinedOf first second) ≡ countIn second)
+    × (second .common .hasCount ≡ false → countIn (joinedOf first second) ≡ countIn first)
 
 -- ## 9. The PCH: an entry under another key costs the half, so at most one is ever held
 

@@ -31,7 +31,7 @@ same-record r s p = λ i.
             acknowledged = same-flag (r .call .acknowledged) (s .call .acknowledged) (p 6 (lit< tt)) i;
             priority = p 24 (lit< tt) i;
             cipher = p 25 (lit< tt) i;
-            described = same-flag (r .call .described) (s .call .described) (p 7 (lit< tt)) i;
+            hasDescription = same-flag (r .call .hasDescription) (s .call .hasDescription) (p 7 (lit< tt)) i;
             description =
                 record {
                   channel = p 1 (lit< tt) i;
@@ -41,24 +41,24 @@ same-record r s p = λ i.
                   frequencies = p 2 (lit< tt) i;
                 };
           };
-      segmented = same-flag (r .segmented) (s .segmented) (p 10 (lit< tt)) i;
+      hasSegment = same-flag (r .hasSegment) (s .hasSegment) (p 10 (lit< tt)) i;
       segment = same-flag (r .segment) (s .segment) (p 11 (lit< tt)) i;
-      given = same-flag (r .given) (s .given) (p 12 (lit< tt)) i;
+      hasRandom = same-flag (r .hasRandom) (s .hasRandom) (p 12 (lit< tt)) i;
       rand = p 3 (lit< tt) i;
       emergency = same-flag (r .emergency) (s .emergency) (p 13 (lit< tt)) i;
       common =
           record {
-            counted = same-flag (r .common .counted) (s .common .counted) (p 14 (lit< tt)) i;
+            hasCount = same-flag (r .common .hasCount) (s .common .hasCount) (p 14 (lit< tt)) i;
             cellcount = p 27 (lit< tt) i;
             b22 = same-flag (r .common .b22) (s .common .b22) (p 15 (lit< tt)) i;
-            uplinked = same-flag (r .common .uplinked) (s .common .uplinked) (p 16 (lit< tt)) i;
+            hasUplink = same-flag (r .common .hasUplink) (s .common .hasUplink) (p 16 (lit< tt)) i;
             uplink = same-flag (r .common .uplink) (s .common .uplink) (p 17 (lit< tt)) i;
-            amr = same-flag (r .common .amr) (s .common .amr) (p 18 (lit< tt)) i;
-            fullrated = same-flag (r .common .fullrated) (s .common .fullrated) (p 19 (lit< tt)) i;
+            hasAmr = same-flag (r .common .hasAmr) (s .common .hasAmr) (p 18 (lit< tt)) i;
+            hasFullrate = same-flag (r .common .hasFullrate) (s .common .hasFullrate) (p 19 (lit< tt)) i;
             fullrate = p 28 (lit< tt) i;
-            halfrated = same-flag (r .common .halfrated) (s .common .halfrated) (p 20 (lit< tt)) i;
+            hasHalfrate = same-flag (r .common .hasHalfrate) (s .common .hasHalfrate) (p 20 (lit< tt)) i;
             halfrate = p 29 (lit< tt) i;
-            sms = same-flag (r .common .sms) (s .common .sms) (p 21 (lit< tt)) i;
+            hasSms = same-flag (r .common .hasSms) (s .common .hasSms) (p 21 (lit< tt)) i;
             confidential = same-flag (r .common .confidential) (s .common .confidential) (p 22 (lit< tt)) i;
             private = same-flag (r .common .private) (s .common .private) (p 23 (lit< tt)) i;
           };

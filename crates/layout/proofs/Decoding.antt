@@ -63,7 +63,7 @@ module _ (l l′ : List ℕ) (at : ℕ) (e : (j : ℕ) → at ≤ j → j < at +
               acknowledged = flag-same 26 (lit< tt) i;
               priority = octet-same 44 (lit< tt) i;
               cipher = octet-same 45 (lit< tt) i;
-              described = flag-same 27 (lit< tt) i;
+              hasDescription = flag-same 27 (lit< tt) i;
               description =
                   record {
                     channel = le-same 4 4 (lit≤ tt) i;
@@ -73,24 +73,24 @@ module _ (l l′ : List ℕ) (at : ℕ) (e : (j : ℕ) → at ≤ j → j < at +
                     frequencies = le-same 8 8 (lit≤ tt) i;
                   };
             };
-        segmented = flag-same 30 (lit< tt) i;
+        hasSegment = flag-same 30 (lit< tt) i;
         segment = flag-same 31 (lit< tt) i;
-        given = flag-same 32 (lit< tt) i;
+        hasRandom = flag-same 32 (lit< tt) i;
         rand = le-same 8 16 (lit≤ tt) i;
         emergency = flag-same 33 (lit< tt) i;
         common =
             record {
-              counted = flag-same 34 (lit< tt) i;
+              hasCount = flag-same 34 (lit< tt) i;
               cellcount = octet-same 47 (lit< tt) i;
               b22 = flag-same 35 (lit< tt) i;
-              uplinked = flag-same 36 (lit< tt) i;
+              hasUplink = flag-same 36 (lit< tt) i;
               uplink = flag-same 37 (lit< tt) i;
-              amr = flag-same 38 (lit< tt) i;
-              fullrated = flag-same 39 (lit< tt) i;
+              hasAmr = flag-same 38 (lit< tt) i;
+              hasFullrate = flag-same 39 (lit< tt) i;
               fullrate = octet-same 48 (lit< tt) i;
-              halfrated = flag-same 40 (lit< tt) i;
+              hasHalfrate = flag-same 40 (lit< tt) i;
               halfrate = octet-same 49 (lit< tt) i;
-              sms = flag-same 41 (lit< tt) i;
+              hasSms = flag-same 41 (lit< tt) i;
               confidential = flag-same 42 (lit< tt) i;
               private = flag-same 43 (lit< tt) i;
             };
@@ -153,7 +153,7 @@ module _ (l : List ℕ) (at : ℕ) (r : Record) (h : at + recordSize ≤ length 
               acknowledged = bit-back 26 (r .call .acknowledged) (lit< tt) refl i;
               priority = octet-back 44 (r .call .priority) (lit< tt) refl i;
               cipher = octet-back 45 (r .call .cipher) (lit< tt) refl i;
-              described = bit-back 27 (r .call .described) (lit< tt) refl i;
+              hasDescription = bit-back 27 (r .call .hasDescription) (lit< tt) refl i;
               description =
                   record {
                     channel = channel-back (w .channel) i;
@@ -163,24 +163,24 @@ module _ (l : List ℕ) (at : ℕ) (r : Record) (h : at + recordSize ≤ length 
                     frequencies = frequencies-back (w .frequencies) i;
                   };
             };
-        segmented = bit-back 30 (r .segmented) (lit< tt) refl i;
+        hasSegment = bit-back 30 (r .hasSegment) (lit< tt) refl i;
         segment = bit-back 31 (r .segment) (lit< tt) refl i;
-        given = bit-back 32 (r .given) (lit< tt) refl i;
+        hasRandom = bit-back 32 (r .hasRandom) (lit< tt) refl i;
         rand = rand-back (w .rand) i;
         emergency = bit-back 33 (r .emergency) (lit< tt) refl i;
         common =
             record {
-              counted = bit-back 34 (r .common .counted) (lit< tt) refl i;
+              hasCount = bit-back 34 (r .common .hasCount) (lit< tt) refl i;
               cellcount = octet-back 47 (r .common .cellcount) (lit< tt) refl i;
               b22 = bit-back 35 (r .common .b22) (lit< tt) refl i;
-              uplinked = bit-back 36 (r .common .uplinked) (lit< tt) refl i;
+              hasUplink = bit-back 36 (r .common .hasUplink) (lit< tt) refl i;
               uplink = bit-back 37 (r .common .uplink) (lit< tt) refl i;
-              amr = bit-back 38 (r .common .amr) (lit< tt) refl i;
-              fullrated = bit-back 39 (r .common .fullrated) (lit< tt) refl i;
+              hasAmr = bit-back 38 (r .common .hasAmr) (lit< tt) refl i;
+              hasFullrate = bit-back 39 (r .common .hasFullrate) (lit< tt) refl i;
               fullrate = octet-back 48 (r .common .fullrate) (lit< tt) refl i;
-              halfrated = bit-back 40 (r .common .halfrated) (lit< tt) refl i;
+              hasHalfrate = bit-back 40 (r .common .hasHalfrate) (lit< tt) refl i;
               halfrate = octet-back 49 (r .common .halfrate) (lit< tt) refl i;
-              sms = bit-back 41 (r .common .sms) (lit< tt) refl i;
+              hasSms = bit-back 41 (r .common .hasSms) (lit< tt) refl i;
               confidential = bit-back 42 (r .common .confidential) (lit< tt) refl i;
               private = bit-back 43 (r .common .private) (lit< tt) refl i;
             };

@@ -72,7 +72,7 @@ wide-join a b p q =
       priority = p .priority;
       cipher = p .cipher;
       size = p .size;
-      cellcount = pick-below (b .common .counted) (q .cellcount) (p .cellcount);
+      cellcount = pick-below (b .common .hasCount) (q .cellcount) (p .cellcount);
       fullrate = p .fullrate;
       halfrate = p .halfrate;
     }

@@ -95,7 +95,7 @@ recordAt l at =
             acknowledged = flagAt l (at + 26);
             priority = octetAt l (at + 44);
             cipher = octetAt l (at + 45);
-            described = flagAt l (at + 27);
+            hasDescription = flagAt l (at + 27);
             description =
                 record {
                   channel = leAt 4 l (at + 4);
@@ -105,24 +105,24 @@ recordAt l at =
                   frequencies = leAt 8 l (at + 8);
                 };
           };
-      segmented = flagAt l (at + 30);
+      hasSegment = flagAt l (at + 30);
       segment = flagAt l (at + 31);
-      given = flagAt l (at + 32);
+      hasRandom = flagAt l (at + 32);
       rand = leAt 8 l (at + 16);
       emergency = flagAt l (at + 33);
       common =
           record {
-            counted = flagAt l (at + 34);
+            hasCount = flagAt l (at + 34);
             cellcount = octetAt l (at + 47);
             b22 = flagAt l (at + 35);
-            uplinked = flagAt l (at + 36);
+            hasUplink = flagAt l (at + 36);
             uplink = flagAt l (at + 37);
-            amr = flagAt l (at + 38);
-            fullrated = flagAt l (at + 39);
+            hasAmr = flagAt l (at + 38);
+            hasFullrate = flagAt l (at + 39);
             fullrate = octetAt l (at + 48);
-            halfrated = flagAt l (at + 40);
+            hasHalfrate = flagAt l (at + 40);
             halfrate = octetAt l (at + 49);
-            sms = flagAt l (at + 41);
+            hasSms = flagAt l (at + 41);
             confidential = flagAt l (at + 42);
             private = flagAt l (at + 43);
           };
@@ -131,13 +131,13 @@ recordAt l at =
 -- the flags of an entry, and those of its message
 abbrev pub entryFlags : Record → List ℕ
 entryFlags r =
-    asBit (r .full) ∷ asBit (r .call .vgcs) ∷ asBit (r .call .acknowledged) ∷ asBit (r .call .described) ∷ asBit (r .call .description .hopping)
-    ∷ asBit (r .call .description .shortlist) ∷ asBit (r .segmented) ∷ asBit (r .segment) ∷ asBit (r .given) ∷ asBit (r .emergency) ∷ []
+    asBit (r .full) ∷ asBit (r .call .vgcs) ∷ asBit (r .call .acknowledged) ∷ asBit (r .call .hasDescription) ∷ asBit (r .call .description .hopping)
+    ∷ asBit (r .call .description .shortlist) ∷ asBit (r .hasSegment) ∷ asBit (r .segment) ∷ asBit (r .hasRandom) ∷ asBit (r .emergency) ∷ []
 
 abbrev pub messageFlags : Record → List ℕ
 messageFlags r =
-    asBit (r .common .counted) ∷ asBit (r .common .b22) ∷ asBit (r .common .uplinked) ∷ asBit (r .common .uplink) ∷ asBit (r .common .amr)
-    ∷ asBit (r .common .fullrated) ∷ asBit (r .common .halfrated) ∷ asBit (r .common .sms) ∷ asBit (r .common .confidential) ∷ asBit (r .common .private) ∷ []
+    asBit (r .common .hasCount) ∷ asBit (r .common .b22) ∷ asBit (r .common .hasUplink) ∷ asBit (r .common .uplink) ∷ asBit (r .common .hasAmr)
+    ∷ asBit (r .common .hasFullrate) ∷ asBit (r .common .hasHalfrate) ∷ asBit (r .common .hasSms) ∷ asBit (r .common .confidential) ∷ asBit (r .common .private) ∷ []
 
 abbrev pub smallNumbers : Record → List ℕ
 smallNumbers r =

@@ -39,7 +39,7 @@ fn call_at(b: &[u8], at: usize) -> Call
         acknowledged: flag_at(b, at + 26),
         priority: b[at + 44],
         cipher: b[at + 45],
-        described: flag_at(b, at + 27),
+        hasDescription: flag_at(b, at + 27),
         description: description_at(b, at),
     }
 }
@@ -49,17 +49,17 @@ fn common_at(b: &[u8], at: usize) -> Common
     ensures { λ r. ⌜ r ≡ recordAt (now (b .entry)) at .common ⌝ }
 {
     Common {
-        counted: flag_at(b, at + 34),
+        hasCount: flag_at(b, at + 34),
         cellcount: b[at + 47],
         b22: flag_at(b, at + 35),
-        uplinked: flag_at(b, at + 36),
+        hasUplink: flag_at(b, at + 36),
         uplink: flag_at(b, at + 37),
-        amr: flag_at(b, at + 38),
-        fullrated: flag_at(b, at + 39),
+        hasAmr: flag_at(b, at + 38),
+        hasFullrate: flag_at(b, at + 39),
         fullrate: b[at + 48],
-        halfrated: flag_at(b, at + 40),
+        hasHalfrate: flag_at(b, at + 40),
         halfrate: b[at + 49],
-        sms: flag_at(b, at + 41),
+        hasSms: flag_at(b, at + 41),
         confidential: flag_at(b, at + 42),
         private: flag_at(b, at + 43),
     }
@@ -72,9 +72,9 @@ pub(crate) fn record_at(b: &[u8], at: usize) -> Record
     Record {
         full: flag_at(b, at + 24),
         call: call_at(b, at),
-        segmented: flag_at(b, at + 30),
+        hasSegment: flag_at(b, at + 30),
         segment: flag_at(b, at + 31),
-        given: flag_at(b, at + 32),
+        hasRandom: flag_at(b, at + 32),
         rand: u64_at(b, at + 16),
         emergency: flag_at(b, at + 33),
         common: common_at(b, at),
@@ -133,16 +133,16 @@ fn put_entry(b: &mut [u8], at: usize, r: Record)
         r.full,
         c.vgcs,
         c.acknowledged,
-        c.described,
+        c.hasDescription,
         d.hopping,
     );
     put_flags(
         b,
         at + 5,
         d.shortlist,
-        r.segmented,
+        r.hasSegment,
         r.segment,
-        r.given,
+        r.hasRandom,
         r.emergency,
     );
 }
@@ -152,13 +152,13 @@ fn put_message(b: &mut [u8], at: usize, r: Record)
     ensures { λ _. ⌜ now (b .exit) ≡ stored (now (b .entry)) at (messageFlags r) ⌝ }
 {
     let m = r.common;
-    put_flags(b, at, m.counted, m.b22, m.uplinked, m.uplink, m.amr);
+    put_flags(b, at, m.hasCount, m.b22, m.hasUplink, m.uplink, m.hasAmr);
     put_flags(
         b,
         at + 5,
-        m.fullrated,
-        m.halfrated,
-        m.sms,
+        m.hasFullrate,
+        m.hasHalfrate,
+        m.hasSms,
         m.confidential,
         m.private,
     );

@@ -103,7 +103,7 @@ module _ (ns : List ℕ) where
 record CallNo (ns : List ℕ) (at : ℕ) : Type 0 where
   pub fits : CallFits ns at
   pub service : getD ns (at + 1) 0 ≤ 1
-  pub described : getD ns (at + 5) 0 ≤ 1
+  pub hasDescription : getD ns (at + 5) 0 ≤ 1
 
 record ReducedNo (ns : List ℕ) (at : ℕ) : Type 0 where
   pub fits : ReducedFits ns at
@@ -112,7 +112,7 @@ record ReducedNo (ns : List ℕ) (at : ℕ) : Type 0 where
 module _ (ns : List ℕ) (f : Fits ns) where
   call-numbers : (at : ℕ) → CallFits ns at → at + 5 < allLength → mostAt (at + 1) ≡ 1 → mostAt (at + 5) ≡ 1 → CallNo ns at
   call-numbers at c h s d =
-      record { fits = c; service = fits-at ns f (at + 1) 1 (omega arith) (omega arith) s; described = fits-at ns f (at + 5) 1 (omega arith) (omega arith) d }
+      record { fits = c; service = fits-at ns f (at + 1) 1 (omega arith) (omega arith) s; hasDescription = fits-at ns f (at + 5) 1 (omega arith) (omega arith) d }
 
   call-no : (i : ℕ) → i < mostCalls → CallNo ns (callAt i)
   unfolding most
@@ -190,7 +190,7 @@ module _ (ns : List ℕ) (f : Fits ns) (l : List ℕ) (now random mark i : ℕ) 
     call-asks w = (long w, (omega (arith, q), (f, (omega (arith, few, q), call-entry-fits ns f i (omega (arith, q)) mark (omega (arith, few, q))))))
 
     pub call-next : (random < mostRandoms) × ((mark < mostMarks) × (getD ns (callAt i + 5) 0 ≤ 1))
-    call-next = (omega (arith, few, q), (omega (arith, few, q), call-no ns f i (omega (arith, q)) .described))
+    call-next = (omega (arith, few, q), (omega (arith, few, q), call-no ns f i (omega (arith, q)) .hasDescription))
 
     pub turn-call : (left′ : List ℕ) → Telling left 0 now i (callWith (recordFrom ns) random mark (callFrom ns (callAt i))) left′
         → Told-to l now (recordFrom ns) (random + boolByte (leb 1 (getD ns (callAt i + 4) 0))) (mark + getD ns (callAt i + 5) 0) (i + 1) left′

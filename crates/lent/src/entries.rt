@@ -25,17 +25,17 @@ fn common_from(m: &[u64]) -> Common
     ensures { λ r. ⌜ r ≡ nchCommon (recordFrom (now (m .entry))) ⌝ }
 {
     Common {
-        counted: m[places::COUNTED] == 1,
+        hasCount: m[places::COUNTED] == 1,
         cellcount: m[places::CELLCOUNT] as u8,
         b22: false,
-        uplinked: m[places::UPLINKED] == 1,
+        hasUplink: m[places::UPLINKED] == 1,
         uplink: m[places::UPLINK] == 1,
-        amr: m[places::AMR] == 1,
-        fullrated: m[places::FULLRATED] == 1,
+        hasAmr: m[places::AMR] == 1,
+        hasFullrate: m[places::FULLRATED] == 1,
         fullrate: m[places::FULLRATE] as u8,
-        halfrated: m[places::HALFRATED] == 1,
+        hasHalfrate: m[places::HALFRATED] == 1,
         halfrate: m[places::HALFRATE] as u8,
-        sms: m[places::SMS] == 1,
+        hasSms: m[places::SMS] == 1,
         confidential: m[places::CONFIDENTIAL] == 1,
         private: m[places::PRIVATE] == 1,
     }
@@ -51,9 +51,9 @@ fn random_at(m: &[u64], k: usize) -> Owned
     }
     let at = places::FIRST_RANDOM + places::RANDOM_LENGTH * k;
     Owned {
-        there: true,
+        hasSegment: true,
         segment: m[at] == 1,
-        given: m[at + 1] == 1,
+        hasRandom: m[at + 1] == 1,
         rand: m[at + 2],
     }
 }
@@ -92,9 +92,9 @@ fn call_entry(m: &[u64], at: usize, random: usize, mark: usize) -> Record
     Record {
         full: true,
         call: nch::numbers::call_at(m, at as u8),
-        segmented: o.there,
+        hasSegment: o.hasSegment,
         segment: o.segment,
-        given: o.given,
+        hasRandom: o.hasRandom,
         rand: o.rand,
         emergency: emergency_of_call(m, at, mark),
         common: common_from(m),
@@ -121,9 +121,9 @@ fn reduced_entry(m: &[u64], at: usize, random: usize) -> Record
     Record {
         full: false,
         call: reduced_call(m, at),
-        segmented: o.there,
+        hasSegment: o.hasSegment,
         segment: o.segment,
-        given: o.given,
+        hasRandom: o.hasRandom,
         rand: o.rand,
         emergency: false,
         common: common_from(m),

@@ -66,8 +66,8 @@ fn accept_tick(b: &mut [u8], time: u32)
 fn accept_nch(b: &mut [u8], time: u32, m: &[u64])
     requires { ⌜ (length (now b) ≡ stateLength) × (Fits (now m) × (length (nchEntries (recordFrom (now m))) ≤ mostEntries)) ⌝ }
     ensures { λ _. ⌜ Accepted (now (b .entry)) time
-        (ruleFor (λ (c : Channel). both (hasNln c) (both (recordFrom (now (m .entry)) .numbered) (changes (decodeOf (now (b .entry)) .cell) (recordFrom (now (m .entry)) .nln)))) keyCount)
-        (cellAfter (decodeOf (now (b .entry)) .cell) (numbering (recordFrom (now (m .entry)) .numbered) (recordFrom (now (m .entry)) .nln)))
+        (ruleFor (λ (c : Channel). both (hasNln c) (both (recordFrom (now (m .entry)) .hasNln) (changes (decodeOf (now (b .entry)) .cell) (recordFrom (now (m .entry)) .nln)))) keyCount)
+        (cellAfter (decodeOf (now (b .entry)) .cell) (numbering (recordFrom (now (m .entry)) .hasNln) (recordFrom (now (m .entry)) .nln)))
         0 (nchEntries (recordFrom (now (m .entry)))) (now (b .exit)) ⌝ }
 {
     let last = cell_of(b);

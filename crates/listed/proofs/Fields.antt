@@ -68,37 +68,37 @@ ofCall c =
     ∷ flag (c .acknowledged)
     ∷ number (c .priority)
     ∷ number (c .cipher)
-    ∷ flag (c .described)
+    ∷ flag (c .hasDescription)
     ∷ ofDescription (c .description)
 
 abbrev pub ofReduced : Reduced → Nested 1
 ofReduced r = number (r .reference) ∷ flag (r .vgcs) ∷ []
 
 abbrev pub ofRandom : Random → Nested 1
-ofRandom r = flag (r .segment) ∷ flag (r .given) ∷ number (r .rand) ∷ []
+ofRandom r = flag (r .segment) ∷ flag (r .hasRandom) ∷ number (r .rand) ∷ []
 
 abbrev pub ofRelease6 : Release6 → Nested 1
-ofRelease6 r = flag (r .there) ∷ flag (r .counted) ∷ number (r .cellcount) ∷ number (r .reducedcount) ∷ number (r .randomcount) ∷ []
+ofRelease6 r = flag (r .hasRelease) ∷ flag (r .hasCount) ∷ number (r .cellcount) ∷ number (r .reducedcount) ∷ number (r .randomcount) ∷ []
 
 abbrev pub ofRelease7 : Release7 → Nested 1
 ofRelease7 r =
-    flag (r .there)
+    flag (r .hasRelease)
     ∷ number (r .markcount)
-    ∷ flag (r .uplinked)
+    ∷ flag (r .hasUplink)
     ∷ flag (r .uplink)
-    ∷ flag (r .amr)
-    ∷ flag (r .fullrated)
+    ∷ flag (r .hasAmr)
+    ∷ flag (r .hasFullrate)
     ∷ number (r .fullrate)
-    ∷ flag (r .halfrated)
+    ∷ flag (r .hasHalfrate)
     ∷ number (r .halfrate)
-    ∷ flag (r .sms)
+    ∷ flag (r .hasSms)
     ∷ flag (r .confidential)
     ∷ flag (r .private)
     ∷ map flag (r .marks)
 
 abbrev pub ofNotification : Notification → Nested 3
 ofNotification m =
-    alone (flag (m .numbered) ∷ number (m .nln) ∷ number (m .callcount) ∷ [])
+    alone (flag (m .hasNln) ∷ number (m .nln) ∷ number (m .callcount) ∷ [])
     ∷ map ofCall (m .calls)
     ∷ alone (ofRelease6 (m .release6))
     ∷ map ofReduced (m .release6 .reduced)
@@ -113,17 +113,17 @@ ofReading r = alone (number (r .refusal .number) ∷ number (r .used) ∷ []) �
 
 abbrev pub ofCommon : Common → Nested 1
 ofCommon c =
-    flag (c .counted)
+    flag (c .hasCount)
     ∷ number (c .cellcount)
     ∷ flag (c .b22)
-    ∷ flag (c .uplinked)
+    ∷ flag (c .hasUplink)
     ∷ flag (c .uplink)
-    ∷ flag (c .amr)
-    ∷ flag (c .fullrated)
+    ∷ flag (c .hasAmr)
+    ∷ flag (c .hasFullrate)
     ∷ number (c .fullrate)
-    ∷ flag (c .halfrated)
+    ∷ flag (c .hasHalfrate)
     ∷ number (c .halfrate)
-    ∷ flag (c .sms)
+    ∷ flag (c .hasSms)
     ∷ flag (c .confidential)
     ∷ flag (c .private)
     ∷ []
@@ -131,9 +131,9 @@ ofCommon c =
 abbrev pub ofRecord : Record → Nested 1
 ofRecord r =
     flag (r .full)
-    ∷ flag (r .segmented)
+    ∷ flag (r .hasSegment)
     ∷ flag (r .segment)
-    ∷ flag (r .given)
+    ∷ flag (r .hasRandom)
     ∷ number (r .rand)
     ∷ flag (r .emergency)
     ∷ ofCall (r .call)

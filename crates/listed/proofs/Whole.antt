@@ -108,7 +108,7 @@ callFrom s =
       acknowledged = flagAt 2 s;
       priority = numberAt 3 s;
       cipher = numberAt 4 s;
-      described = flagAt 5 s;
+      hasDescription = flagAt 5 s;
       description = descriptionFrom (drop 6 s);
     }
 
@@ -122,7 +122,7 @@ reduced-back : (l : List Reduced) → map reducedFrom (map ofReduced l) ≡ l
 reduced-back = map-back _ _ λ r. refl
 
 abbrev randomFrom : Nested 1 → Random
-randomFrom s = record { segment = flagAt 0 s; given = flagAt 1 s; rand = numberAt 2 s }
+randomFrom s = record { segment = flagAt 0 s; hasRandom = flagAt 1 s; rand = numberAt 2 s }
 
 randoms-back : (l : List Random) → map randomFrom (map ofRandom l) ≡ l
 randoms-back = map-back _ _ λ r. refl
@@ -130,8 +130,8 @@ randoms-back = map-back _ _ λ r. refl
 abbrev release6From : Nested 1 → Nested 2 → Nested 2 → Release6
 release6From s reduced randoms =
     record {
-      there = flagAt 0 s;
-      counted = flagAt 1 s;
+      hasRelease = flagAt 0 s;
+      hasCount = flagAt 1 s;
       cellcount = numberAt 2 s;
       reducedcount = numberAt 3 s;
       reduced = map reducedFrom reduced;
@@ -142,17 +142,17 @@ release6From s reduced randoms =
 abbrev release7From : Nested 1 → Release7
 release7From s =
     record {
-      there = flagAt 0 s;
+      hasRelease = flagAt 0 s;
       markcount = numberAt 1 s;
       marks = flagsFrom (drop 12 s);
-      uplinked = flagAt 2 s;
+      hasUplink = flagAt 2 s;
       uplink = flagAt 3 s;
-      amr = flagAt 4 s;
-      fullrated = flagAt 5 s;
+      hasAmr = flagAt 4 s;
+      hasFullrate = flagAt 5 s;
       fullrate = numberAt 6 s;
-      halfrated = flagAt 7 s;
+      hasHalfrate = flagAt 7 s;
       halfrate = numberAt 8 s;
-      sms = flagAt 9 s;
+      hasSms = flagAt 9 s;
       confidential = flagAt 10 s;
       private = flagAt 11 s;
     }
@@ -164,7 +164,7 @@ readingFrom w =
       used = numberAt 1 (aloneAt 0 w);
       «record» =
           record {
-            numbered = flagAt 0 (aloneAt 1 w);
+            hasNln = flagAt 0 (aloneAt 1 w);
             nln = numberAt 1 (aloneAt 1 w);
             callcount = numberAt 2 (aloneAt 1 w);
             calls = map callFrom (arrayAt 2 w);
@@ -181,17 +181,17 @@ reading-back r = simp (calls-back, reduced-back, randoms-back, flags-back)
 abbrev commonFrom : Nested 1 → Common
 commonFrom s =
     record {
-      counted = flagAt 0 s;
+      hasCount = flagAt 0 s;
       cellcount = numberAt 1 s;
       b22 = flagAt 2 s;
-      uplinked = flagAt 3 s;
+      hasUplink = flagAt 3 s;
       uplink = flagAt 4 s;
-      amr = flagAt 5 s;
-      fullrated = flagAt 6 s;
+      hasAmr = flagAt 5 s;
+      hasFullrate = flagAt 6 s;
       fullrate = numberAt 7 s;
-      halfrated = flagAt 8 s;
+      hasHalfrate = flagAt 8 s;
       halfrate = numberAt 9 s;
-      sms = flagAt 10 s;
+      hasSms = flagAt 10 s;
       confidential = flagAt 11 s;
       private = flagAt 12 s;
     }
@@ -201,9 +201,9 @@ recordFrom s =
     record {
       full = flagAt 0 s;
       call = callFrom (drop 6 s);
-      segmented = flagAt 1 s;
+      hasSegment = flagAt 1 s;
       segment = flagAt 2 s;
-      given = flagAt 3 s;
+      hasRandom = flagAt 3 s;
       rand = numberAt 4 s;
       emergency = flagAt 5 s;
       common = commonFrom (drop 17 s);

@@ -60,14 +60,14 @@ noParts = noRecord
 abbrev pub bothEmpty : Notification
 bothEmpty =
     record {
-      numbered = false;
+      hasNln = false;
       nln = 0;
       callcount = 0;
       calls = replicate 4 noCall;
       release6 =
           record {
-            there = true;
-            counted = false;
+            hasRelease = true;
+            hasCount = false;
             cellcount = 0;
             reducedcount = 0;
             reduced = replicate 5 noReduced;
@@ -76,17 +76,17 @@ bothEmpty =
           };
       release7 =
           record {
-            there = true;
+            hasRelease = true;
             markcount = 0;
             marks = replicate 4 false;
-            uplinked = false;
+            hasUplink = false;
             uplink = false;
-            amr = false;
-            fullrated = false;
+            hasAmr = false;
+            hasFullrate = false;
             fullrate = 0;
-            halfrated = false;
+            hasHalfrate = false;
             halfrate = 0;
-            sms = false;
+            hasSms = false;
             confidential = false;
             private = false;
           };
@@ -94,7 +94,7 @@ bothEmpty =
 
 -- an NLN and nothing else
 abbrev pub onlyNln : ℕ → Notification
-onlyNln n = record { numbered = true; nln = n; callcount = 0; calls = replicate 4 noCall; release6 = noRelease6; release7 = noRelease7 }
+onlyNln n = record { hasNln = true; nln = n; callcount = 0; calls = replicate 4 noCall; release6 = noRelease6; release7 = noRelease7 }
 
 -- a cause of these septets without diagnostics
 abbrev pub means : Meaning → List ℕ → CauseReading
@@ -121,12 +121,12 @@ firstRecord =
             acknowledged = false;
             priority = 3;
             cipher = 5;
-            described = true;
+            hasDescription = true;
             description = record { channel = 0x120345; hopping = false; shortlist = false; length = 0; frequencies = 0 };
           };
-      segmented = true;
+      hasSegment = true;
       segment = false;
-      given = false;
+      hasRandom = false;
       rand = 0;
       emergency = false;
       common = noCommon;
@@ -137,10 +137,10 @@ abbrev pub secondRecord : Record
 secondRecord =
     record {
       full = false;
-      call = record { reference = 1234567; vgcs = true; acknowledged = false; priority = 0; cipher = 0; described = false; description = noDescription };
-      segmented = true;
+      call = record { reference = 1234567; vgcs = true; acknowledged = false; priority = 0; cipher = 0; hasDescription = false; description = noDescription };
+      hasSegment = true;
       segment = true;
-      given = true;
+      hasRandom = true;
       rand = 0xabcdef012;
       emergency = false;
       common = noCommon;
@@ -152,9 +152,9 @@ bothRecord =
     record {
       full = true;
       call = firstRecord .call;
-      segmented = true;
+      hasSegment = true;
       segment = false;
-      given = true;
+      hasRandom = true;
       rand = 0xabcdef012;
       emergency = false;
       common = noCommon;

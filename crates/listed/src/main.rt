@@ -19,13 +19,13 @@ fn refused(row: &[u8], number: u8) -> Line {
 fn are_empty(m: Notification) -> bool {
     let six = m.release6;
     let seven = m.release7;
-    if m.numbered || m.callcount != 0 || !six.there || !seven.there {
+    if m.hasNln || m.callcount != 0 || !six.hasRelease || !seven.hasRelease {
         return false;
     }
-    if six.counted || six.reducedcount != 0 || six.randomcount != 0 {
+    if six.hasCount || six.reducedcount != 0 || six.randomcount != 0 {
         return false;
     }
-    !seven.uplinked && !seven.amr && !seven.sms && seven.markcount == 0
+    !seven.hasUplink && !seven.hasAmr && !seven.hasSms && seven.markcount == 0
 }
 
 fn show_parts(line: Line, m: Notification, used: u64) -> Line {
@@ -33,10 +33,10 @@ fn show_parts(line: Line, m: Notification, used: u64) -> Line {
         return line.number(b": both releases present and empty, ", used)
             .word(b" used");
     }
-    if m.callcount != 0 || m.release6.there || m.release7.there {
+    if m.callcount != 0 || m.release6.hasRelease || m.release7.hasRelease {
         return line.number(b": other parts, ", used).word(b" used");
     }
-    if m.numbered {
+    if m.hasNln {
         return line.number(b": NLN ", m.nln as u64)
             .number(b", ", used)
             .word(b" used");

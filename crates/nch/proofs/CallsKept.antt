@@ -116,24 +116,24 @@ module _ (s : List ℕ) (start : ℕ) (old : List ℕ) where
 
       added : (new : List ℕ) (k : Kept callNumbers callLength length-call groupCall callOf noCall mostCalls s start old firstCall new (n + 1) (c .at))
           → k .entries .acc ≡ i .kept .entries .acc ++ (g .value ∷ [])
-          → CallsKept s start old new (n + 1) (ciphered + boolByte (leb 1 (c .call .cipher))) (described + boolByte (c .call .described)) (c .at)
+          → CallsKept s start old new (n + 1) (ciphered + boolByte (leb 1 (c .call .cipher))) (described + boolByte (c .call .hasDescription)) (c .at)
       added new k a =
           record {
             kept = k;
             ciphers = counted-one cipheredValue (i .kept .entries .acc) (k .entries .acc) (g .value) ciphered (leb 1 (c .call .cipher)) (i .ciphers) (ap (λ (w : Call). leb 1 (w .cipher)) call-is) a;
-            describes = counted-one describedValue (i .kept .entries .acc) (k .entries .acc) (g .value) described (c .call .described) (i .describes) (ap (λ (w : Call). w .described) call-is) a;
+            describes = counted-one describedValue (i .kept .entries .acc) (k .entries .acc) (g .value) described (c .call .hasDescription) (i .describes) (ap (λ (w : Call). w .hasDescription) call-is) a;
           }
 
       -- one that has a place, and one that has none
       pub calls-one : (vs new : List ℕ) → n < mostCalls → vs ≡ callNumbers (c .call) → new ≡ stored numbers (firstCall + callLength * n) vs
-          → CallsKept s start old new (n + 1) (ciphered + boolByte (leb 1 (c .call .cipher))) (described + boolByte (c .call .described)) (c .at)
+          → CallsKept s start old new (n + 1) (ciphered + boolByte (leb 1 (c .call .cipher))) (described + boolByte (c .call .hasDescription)) (c .at)
       calls-one vs new h v m =
           let o : new ≡ stored numbers (firstCall + callLength * n) (callNumbers (c .call)) = m ∙ ap (stored numbers (firstCall + callLength * n)) v in
           added new (kept-one (i .kept) f (g .value) (c .at) (c .call) new e z (g .is) l h call-is o)
           (one-acc (i .kept) f (g .value) (c .at) (c .call) new e z (g .is) l h call-is o)
 
       pub calls-more : mostCalls ≤ n
-          → CallsKept s start old numbers (n + 1) (ciphered + boolByte (leb 1 (c .call .cipher))) (described + boolByte (c .call .described)) (c .at)
+          → CallsKept s start old numbers (n + 1) (ciphered + boolByte (leb 1 (c .call .cipher))) (described + boolByte (c .call .hasDescription)) (c .at)
       calls-more h = added numbers (kept-more (i .kept) f (g .value) (c .at) e z (g .is) l h) (more-acc (i .kept) f (g .value) (c .at) e z (g .is) l h)
 
     -- the loop has met the 0 that closes the list

@@ -51,7 +51,7 @@ both-lists = list (format reduced) ⨟ list (format random)
 
 -- the first three numbers
 abbrev led6 : List ℕ → Flagged → List ℕ
-led6 l c = set (set (set l release6At 1) countedAt (boolByte (c .there))) cellcountAt (c .value)
+led6 l c = set (set (set l release6At 1) countedAt (boolByte (c .hasValue))) cellcountAt (c .value)
 
 pub length-led6 : (l : List ℕ) (c : Flagged) → length (led6 l c) ≡ length l
 length-led6 l c = simp length-set
@@ -71,8 +71,8 @@ module _ (s : List ℕ) (at : ℕ) (h : length s ≤ 4096) (l : List ℕ) (y : Z
 
   pub zeros-led6 : Zeros (led6 l c) reducedsAt
   zeros-led6 =
-      zeros-set (set (set l release6At 1) countedAt (boolByte (c .there))) reducedsAt cellcountAt (c .value) (omega arith)
-      (zeros-set (set l release6At 1) reducedsAt countedAt (boolByte (c .there)) (omega arith)
+      zeros-set (set (set l release6At 1) countedAt (boolByte (c .hasValue))) reducedsAt cellcountAt (c .value) (omega arith)
+      (zeros-set (set l release6At 1) reducedsAt countedAt (boolByte (c .hasValue)) (omega arith)
       (zeros-set l reducedsAt release6At 1 (omega arith) (zeros-later l release6At reducedsAt (omega arith) y)))
 
   -- then the reduced references, d
@@ -113,7 +113,7 @@ module _ (s : List ℕ) (at : ℕ) (h : length s ≤ 4096) (l : List ℕ) (y : Z
             (λ i. record { refusal = w i; reduced = referred .told i .count; randoms = b .told i .count; at = g .at })
             (ap parts6 (then-ok (opt (num 2)) both-lists s at _ _ _ _ (counted .is) (then-ok (list (format reduced)) (list (format random)) s (c .at) _ _ _ _ (referred .is) (b .is))))
             (release6-runs (release6Of (some v)) (length-padded noReduced mostReduceds (map reducedOf (referred .value))) l (led6 l c) l1 l2
-            (ap₂ (λ (m n : ℕ). set (set (set l release6At 1) countedAt m) cellcountAt n) (flag-byte (c .there) ∙ ap asBit (counted .there)) (counted .value)
+            (ap₂ (λ (m n : ℕ). set (set (set l release6At 1) countedAt m) cellcountAt n) (flag-byte (c .hasValue) ∙ ap asBit (counted .there)) (counted .value)
             ∙ stored-led6 l 1 (asBit (isThere (counted .number))) (orZero (counted .number)))
             reduceds-stored
             (left-stored listPassed randomsRun randomsAt (list (format random) .read s (d .at)) l1 l2 (b .value) (g .at) (b .is) (k .1)))

@@ -42,10 +42,10 @@ no-numbers7 = refl
 
 -- both AMR parts, full and half, as they were read
 pub amr-stored : (l : List ℕ) (f h : Flagged) (v w : Option ℕ) (p q : ℕ) → f ≡ flaggedOf (ok v p) → h ≡ flaggedOf (ok w q)
-    → set (set (set (set (set l amrAt 1) fullratedAt (boolByte (f .there))) fullrateAt (f .value)) halfratedAt (boolByte (h .there))) halfrateAt (h .value)
+    → set (set (set (set (set l amrAt 1) fullratedAt (boolByte (f .hasValue))) fullrateAt (f .value)) halfratedAt (boolByte (h .hasValue))) halfrateAt (h .value)
     ≡ stored l amrAt (amrRun (some (v, w)))
 unfolding stored
-amr-stored l f h v w p q x y = rw (flag-byte (f .there), flag-byte (h .there), x, y)
+amr-stored l f h v w p q x y = rw (flag-byte (f .hasValue), flag-byte (h .hasValue), x, y)
 
 -- the two SMS bits
 pub sms-stored : (l : List ℕ) (a b : ℕ) → a < 2 → b < 2 → set (set (set l smsAt 1) confidentialAt a) privateAt b ≡ stored l smsAt (smsRun (some (a, b)))
@@ -55,7 +55,7 @@ sms-stored l a b x y = rw (bit-back a x, bit-back b y)
 -- ## Priority Uplink Access
 
 abbrev pub linked7 : List ℕ → Flagged → List ℕ
-linked7 l u = set (set l uplinkedAt (boolByte (u .there))) uplinkAt (u .value)
+linked7 l u = set (set l uplinkedAt (boolByte (u .hasValue))) uplinkAt (u .value)
 
 pub length-linked7 : (l : List ℕ) (u : Flagged) → length (linked7 l u) ≡ length l
 length-linked7 l u = simp length-set
@@ -66,7 +66,7 @@ bit-of (some b) h = sym (bit-back b h)
 
 uplink-stored : (l : List ℕ) (u : Flagged) (v : Option ℕ) (q : ℕ) → u ≡ flaggedOf (ok v q) → orZero v < 2 → linked7 l u ≡ stored l uplinkedAt (uplinkRun v)
 unfolding stored
-uplink-stored l u v q e h = rw (flag-byte (u .there), e, bit-of v h)
+uplink-stored l u v q e h = rw (flag-byte (u .hasValue), e, bit-of v h)
 
 -- ## The parts behind the H
 
@@ -118,8 +118,8 @@ module _ (s : List ℕ) (at : ℕ) (h : length s ≤ 4096) (l : List ℕ) (y : Z
           let z : Zeros l1 uplinkedAt =
           zeros-behind (set l release7At 1) l1 marksAt (1 + 1 * mostMarks) (marksRun (marked .value)) (zeros-led7 l y) marks-stored
           (length-run markNumbers 1 length-mark isOne false mostMarks (marked .value)) in
-          zeros-set (set l1 uplinkedAt (boolByte (u .there))) amrAt uplinkAt (u .value) (omega arith)
-          (zeros-set l1 amrAt uplinkedAt (boolByte (u .there)) (omega arith) (zeros-later l1 uplinkedAt amrAt (omega arith) z))
+          zeros-set (set l1 uplinkedAt (boolByte (u .hasValue))) amrAt uplinkAt (u .value) (omega arith)
+          (zeros-set l1 amrAt uplinkedAt (boolByte (u .hasValue)) (omega arith) (zeros-later l1 uplinkedAt amrAt (omega arith) z))
 
       -- then the AMR parts, a
       module _ (a : PartPassed) (l2 : List ℕ) (ea : Left partPassed amrRun amrAt (opt (format amr) .read s (u .at)) a (linked7 l1 u) l2) where

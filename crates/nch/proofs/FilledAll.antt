@@ -53,19 +53,19 @@ not-twenty s n = unread s (ground 1) (whole.not-twenty s n)
 
 -- the NLN
 abbrev led : List ℕ → Flagged → List ℕ
-led l n = set (set l numberedAt (boolByte (n .there))) nlnAt (n .value)
+led l n = set (set l numberedAt (boolByte (n .hasValue))) nlnAt (n .value)
 
 pub length-led : (l : List ℕ) (n : Flagged) → length (led l n) ≡ length l
 length-led l n = simp length-set
 
 led-stored : (l : List ℕ) (n : Flagged) (v : Option ℕ) (q : ℕ) → n ≡ flaggedOf (ok v q) → led l n ≡ stored l numberedAt (asBit (isThere v) ∷ orZero v ∷ [])
 unfolding stored
-led-stored l n v q e = rw (flag-byte (n .there), e)
+led-stored l n v q e = rw (flag-byte (n .hasValue), e)
 
 pub zeros-led : (l : List ℕ) (n : Flagged) → Zeros l numberedAt → Zeros (led l n) callsAt
 zeros-led l n z =
-    zeros-set (set l numberedAt (boolByte (n .there))) callsAt nlnAt (n .value) (omega arith)
-    (zeros-set l callsAt numberedAt (boolByte (n .there)) (omega arith) (zeros-later l numberedAt callsAt (omega arith) z))
+    zeros-set (set l numberedAt (boolByte (n .hasValue))) callsAt nlnAt (n .value) (omega arith)
+    (zeros-set l callsAt numberedAt (boolByte (n .hasValue)) (omega arith) (zeros-later l numberedAt callsAt (omega arith) z))
 
 -- l, from zeros on: the NLN n and the calls c were read
 module _ (s : List ℕ) (t : length s ≡ 20) (l : List ℕ) (y : Zeros l numberedAt) (n : Flagged) (en : n ≡ flaggedOf (flaggedAt s 0 2)) (c : CallsPassed) (l1 : List ℕ)

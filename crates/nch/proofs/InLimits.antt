@@ -84,7 +84,7 @@ call-within c e k =
     let a = both-true (headInRange c) _ e in
     let b = both-true (ltb (c .reference) (2 ^ 27)) _ (a .0) in
     let g = both-true (ltb (c .priority) 8) (ltb (c .cipher) 16) (b .1) in
-    let d = small (c .described) (c .description) (a .1) k in
+    let d = small (c .hasDescription) (c .description) (a .1) k in
     let x = ltb-true (c .reference) (2 ^ 27) (b .0) in
     let y = ltb-true (c .priority) 8 (g .0) in
     let z = ltb-true (c .cipher) 16 (g .1) in
@@ -94,7 +94,7 @@ call-within c e k =
       bit-low (c .acknowledged),
       le-leb (c .priority) 255 (omega arith),
       le-leb (c .cipher) 255 (omega arith),
-      bit-low (c .described),
+      bit-low (c .hasDescription),
       le-leb (c .description .channel) 4294967295 (omega (arith, d .channel)),
       bit-low (c .description .hopping),
       bit-low (c .description .shortlist),
@@ -128,7 +128,7 @@ six-held : (o : Option Release6Value) → optFits (format release6) o → Right6
 unfolding within each reducedNumbers randomNumbers release6Numbers
 six-held none f t = (refl, refl)
 six-held (some v) f t =
-    let x = flag-small (isThere (v .0)) (orZero (v .0)) 4 (t .counted) (omega arith) in
+    let x = flag-small (isThere (v .0)) (orZero (v .0)) 4 (t .hasCount) (omega arith) in
     let head : List ℕ = 1 ∷ asBit (isThere (v .0)) ∷ orZero (v .0) ∷ length (v .1 .0) ∷ [] in
     let reduceds : List ℕ = each reducedNumbers (padded noReduced mostReduceds (map reducedOf (v .1 .0))) in
     let h : Held head (flag ∷ flag ∷ octet ∷ long ∷ []) =
@@ -144,14 +144,14 @@ parts-within : (r : Release7) → r .fullrate < 16 → r .halfrate < 16 → with
 unfolding within partsNumbers
 parts-within r x y =
     rw (
-      bit-low (r .uplinked),
+      bit-low (r .hasUplink),
       bit-low (r .uplink),
-      bit-low (r .amr),
-      bit-low (r .fullrated),
+      bit-low (r .hasAmr),
+      bit-low (r .hasFullrate),
       le-leb (r .fullrate) 255 (omega arith),
-      bit-low (r .halfrated),
+      bit-low (r .hasHalfrate),
       le-leb (r .halfrate) 255 (omega arith),
-      bit-low (r .sms),
+      bit-low (r .hasSms),
       bit-low (r .confidential),
       bit-low (r .private),
     )
@@ -170,7 +170,7 @@ seven-held (some v) f t =
     held-append ((1 ∷ length (v .0) ∷ []) ++ marks) ((flag ∷ long ∷ []) ++ times mostMarks (flag ∷ [])) (partsNumbers r) partsMost
     (held-append (1 ∷ length (v .0) ∷ []) (flag ∷ long ∷ []) marks (times mostMarks (flag ∷ [])) h
     (run-held (num 1) isOne false markNumbers (flag ∷ []) length-mark refl mark-within mostMarks (v .0) (f .0)))
-    (length-parts r, parts-within r (flag-small (r .fullrated) (r .fullrate) 16 (t .fullrate) (omega arith)) (flag-small (r .halfrated) (r .halfrate) 16 (t .halfrate) (omega arith)))
+    (length-parts r, parts-within r (flag-small (r .hasFullrate) (r .fullrate) 16 (t .fullrate) (omega arith)) (flag-small (r .hasHalfrate) (r .halfrate) 16 (t .halfrate) (omega arith)))
 
 -- ## The whole
 
@@ -178,11 +178,11 @@ value-held : (v : Value) → Said v → Right (recordOf v) → Held (numbersOf (
 unfolding within numbersOf callNumbers
 value-held v f t =
     let m = recordOf v in
-    let x = flag-small (m .numbered) (m .nln) 4 (t .numbered) (omega arith) in
-    let head : List ℕ = asBit (m .numbered) ∷ m .nln ∷ m .callcount ∷ [] in
+    let x = flag-small (m .hasNln) (m .nln) 4 (t .hasNln) (omega arith) in
+    let head : List ℕ = asBit (m .hasNln) ∷ m .nln ∷ m .callcount ∷ [] in
     let calls = each callNumbers (m .calls) in
     let h : Held head headMost =
-    (refl, rw (bit-low (m .numbered), le-leb (m .nln) 255 (omega arith), le-leb (m .callcount) 18446744073709551615 (omega (arith, t .few)))) in
+    (refl, rw (bit-low (m .hasNln), le-leb (m .nln) 255 (omega arith), le-leb (m .callcount) 18446744073709551615 (omega (arith, t .few)))) in
     held-append (head ++ calls ++ release6Numbers (m .release6)) (headMost ++ times mostCalls callMost ++ release6Most) (release7Numbers (m .release7)) release7Most
     (held-append (head ++ calls) (headMost ++ times mostCalls callMost) (release6Numbers (m .release6)) release6Most
     (held-append head headMost calls (times mostCalls callMost) h

@@ -107,8 +107,8 @@ spread-all z (suc n) (x ∷ l) e = ap (λ y. x ∷ y) (spread-all z n l (omega a
 abbrev with6 : Release6 → List Reduced → List Random → Release6
 with6 r a b =
     record {
-      there = r .there;
-      counted = r .counted;
+      hasRelease = r .hasRelease;
+      hasCount = r .hasCount;
       cellcount = r .cellcount;
       reducedcount = r .reducedcount;
       reduced = a;
@@ -119,17 +119,17 @@ with6 r a b =
 abbrev with7 : Release7 → List Bool → Release7
 with7 r a =
     record {
-      there = r .there;
+      hasRelease = r .hasRelease;
       markcount = r .markcount;
       marks = a;
-      uplinked = r .uplinked;
+      hasUplink = r .hasUplink;
       uplink = r .uplink;
-      amr = r .amr;
-      fullrated = r .fullrated;
+      hasAmr = r .hasAmr;
+      hasFullrate = r .hasFullrate;
       fullrate = r .fullrate;
-      halfrated = r .halfrated;
+      hasHalfrate = r .hasHalfrate;
       halfrate = r .halfrate;
-      sms = r .sms;
+      hasSms = r .hasSms;
       confidential = r .confidential;
       private = r .private;
     }
@@ -137,7 +137,7 @@ with7 r a =
 abbrev with-arrays : Notification → List Call → List Reduced → List Random → List Bool → Notification
 with-arrays m a b d e =
     record {
-      numbered = m .numbered;
+      hasNln = m .hasNln;
       nln = m .nln;
       callcount = m .callcount;
       calls = a;

@@ -31,13 +31,13 @@ module _ (r : Release6) (n : length (r .reduced) ≡ mostReduceds) where
 
   -- three numbers, how many reduced references, these, how many random entries, these
   pub release6-runs : (l l1 l2 l3 : List ℕ)
-      → l1 ≡ stored l release6At (asBit (r .there) ∷ asBit (r .counted) ∷ r .cellcount ∷ [])
+      → l1 ≡ stored l release6At (asBit (r .hasRelease) ∷ asBit (r .hasCount) ∷ r .cellcount ∷ [])
       → l2 ≡ stored l1 reducedsAt (r .reducedcount ∷ each reducedNumbers (r .reduced))
       → l3 ≡ stored l2 randomsAt (r .randomcount ∷ each randomNumbers (r .randoms))
       → l3 ≡ stored l release6At (release6Numbers r)
   unfolding release6Numbers
   release6-runs l l1 l2 l3 e f g =
-      let head : List ℕ = asBit (r .there) ∷ asBit (r .counted) ∷ r .cellcount ∷ [] in
+      let head : List ℕ = asBit (r .hasRelease) ∷ asBit (r .hasCount) ∷ r .cellcount ∷ [] in
       let reduceds : List ℕ = r .reducedcount ∷ each reducedNumbers (r .reduced) in
       let a = more 3 l l1 l2 release6At head reduceds e refl f in
       more (randomsAt - release6At) l l2 l3 release6At (head ++ reduceds) (r .randomcount ∷ each randomNumbers (r .randoms)) a
@@ -59,22 +59,22 @@ module _ (r : Release7) (n : length (r .marks) ≡ mostMarks) where
 
   -- whether it is there, how many marks, these, and the three parts that flags lead
   pub release7-runs : (l l1 l2 l3 l4 l5 : List ℕ)
-      → l1 ≡ stored l release7At (asBit (r .there) ∷ [])
+      → l1 ≡ stored l release7At (asBit (r .hasRelease) ∷ [])
       → l2 ≡ stored l1 marksAt (r .markcount ∷ each markNumbers (r .marks))
-      → l3 ≡ stored l2 uplinkedAt (asBit (r .uplinked) ∷ asBit (r .uplink) ∷ [])
-      → l4 ≡ stored l3 amrAt (asBit (r .amr) ∷ asBit (r .fullrated) ∷ r .fullrate ∷ asBit (r .halfrated) ∷ r .halfrate ∷ [])
-      → l5 ≡ stored l4 smsAt (asBit (r .sms) ∷ asBit (r .confidential) ∷ asBit (r .private) ∷ [])
+      → l3 ≡ stored l2 uplinkedAt (asBit (r .hasUplink) ∷ asBit (r .uplink) ∷ [])
+      → l4 ≡ stored l3 amrAt (asBit (r .hasAmr) ∷ asBit (r .hasFullrate) ∷ r .fullrate ∷ asBit (r .hasHalfrate) ∷ r .halfrate ∷ [])
+      → l5 ≡ stored l4 smsAt (asBit (r .hasSms) ∷ asBit (r .confidential) ∷ asBit (r .private) ∷ [])
       → l5 ≡ stored l release7At (release7Numbers r)
   unfolding release7Numbers partsNumbers
   release7-runs l l1 l2 l3 l4 l5 e f g h j =
-      let marks : List ℕ = asBit (r .there) ∷ r .markcount ∷ each markNumbers (r .marks) in
-      let uplink : List ℕ = asBit (r .uplinked) ∷ asBit (r .uplink) ∷ [] in
-      let rates : List ℕ = asBit (r .amr) ∷ asBit (r .fullrated) ∷ r .fullrate ∷ asBit (r .halfrated) ∷ r .halfrate ∷ [] in
-      let sms : List ℕ = asBit (r .sms) ∷ asBit (r .confidential) ∷ asBit (r .private) ∷ [] in
+      let marks : List ℕ = asBit (r .hasRelease) ∷ r .markcount ∷ each markNumbers (r .marks) in
+      let uplink : List ℕ = asBit (r .hasUplink) ∷ asBit (r .uplink) ∷ [] in
+      let rates : List ℕ = asBit (r .hasAmr) ∷ asBit (r .hasFullrate) ∷ r .fullrate ∷ asBit (r .hasHalfrate) ∷ r .halfrate ∷ [] in
+      let sms : List ℕ = asBit (r .hasSms) ∷ asBit (r .confidential) ∷ asBit (r .private) ∷ [] in
       let x : length marks ≡ uplinkedAt - release7At = omega (arith, length-marks) in
       let y : length (marks ++ uplink) ≡ amrAt - release7At = length-append marks uplink ∙ omega arith in
       let z : length (marks ++ uplink ++ rates) ≡ smsAt - release7At = length-append (marks ++ uplink) rates ∙ omega arith in
-      let a = more 1 l l1 l2 release7At (asBit (r .there) ∷ []) (r .markcount ∷ each markNumbers (r .marks)) e refl f in
+      let a = more 1 l l1 l2 release7At (asBit (r .hasRelease) ∷ []) (r .markcount ∷ each markNumbers (r .marks)) e refl f in
       let b = more (uplinkedAt - release7At) l l2 l3 release7At marks uplink a x g in
       let d = more (amrAt - release7At) l l3 l4 release7At (marks ++ uplink) rates b y h in
       more (smsAt - release7At) l l4 l5 release7At (marks ++ uplink ++ rates) sms d z j ∙ ap (stored l release7At) (simp append-assoc)
@@ -102,14 +102,14 @@ module _ (m : Notification) (s : Shaped m) where
 
   -- two numbers, how many calls, these, and the releases
   pub all-runs : (l l1 l2 l3 l4 : List ℕ)
-      → l1 ≡ stored l numberedAt (asBit (m .numbered) ∷ m .nln ∷ [])
+      → l1 ≡ stored l numberedAt (asBit (m .hasNln) ∷ m .nln ∷ [])
       → l2 ≡ stored l1 callsAt (m .callcount ∷ each callNumbers (m .calls))
       → l3 ≡ stored l2 release6At (release6Numbers (m .release6))
       → l4 ≡ stored l3 release7At (release7Numbers (m .release7))
       → l4 ≡ stored l numberedAt (numbersOf m)
   unfolding numbersOf
   all-runs l l1 l2 l3 l4 e f g h =
-      let head : List ℕ = asBit (m .numbered) ∷ m .nln ∷ [] in
+      let head : List ℕ = asBit (m .hasNln) ∷ m .nln ∷ [] in
       let c : List ℕ = m .callcount ∷ each callNumbers (m .calls) in
       let six = release6Numbers (m .release6) in
       let seven = release7Numbers (m .release7) in

@@ -35,7 +35,7 @@ threeSet l place v there value = set (set (set l place v) (place + 1) (boolByte 
 
 -- the three writes are the run of the entry
 three-stored : (l : List ℕ) (place v : ℕ) (there : Bool) (value : ℕ) → v < 2
-    → threeSet l place v there value ≡ stored l place (randomNumbers (record { segment = isOne v; given = there; rand = value }))
+    → threeSet l place v there value ≡ stored l place (randomNumbers (record { segment = isOne v; hasRandom = there; rand = value }))
 unfolding stored randomNumbers
 three-stored l place v there value h = rw (add-one place, add-two place, flag-byte there, bit-back v h)
 
@@ -63,15 +63,15 @@ module _ (s : List ℕ) (start : ℕ) (old : List ℕ) where
     pub randoms-one : (v b : ℕ) (r : Flagged) (o : Option ℕ) (new : List ℕ) → Bits v ≡ fetched s at 1 → (v ≡ 0 → ⊥) → b < 2
         → format random .read s (at + 1) ≡ ok (b, o) (r .at)
         → at + 1 ≤ r .at
-        → r .there ≡ isThere o
+        → r .hasValue ≡ isThere o
         → r .value ≡ orZero o
         → count < mostRandoms
-        → new ≡ threeSet numbers (firstRandom + randomLength * count) b (r .there) (r .value)
+        → new ≡ threeSet numbers (firstRandom + randomLength * count) b (r .hasValue) (r .value)
         → KeptRandoms s start old new (count + 1) (r .at)
     randoms-one v b r o new e y two x l t u h m =
-        kept-one i v (b, o) (r .at) (record { segment = isOne b; given = r .there; rand = r .value }) new e y x l h
-        (ap₂ (λ (g : Bool) (n : ℕ). record { segment = isOne b; given = g; rand = n }) t u)
-        (m ∙ three-stored numbers (firstRandom + randomLength * count) b (r .there) (r .value) two)
+        kept-one i v (b, o) (r .at) (record { segment = isOne b; hasRandom = r .hasValue; rand = r .value }) new e y x l h
+        (ap₂ (λ (g : Bool) (n : ℕ). record { segment = isOne b; hasRandom = g; rand = n }) t u)
+        (m ∙ three-stored numbers (firstRandom + randomLength * count) b (r .hasValue) (r .value) two)
 
     -- the loop has met the 0 that closes the list
     pub randoms-end : (f : ℕ) → Bits f ≡ fetched s at 1 → f ≡ 0 → (r : Refusal) → r ≡ noRefusal

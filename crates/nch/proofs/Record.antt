@@ -2,6 +2,7 @@
 use mathlib.Core.Path.{_≡_, refl, ap, _∙_}
 use mathlib.Core.List.{[], _∷_, map}
 use mathlib.Core.Bool.{Bool, true, false}
+use mathlib.Core.Option.{Option}
 use Prim.Native.Nat.{ℕ, _+_, _≤_}
 use native.Mathlib.Omega.{arith}
 use lib.ListN.{length, take}
@@ -19,7 +20,7 @@ use Rattle.call.specs.Call.{CallValue, groupCall, callOf, callValue, descriptio
 use Rattle.call.specs.Write.{callInRange, callIsZero, callIsLow, callLengthRight, callHopsRight}
 use Rattle.call.proofs.Record.{call-fits, call-back, value-back, value-in-range, value-low, value-length, value-hops, zero-is, no-call-zero}
 use Rattle.nch.specs.declared.Notification.{Notification}
-use Rattle.nch.specs.Octets.{Value, release6, release7, notification, count, cipheredValue, describedValue, reducedsIn, randomsIn, marksIn}
+use Rattle.nch.specs.Octets.{Release6Value, Value, release6, release7, notification, count, cipheredValue, describedValue, reducedsIn, randomsIn, marksIn}
 use Rattle.nch.specs.Told.{recordOf, reducedValue, randomValue, release6Value, release7Value, valueOf, Shaped}
 use Rattle.nch.specs.Write.{placesRight, all, flaggedRight, release6InRange, inRange, callsOf, reducedIsLow, referencesLow, lengthsRight, hopsRight, randomsOwned, isDescribed, marksOwned, recordTests, recordRefusal, formFits, writeNumber}
 use Rattle.nch.specs.Inner.{callRight}
@@ -31,7 +32,7 @@ use Rattle.nch.proofs.Releases.{flag-fits, fits-flag, flag-zero, in-use
 -- what the writer asks of a record, but for the length of its written form
 pub record Right (m : Notification) : Type 0 where
   pub few : m .callcount ≤ 4
-  pub numbered : flaggedRight (m .numbered) (m .nln) 4 ≡ true
+  pub hasNln : flaggedRight (m .hasNln) (m .nln) 4 ≡ true
   calls : placesRight callInRange callIsZero (m .callcount) (m .calls) ≡ true
   pub six : Right6 (m .release6)
   pub seven : Right7 (m .release7)
@@ -58,13 +59,13 @@ right m e =
     let f = picked (randomsOwned m) _ 6 (omega arith) (d .1) in
     let g = picked (marksOwned m) 0 7 (omega arith) (f .1) in
     let j = both-true (leb (m .callcount) 4) _ (a .0) in
-    let k = both-true (flaggedRight (m .numbered) (m .nln) 4) _ (j .1) in
+    let k = both-true (flaggedRight (m .hasNln) (m .nln) 4) _ (j .1) in
     let l = both-true (placesRight callInRange callIsZero (m .callcount) (m .calls)) _ (k .1) in
     let n = both-true (release6InRange (m .release6)) _ (l .1) in
     let o = both-true (all callIsLow (callsOf m)) _ (b .0) in
     record {
       few = leb-true (m .callcount) 4 (j .0);
-      numbered = k .0;
+      hasNln = k .0;
       calls = l .0;
       six = right6 (m .release6) (n .0);
       seven = right7 (m .release7) (n .1);
@@ -81,7 +82,7 @@ module _ (m : Notification) (t : Right m) where
   unfolding inRange
   all-in-range =
       true-both (le-leb (m .callcount) 4 (t .few))
-      (true-both (t .numbered) (true-both (t .calls) (true-both (range6 (m .release6) (t .six)) (range7 (m .release7) (t .seven)))))
+      (true-both (t .hasNln) (true-both (t .calls) (true-both (range6 (m .release6) (t .six)) (range7 (m .release7) (t .seven)))))
 
   all-low : referencesLow m ≡ true
   unfolding referencesLow
@@ -117,7 +118,7 @@ one-call c e =
     call-fits c (a .0) (b .0) (d .0) (d .1)
 
 described-value : (c : Call) → describedValue (callValue c) ≡ isDescribed c
-described-value c = there-back (c .described) (descriptionValue (c .description))
+described-value c = there-back (c .hasDescription) (descriptionValue (c .description))
 
 module _ (m : Notification) (t : Right m) where
   pub calls-right : all callRight (callsOf m) ≡ true
@@ -129,7 +130,11 @@ module _ (m : Notification) (t : Right m) where
   calls-fit = items-fit groupCall callValue callRight one-call (callsOf m) calls-right
 
   module _ (s : Shaped m) where
-    randoms-fit : (h : Bool) → leb (length (randomsIn (there h (release6Value (m .release6))))) (count cipheredValue (map callValue (callsOf m)) + length (reducedsIn (there h (release6Value (m .release6))))) ≡ true
+    -- Release 6, there or not
+    abbrev six-if : Bool → Option Release6Value
+    six-if h = there h (release6Value (m .release6))
+
+    randoms-fit : (h : Bool) → leb (length (randomsIn (six-if h))) (count cipheredValue (map callValue (callsOf m)) + length (reducedsIn (six-if h))) ≡ true
     randoms-fit false = le-leb 0 (count cipheredValue (map callValue (callsOf m)) + 0) (omega arith)
     randoms-fit true =
         rw (
@@ -152,18 +157,18 @@ module _ (m : Notification) (t : Right m) where
     unfolding notification groupCall
     record-fits = (
       (
-        (flag-fits (m .numbered) (m .nln) 2 (t .numbered), (calls-fit, (fits6 (m .release6) (t .six) (t .lowReduced), fits7 (m .release7) (t .seven)))),
-        randoms-fit (m .release6 .there),
+        (flag-fits (m .hasNln) (m .nln) 2 (t .hasNln), (calls-fit, (fits6 (m .release6) (t .six) (t .lowReduced), fits7 (m .release7) (t .seven)))),
+        randoms-fit (m .release6 .hasRelease),
       ),
-      marks-fit (m .release7 .there),
+      marks-fit (m .release7 .hasRelease),
     )
 
     pub record-back : recordOf (valueOf m) ≡ m
     record-back =
         λ i.
         record {
-          numbered = there-back (m .numbered) (m .nln) i;
-          nln = flag-zero (m .numbered) (m .nln) 4 (t .numbered) i;
+          hasNln = there-back (m .hasNln) (m .nln) i;
+          nln = flag-zero (m .hasNln) (m .nln) 4 (t .hasNln) i;
           callcount = in-use callValue (m .callcount) 4 (m .calls) (t .few) (s .calls) i;
           calls = places-back noCall callInRange callIsZero zero-is callOf callValue call-back 4 (m .callcount) (m .calls) (s .calls) (t .calls) i;
           release6 = back6 (m .release6) (t .six) (s .reduced) (s .randoms) i;
@@ -174,7 +179,7 @@ module _ (m : Notification) (t : Right m) where
 
 -- what the grammar asks of it
 pub record Fits (v : Value) : Type 0 where
-  numbered : optFits (num 2) (v .0)
+  hasNln : optFits (num 2) (v .0)
   pub calls : itemsFit groupCall (v .1 .0)
   pub six : optFits (format release6) (v .1 .1 .0)
   pub seven : optFits (format release7) (v .1 .1 .1)
@@ -185,7 +190,7 @@ pub fits : (v : Value) → notification .fits v → Fits v
 unfolding notification groupCall
 fits v f =
     record {
-      numbered = f .0 .0 .0;
+      hasNln = f .0 .0 .0;
       calls = f .0 .0 .1 .0;
       six = f .0 .0 .1 .1 .0;
       seven = f .0 .0 .1 .1 .1;
@@ -223,7 +228,7 @@ module _ (v : Value) (f : Fits v) (four : length (v .1 .0) ≤ 4) (five : length
   value-right =
       record {
         few = four;
-        numbered = fits-flag (v .0) 2 (f .numbered);
+        hasNln = fits-flag (v .0) 2 (f .hasNln);
         calls = told-places groupCall callOf noCall callInRange callIsZero no-call-zero value-in-range 4 (v .1 .0) (f .calls);
         six = told6 (v .1 .1 .0) (f .six) five nine;
         seven = told7 (v .1 .1 .1) (f .seven) marks-four;

@@ -22,7 +22,7 @@ use Rattle.nch.specs.declared.Release6.{Release6}
 use Rattle.nch.specs.declared.Release7.{Release7}
 use Rattle.nch.specs.Octets.{Release6Value, Release7Value, AmrValue, reduced, random, amr, release6, release7, reducedsIn, randomsIn, marksIn}
 use Rattle.nch.specs.Told.{reducedOf, noReduced, randomOf, noRandom, release6Of, release7Of, orFalse, fullRate, halfRate, confidentiality, privacy, reducedValue, randomValue, release6Value, release7Value, amrValue}
-use Rattle.nch.specs.Write.{placesRight, all, flaggedRight, behind, reducedInRange, reducedIsZero, randomInRange, randomIsZero, anyMark, release6InRange, release7InRange, reducedIsLow}
+use Rattle.nch.specs.Write.{placesRight, all, flaggedRight, behind, reducedInRange, reducedIsZero, randomInRange, randomIsZero, anyMark, amrInRange, release6InRange, release7InRange, reducedIsLow}
 use Rattle.nch.proofs.InPlaces.{places-back, places-empty, places-good, all-both, items-fit, told-all, told-places, told-back}
 
 -- ## Flags, and what stands behind them
@@ -90,16 +90,16 @@ reduced-range (a ∷ v) f = lt-ltb a (2 ^ 27) (f .0 .0)
 -- ## A random entry
 
 random-fits : (r : Random) → randomInRange r ≡ true → format random .fits (randomValue r)
-random-fits r e = (flag-lt (r .segment), flag-fits (r .given) (r .rand) 36 e)
+random-fits r e = (flag-lt (r .segment), flag-fits (r .hasRandom) (r .rand) 36 e)
 
 random-back : (r : Random) → randomInRange r ≡ true → randomOf (randomValue r) ≡ r
-random-back r e = λ i. record { segment = flag-back (r .segment) i; given = there-back (r .given) (r .rand) i; rand = flag-zero (r .given) (r .rand) (2 ^ 36) e i }
+random-back r e = λ i. record { segment = flag-back (r .segment) i; hasRandom = there-back (r .hasRandom) (r .rand) i; rand = flag-zero (r .hasRandom) (r .rand) (2 ^ 36) e i }
 
 random-zero : (r : Random) → randomIsZero r ≡ true → r ≡ noRandom
 random-zero r e =
-    let a = both-true (not (r .segment)) (both (not (r .given)) (eqb (r .rand) 0)) e in
-    let b = both-true (not (r .given)) (eqb (r .rand) 0) (a .1) in
-    λ i. record { segment = not-true (r .segment) (a .0) i; given = not-true (r .given) (b .0) i; rand = eqb-true (r .rand) 0 (b .1) i }
+    let a = both-true (not (r .segment)) (both (not (r .hasRandom)) (eqb (r .rand) 0)) e in
+    let b = both-true (not (r .hasRandom)) (eqb (r .rand) 0) (a .1) in
+    λ i. record { segment = not-true (r .segment) (a .0) i; hasRandom = not-true (r .hasRandom) (b .0) i; rand = eqb-true (r .rand) 0 (b .1) i }
 
 random-value : (v : ℕ × Option ℕ) → format random .fits v → randomValue (randomOf v) ≡ v
 random-value v f = λ i. (bit-back (v .0) (f .0) i, number-back (v .1) i)
@@ -110,8 +110,8 @@ random-value v f = λ i. (bit-back (v .0) (f .0) i, number-back (v .1) i)
 pub record Right6 (r : Release6) : Type 0 where
   pub few : r .reducedcount ≤ 5
   pub fewRandoms : r .randomcount ≤ 9
-  absent : pick (r .there) true (both (not (r .counted)) (both (eqb (r .reducedcount) 0) (eqb (r .randomcount) 0))) ≡ true
-  pub counted : flaggedRight (r .counted) (r .cellcount) 4 ≡ true
+  absent : pick (r .hasRelease) true (both (not (r .hasCount)) (both (eqb (r .reducedcount) 0) (eqb (r .randomcount) 0))) ≡ true
+  pub hasCount : flaggedRight (r .hasCount) (r .cellcount) 4 ≡ true
   pub places : placesRight reducedInRange reducedIsZero (r .reducedcount) (r .reduced) ≡ true
   pub randoms : placesRight randomInRange randomIsZero (r .randomcount) (r .randoms) ≡ true
 
@@ -120,14 +120,14 @@ unfolding release6InRange
 right6 r e =
     let a = both-true (leb (r .reducedcount) 5) _ e in
     let b = both-true (leb (r .randomcount) 9) _ (a .1) in
-    let c = both-true (pick (r .there) true (both (not (r .counted)) (both (eqb (r .reducedcount) 0) (eqb (r .randomcount) 0)))) _ (b .1) in
-    let d = both-true (flaggedRight (r .counted) (r .cellcount) 4) _ (c .1) in
+    let c = both-true (pick (r .hasRelease) true (both (not (r .hasCount)) (both (eqb (r .reducedcount) 0) (eqb (r .randomcount) 0)))) _ (b .1) in
+    let d = both-true (flaggedRight (r .hasCount) (r .cellcount) 4) _ (c .1) in
     let g = both-true (placesRight reducedInRange reducedIsZero (r .reducedcount) (r .reduced)) _ (d .1) in
     record {
       few = leb-true (r .reducedcount) 5 (a .0);
       fewRandoms = leb-true (r .randomcount) 9 (b .0);
       absent = c .0;
-      counted = d .0;
+      hasCount = d .0;
       places = g .0;
       randoms = g .1;
     }
@@ -137,10 +137,10 @@ unfolding release6InRange
 range6 r t =
     true-both (le-leb (r .reducedcount) 5 (t .few))
     (true-both (le-leb (r .randomcount) 9 (t .fewRandoms))
-    (true-both (t .absent) (true-both (t .counted) (true-both (t .places) (t .randoms)))))
+    (true-both (t .absent) (true-both (t .hasCount) (true-both (t .places) (t .randoms)))))
 
-pub fits6 : (r : Release6) → Right6 r → all reducedIsLow (take (r .reducedcount) (r .reduced)) ≡ true → optFits (format release6) (there (r .there) (release6Value r))
-fits6 r t low = go (r .there)
+pub fits6 : (r : Release6) → Right6 r → all reducedIsLow (take (r .reducedcount) (r .reduced)) ≡ true → optFits (format release6) (there (r .hasRelease) (release6Value r))
+fits6 r t low = go (r .hasRelease)
   where
     one : (a : Reduced) → both (reducedInRange a) (reducedIsLow a) ≡ true → format reduced .fits (reducedValue a)
     one a e =
@@ -150,7 +150,7 @@ fits6 r t low = go (r .there)
     go : (h : Bool) → optFits (format release6) (there h (release6Value r))
     go false = tt
     go true = (
-      flag-fits (r .counted) (r .cellcount) 2 (t .counted),
+      flag-fits (r .hasCount) (r .cellcount) 2 (t .hasCount),
       (
         items-fit (format reduced) reducedValue (λ a. both (reducedInRange a) (reducedIsLow a)) one (take (r .reducedcount) (r .reduced))
             (all-both reducedInRange reducedIsLow (take (r .reducedcount) (r .reduced)) (places-good reducedInRange reducedIsZero (r .reducedcount) (r .reduced) (t .places)) low),
@@ -163,33 +163,33 @@ fits6 r t low = go (r .there)
 pub in-use : {A B : Type 0} (f : A → B) (n k : ℕ) (l : List A) → n ≤ k → length l ≡ k → length (map f (take n l)) ≡ n
 in-use f n k l h e = length-map (take n l) f ∙ length-take-le n l (omega arith)
 
-pub back6 : (r : Release6) → Right6 r → length (r .reduced) ≡ 5 → length (r .randoms) ≡ 9 → release6Of (there (r .there) (release6Value r)) ≡ r
-back6 r t five nine = go (r .there) refl (t .absent)
+pub back6 : (r : Release6) → Right6 r → length (r .reduced) ≡ 5 → length (r .randoms) ≡ 9 → release6Of (there (r .hasRelease) (release6Value r)) ≡ r
+back6 r t five nine = go (r .hasRelease) refl (t .absent)
   where
-    go : (h : Bool) → r .there ≡ h → pick h true (both (not (r .counted)) (both (eqb (r .reducedcount) 0) (eqb (r .randomcount) 0))) ≡ true
+    go : (h : Bool) → r .hasRelease ≡ h → pick h true (both (not (r .hasCount)) (both (eqb (r .reducedcount) 0) (eqb (r .randomcount) 0))) ≡ true
         → release6Of (there h (release6Value r)) ≡ r
     go true o e =
         λ i.
         record {
-          there = sym o i;
-          counted = there-back (r .counted) (r .cellcount) i;
-          cellcount = flag-zero (r .counted) (r .cellcount) 4 (t .counted) i;
+          hasRelease = sym o i;
+          hasCount = there-back (r .hasCount) (r .cellcount) i;
+          cellcount = flag-zero (r .hasCount) (r .cellcount) 4 (t .hasCount) i;
           reducedcount = in-use reducedValue (r .reducedcount) 5 (r .reduced) (t .few) five i;
           reduced = places-back noReduced reducedInRange reducedIsZero reduced-zero reducedOf reducedValue (λ a g. reduced-back a) 5 (r .reducedcount) (r .reduced) five (t .places) i;
           randomcount = in-use randomValue (r .randomcount) 9 (r .randoms) (t .fewRandoms) nine i;
           randoms = places-back noRandom randomInRange randomIsZero random-zero randomOf randomValue random-back 9 (r .randomcount) (r .randoms) nine (t .randoms) i;
         }
     go false o e =
-        let a = both-true (not (r .counted)) (both (eqb (r .reducedcount) 0) (eqb (r .randomcount) 0)) e in
+        let a = both-true (not (r .hasCount)) (both (eqb (r .reducedcount) 0) (eqb (r .randomcount) 0)) e in
         let b = both-true (eqb (r .reducedcount) 0) (eqb (r .randomcount) 0) (a .1) in
-        let u = not-true (r .counted) (a .0) in
+        let u = not-true (r .hasCount) (a .0) in
         let x = eqb-true (r .reducedcount) 0 (b .0) in
         let y = eqb-true (r .randomcount) 0 (b .1) in
         λ i.
         record {
-          there = sym o i;
-          counted = sym u i;
-          cellcount = flag-none (r .counted) (r .cellcount) 4 u (t .counted) i;
+          hasRelease = sym o i;
+          hasCount = sym u i;
+          cellcount = flag-none (r .hasCount) (r .cellcount) 4 u (t .hasCount) i;
           reducedcount = sym x i;
           reduced = places-empty noReduced reducedInRange reducedIsZero reduced-zero 5 (r .reducedcount) (r .reduced) five x (t .places) i;
           randomcount = sym y i;
@@ -197,7 +197,7 @@ back6 r t five nine = go (r .there) refl (t .absent)
         }
 
 pub value6 : (o : Option Release6Value) → optFits (format release6) o → length (reducedsIn o) ≤ 5 → length (randomsIn o) ≤ 9
-    → there (release6Of o .there) (release6Value (release6Of o)) ≡ o
+    → there (release6Of o .hasRelease) (release6Value (release6Of o)) ≡ o
 value6 none f h k = refl
 value6 (some v) f h k =
     λ i.
@@ -211,13 +211,13 @@ value6 (some v) f h k =
 
 pub told6 : (o : Option Release6Value) → optFits (format release6) o → length (reducedsIn o) ≤ 5 → length (randomsIn o) ≤ 9 → Right6 (release6Of o)
 unfolding placesRight
-told6 none f h k = record { few = omega arith; fewRandoms = omega arith; absent = refl; counted = refl; places = refl; randoms = refl }
+told6 none f h k = record { few = omega arith; fewRandoms = omega arith; absent = refl; hasCount = refl; places = refl; randoms = refl }
 told6 (some v) f h k =
     record {
       few = h;
       fewRandoms = k;
       absent = refl;
-      counted = fits-flag (v .0) 2 (f .0);
+      hasCount = fits-flag (v .0) 2 (f .0);
       places = told-places (format reduced) reducedOf noReduced reducedInRange reducedIsZero refl reduced-range 5 (v .1 .0) (f .1 .0);
       randoms = told-places (format random) randomOf noRandom randomInRange randomIsZero refl (λ a g. fits-flag (a .1) 36 (g .1)) 9 (v .1 .1) (f .1 .1);
     }
@@ -237,35 +237,35 @@ count6 (some v) = (refl, refl)
 -- what the writer asks of it
 pub record Right7 (r : Release7) : Type 0 where
   pub few : r .markcount ≤ 4
-  absent : pick (r .there) true (both (eqb (r .markcount) 0) (both (not (r .uplinked)) (both (not (r .amr)) (not (r .sms))))) ≡ true
+  absent : pick (r .hasRelease) true (both (eqb (r .markcount) 0) (both (not (r .hasUplink)) (both (not (r .hasAmr)) (not (r .hasSms))))) ≡ true
   pub marks : placesRight anyMark not (r .markcount) (r .marks) ≡ true
-  uplink : behind (r .uplinked) (r .uplink) ≡ true
-  fullrated : behind (r .amr) (r .fullrated) ≡ true
-  halfrated : behind (r .amr) (r .halfrated) ≡ true
-  pub fullrate : flaggedRight (r .fullrated) (r .fullrate) 16 ≡ true
-  pub halfrate : flaggedRight (r .halfrated) (r .halfrate) 16 ≡ true
-  confidential : behind (r .sms) (r .confidential) ≡ true
-  private : behind (r .sms) (r .private) ≡ true
+  uplink : behind (r .hasUplink) (r .uplink) ≡ true
+  hasFullrate : behind (r .hasAmr) (r .hasFullrate) ≡ true
+  hasHalfrate : behind (r .hasAmr) (r .hasHalfrate) ≡ true
+  pub fullrate : flaggedRight (r .hasFullrate) (r .fullrate) 16 ≡ true
+  pub halfrate : flaggedRight (r .hasHalfrate) (r .halfrate) 16 ≡ true
+  confidential : behind (r .hasSms) (r .confidential) ≡ true
+  private : behind (r .hasSms) (r .private) ≡ true
 
 pub right7 : (r : Release7) → release7InRange r ≡ true → Right7 r
 unfolding release7InRange
 right7 r e =
     let a = both-true (leb (r .markcount) 4) _ e in
-    let b = both-true (pick (r .there) true (both (eqb (r .markcount) 0) (both (not (r .uplinked)) (both (not (r .amr)) (not (r .sms)))))) _ (a .1) in
+    let b = both-true (pick (r .hasRelease) true (both (eqb (r .markcount) 0) (both (not (r .hasUplink)) (both (not (r .hasAmr)) (not (r .hasSms)))))) _ (a .1) in
     let c = both-true (placesRight anyMark not (r .markcount) (r .marks)) _ (b .1) in
-    let d = both-true (behind (r .uplinked) (r .uplink)) _ (c .1) in
-    let g = both-true (both (behind (r .amr) (r .fullrated)) (both (behind (r .amr) (r .halfrated)) (both (flaggedRight (r .fullrated) (r .fullrate) 16) (flaggedRight (r .halfrated) (r .halfrate) 16)))) _ (d .1) in
-    let h = both-true (behind (r .amr) (r .fullrated)) _ (g .0) in
-    let j = both-true (behind (r .amr) (r .halfrated)) _ (h .1) in
-    let k = both-true (flaggedRight (r .fullrated) (r .fullrate) 16) _ (j .1) in
-    let l = both-true (behind (r .sms) (r .confidential)) _ (g .1) in
+    let d = both-true (behind (r .hasUplink) (r .uplink)) _ (c .1) in
+    let g = both-true (amrInRange r) _ (d .1) in
+    let h = both-true (behind (r .hasAmr) (r .hasFullrate)) _ (g .0) in
+    let j = both-true (behind (r .hasAmr) (r .hasHalfrate)) _ (h .1) in
+    let k = both-true (flaggedRight (r .hasFullrate) (r .fullrate) 16) _ (j .1) in
+    let l = both-true (behind (r .hasSms) (r .confidential)) _ (g .1) in
     record {
       few = leb-true (r .markcount) 4 (a .0);
       absent = b .0;
       marks = c .0;
       uplink = d .0;
-      fullrated = h .0;
-      halfrated = j .0;
+      hasFullrate = h .0;
+      hasHalfrate = j .0;
       fullrate = k .0;
       halfrate = k .1;
       confidential = l .0;
@@ -279,14 +279,14 @@ range7 r t =
     (true-both (t .absent)
     (true-both (t .marks)
     (true-both (t .uplink)
-    (true-both (true-both (t .fullrated) (true-both (t .halfrated) (true-both (t .fullrate) (t .halfrate)))) (true-both (t .confidential) (t .private))))))
+    (true-both (true-both (t .hasFullrate) (true-both (t .hasHalfrate) (true-both (t .fullrate) (t .halfrate)))) (true-both (t .confidential) (t .private))))))
 
-pub fits7 : (r : Release7) → Right7 r → optFits (format release7) (there (r .there) (release7Value r))
-fits7 r t = go (r .there)
+pub fits7 : (r : Release7) → Right7 r → optFits (format release7) (there (r .hasRelease) (release7Value r))
+fits7 r t = go (r .hasRelease)
   where
     rates : (h : Bool) → optFits (format amr) (there h (amrValue r))
     rates false = tt
-    rates true = (flag-fits (r .fullrated) (r .fullrate) 4 (t .fullrate), flag-fits (r .halfrated) (r .halfrate) 4 (t .halfrate))
+    rates true = (flag-fits (r .hasFullrate) (r .fullrate) 4 (t .fullrate), flag-fits (r .hasHalfrate) (r .halfrate) 4 (t .halfrate))
 
     bits : (h : Bool) → optFits (format (number 1 and number 1)) (there h (asBit (r .confidential), asBit (r .private)))
     bits false = tt
@@ -296,7 +296,7 @@ fits7 r t = go (r .there)
     go false = tt
     go true = (
       items-fit (num 1) asBit anyMark (λ b e. flag-lt b) (take (r .markcount) (r .marks)) (places-good anyMark not (r .markcount) (r .marks) (t .marks)),
-      (bit-fits (r .uplinked) (r .uplink), (rates (r .amr), bits (r .sms))),
+      (bit-fits (r .hasUplink) (r .uplink), (rates (r .hasAmr), bits (r .hasSms))),
     )
 
 -- a flagged number behind another flag
@@ -327,53 +327,53 @@ second-bit : (h a : Bool) (x : ℕ) → behind h a ≡ true → privacy (there h
 second-bit true a x e = flag-back a
 second-bit false a x e = sym (not-true a e)
 
-pub back7 : (r : Release7) → Right7 r → length (r .marks) ≡ 4 → release7Of (there (r .there) (release7Value r)) ≡ r
-back7 r t four = go (r .there) refl (t .absent)
+pub back7 : (r : Release7) → Right7 r → length (r .marks) ≡ 4 → release7Of (there (r .hasRelease) (release7Value r)) ≡ r
+back7 r t four = go (r .hasRelease) refl (t .absent)
   where
-    go : (h : Bool) → r .there ≡ h → pick h true (both (eqb (r .markcount) 0) (both (not (r .uplinked)) (both (not (r .amr)) (not (r .sms))))) ≡ true
+    go : (h : Bool) → r .hasRelease ≡ h → pick h true (both (eqb (r .markcount) 0) (both (not (r .hasUplink)) (both (not (r .hasAmr)) (not (r .hasSms))))) ≡ true
         → release7Of (there h (release7Value r)) ≡ r
     go true o e =
         λ i.
         record {
-          there = sym o i;
+          hasRelease = sym o i;
           markcount = in-use asBit (r .markcount) 4 (r .marks) (t .few) four i;
           marks = places-back false anyMark not not-true isOne asBit (λ b g. flag-back b) 4 (r .markcount) (r .marks) four (t .marks) i;
-          uplinked = there-back (r .uplinked) (asBit (r .uplink)) i;
-          uplink = behind-bit (r .uplinked) (r .uplink) (t .uplink) i;
-          amr = there-back (r .amr) (amrValue r) i;
-          fullrated = (ap isThere (full-led (r .amr) (amrValue r)) ∙ led-there (r .amr) (r .fullrated) (r .fullrate) (t .fullrated)) i;
-          fullrate = (ap orZero (full-led (r .amr) (amrValue r)) ∙ led-zero (r .amr) (r .fullrated) (r .fullrate) 16 (t .fullrated) (t .fullrate)) i;
-          halfrated = (ap isThere (half-led (r .amr) (amrValue r)) ∙ led-there (r .amr) (r .halfrated) (r .halfrate) (t .halfrated)) i;
-          halfrate = (ap orZero (half-led (r .amr) (amrValue r)) ∙ led-zero (r .amr) (r .halfrated) (r .halfrate) 16 (t .halfrated) (t .halfrate)) i;
-          sms = there-back {A = ℕ × ℕ} (r .sms) (asBit (r .confidential), asBit (r .private)) i;
-          confidential = first-bit (r .sms) (r .confidential) (asBit (r .private)) (t .confidential) i;
-          private = second-bit (r .sms) (r .private) (asBit (r .confidential)) (t .private) i;
+          hasUplink = there-back (r .hasUplink) (asBit (r .uplink)) i;
+          uplink = behind-bit (r .hasUplink) (r .uplink) (t .uplink) i;
+          hasAmr = there-back (r .hasAmr) (amrValue r) i;
+          hasFullrate = (ap isThere (full-led (r .hasAmr) (amrValue r)) ∙ led-there (r .hasAmr) (r .hasFullrate) (r .fullrate) (t .hasFullrate)) i;
+          fullrate = (ap orZero (full-led (r .hasAmr) (amrValue r)) ∙ led-zero (r .hasAmr) (r .hasFullrate) (r .fullrate) 16 (t .hasFullrate) (t .fullrate)) i;
+          hasHalfrate = (ap isThere (half-led (r .hasAmr) (amrValue r)) ∙ led-there (r .hasAmr) (r .hasHalfrate) (r .halfrate) (t .hasHalfrate)) i;
+          halfrate = (ap orZero (half-led (r .hasAmr) (amrValue r)) ∙ led-zero (r .hasAmr) (r .hasHalfrate) (r .halfrate) 16 (t .hasHalfrate) (t .halfrate)) i;
+          hasSms = there-back {A = ℕ × ℕ} (r .hasSms) (asBit (r .confidential), asBit (r .private)) i;
+          confidential = first-bit (r .hasSms) (r .confidential) (asBit (r .private)) (t .confidential) i;
+          private = second-bit (r .hasSms) (r .private) (asBit (r .confidential)) (t .private) i;
         }
     go false o e =
-        let a = both-true (eqb (r .markcount) 0) (both (not (r .uplinked)) (both (not (r .amr)) (not (r .sms)))) e in
-        let b = both-true (not (r .uplinked)) (both (not (r .amr)) (not (r .sms))) (a .1) in
-        let c = both-true (not (r .amr)) (not (r .sms)) (b .1) in
+        let a = both-true (eqb (r .markcount) 0) (both (not (r .hasUplink)) (both (not (r .hasAmr)) (not (r .hasSms)))) e in
+        let b = both-true (not (r .hasUplink)) (both (not (r .hasAmr)) (not (r .hasSms))) (a .1) in
+        let c = both-true (not (r .hasAmr)) (not (r .hasSms)) (b .1) in
         let n = eqb-true (r .markcount) 0 (a .0) in
-        let u = not-true (r .uplinked) (b .0) in
-        let v = not-true (r .amr) (c .0) in
-        let w = not-true (r .sms) (c .1) in
-        let x = behind-none (r .amr) (r .fullrated) v (t .fullrated) in
-        let y = behind-none (r .amr) (r .halfrated) v (t .halfrated) in
+        let u = not-true (r .hasUplink) (b .0) in
+        let v = not-true (r .hasAmr) (c .0) in
+        let w = not-true (r .hasSms) (c .1) in
+        let x = behind-none (r .hasAmr) (r .hasFullrate) v (t .hasFullrate) in
+        let y = behind-none (r .hasAmr) (r .hasHalfrate) v (t .hasHalfrate) in
         λ i.
         record {
-          there = sym o i;
+          hasRelease = sym o i;
           markcount = sym n i;
           marks = places-empty false anyMark not not-true 4 (r .markcount) (r .marks) four n (t .marks) i;
-          uplinked = sym u i;
-          uplink = sym (behind-none (r .uplinked) (r .uplink) u (t .uplink)) i;
-          amr = sym v i;
-          fullrated = sym x i;
-          fullrate = flag-none (r .fullrated) (r .fullrate) 16 x (t .fullrate) i;
-          halfrated = sym y i;
-          halfrate = flag-none (r .halfrated) (r .halfrate) 16 y (t .halfrate) i;
-          sms = sym w i;
-          confidential = sym (behind-none (r .sms) (r .confidential) w (t .confidential)) i;
-          private = sym (behind-none (r .sms) (r .private) w (t .private)) i;
+          hasUplink = sym u i;
+          uplink = sym (behind-none (r .hasUplink) (r .uplink) u (t .uplink)) i;
+          hasAmr = sym v i;
+          hasFullrate = sym x i;
+          fullrate = flag-none (r .hasFullrate) (r .fullrate) 16 x (t .fullrate) i;
+          hasHalfrate = sym y i;
+          halfrate = flag-none (r .hasHalfrate) (r .halfrate) 16 y (t .halfrate) i;
+          hasSms = sym w i;
+          confidential = sym (behind-none (r .hasSms) (r .confidential) w (t .confidential)) i;
+          private = sym (behind-none (r .hasSms) (r .private) w (t .private)) i;
         }
 
 rates-value : (o : Option AmrValue) → there (isThere o) (there (isThere (fullRate o)) (orZero (fullRate o)), there (isThere (halfRate o)) (orZero (halfRate o))) ≡ o
@@ -384,7 +384,7 @@ bits-value : (o : Option (ℕ × ℕ)) → optFits (format (number 1 and number 
 bits-value none f = refl
 bits-value (some a) f = λ i. some (bit-back (a .0) (f .0) i, bit-back (a .1) (f .1) i)
 
-pub value7 : (o : Option Release7Value) → optFits (format release7) o → length (marksIn o) ≤ 4 → there (release7Of o .there) (release7Value (release7Of o)) ≡ o
+pub value7 : (o : Option Release7Value) → optFits (format release7) o → length (marksIn o) ≤ 4 → there (release7Of o .hasRelease) (release7Value (release7Of o)) ≡ o
 value7 none f h = refl
 value7 (some v) f h =
     λ i.
@@ -414,8 +414,8 @@ told7 none f h =
       absent = refl;
       marks = refl;
       uplink = refl;
-      fullrated = refl;
-      halfrated = refl;
+      hasFullrate = refl;
+      hasHalfrate = refl;
       fullrate = refl;
       halfrate = refl;
       confidential = refl;
@@ -430,8 +430,8 @@ told7 (some v) f h =
       absent = refl;
       marks = told-places (num 1) isOne false anyMark not refl (λ b g. refl) 4 (v .0) (f .0);
       uplink = bit-behind (v .1 .0);
-      fullrated = a .0;
-      halfrated = b .0;
+      hasFullrate = a .0;
+      hasHalfrate = b .0;
       fullrate = a .1;
       halfrate = b .1;
       confidential = c .0;

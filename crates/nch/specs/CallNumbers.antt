@@ -14,7 +14,7 @@ descriptionNumbers d = d .channel ∷ asBit (d .hopping) ∷ asBit (d .shortlist
 -- reference, service flag, acknowledgement flag, priority, cipher key number, described, then the description
 unfoldable pub callNumbers : Call → List ℕ
 callNumbers c =
-    c .reference ∷ asBit (c .vgcs) ∷ asBit (c .acknowledged) ∷ c .priority ∷ c .cipher ∷ asBit (c .described) ∷ descriptionNumbers (c .description)
+    c .reference ∷ asBit (c .vgcs) ∷ asBit (c .acknowledged) ∷ c .priority ∷ c .cipher ∷ asBit (c .hasDescription) ∷ descriptionNumbers (c .description)
 
 abbrev pub callMost : List ℕ
 callMost = word ∷ flag ∷ flag ∷ octet ∷ octet ∷ flag ∷ word ∷ flag ∷ flag ∷ octet ∷ long ∷ []
@@ -52,7 +52,7 @@ callBy f ns at =
       acknowledged = isOne (getD ns (at + 2) 0);
       priority = f .octet (getD ns (at + 3) 0);
       cipher = f .octet (getD ns (at + 4) 0);
-      described = isOne (getD ns (at + 5) 0);
+      hasDescription = isOne (getD ns (at + 5) 0);
       description = descriptionBy f ns (at + 6);
     }
 

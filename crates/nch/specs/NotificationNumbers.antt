@@ -27,7 +27,7 @@ reducedNumbers r = r .reference ∷ asBit (r .vgcs) ∷ []
 
 -- Segment Id, VSTK_RAND there, VSTK_RAND
 unfoldable pub randomNumbers : Random → List ℕ
-randomNumbers r = asBit (r .segment) ∷ asBit (r .given) ∷ r .rand ∷ []
+randomNumbers r = asBit (r .segment) ∷ asBit (r .hasRandom) ∷ r .rand ∷ []
 
 -- Emergency_Ind
 unfoldable pub markNumbers : Bool → List ℕ
@@ -36,7 +36,7 @@ markNumbers b = asBit b ∷ []
 -- Release 6 there, count there, CELL_GLOBAL_COUNT, how many reduced references, these; how many random entries, these
 unfoldable pub release6Numbers : Release6 → List ℕ
 release6Numbers r =
-    (asBit (r .there) ∷ asBit (r .counted) ∷ r .cellcount ∷ r .reducedcount ∷ [])
+    (asBit (r .hasRelease) ∷ asBit (r .hasCount) ∷ r .cellcount ∷ r .reducedcount ∷ [])
     ++ each reducedNumbers (r .reduced)
     ++ (r .randomcount ∷ [])
     ++ each randomNumbers (r .randoms)
@@ -44,26 +44,26 @@ release6Numbers r =
 -- uplink there, Priority Uplink Access, AMR there, FR AMR there, FR AMR Config, HR AMR there, HR AMR Config, SMS there, the two SMS bits
 unfoldable pub partsNumbers : Release7 → List ℕ
 partsNumbers r =
-    asBit (r .uplinked)
+    asBit (r .hasUplink)
     ∷ asBit (r .uplink)
-    ∷ asBit (r .amr)
-    ∷ asBit (r .fullrated)
+    ∷ asBit (r .hasAmr)
+    ∷ asBit (r .hasFullrate)
     ∷ r .fullrate
-    ∷ asBit (r .halfrated)
+    ∷ asBit (r .hasHalfrate)
     ∷ r .halfrate
-    ∷ asBit (r .sms)
+    ∷ asBit (r .hasSms)
     ∷ asBit (r .confidential)
     ∷ asBit (r .private)
     ∷ []
 
 -- Release 7 there, how many emergency marks, these, then the parts led by flags
 unfoldable pub release7Numbers : Release7 → List ℕ
-release7Numbers r = (asBit (r .there) ∷ r .markcount ∷ []) ++ each markNumbers (r .marks) ++ partsNumbers r
+release7Numbers r = (asBit (r .hasRelease) ∷ r .markcount ∷ []) ++ each markNumbers (r .marks) ++ partsNumbers r
 
 -- NLN there, NLN, how many calls, these, then the releases
 unfoldable pub numbersOf : Notification → List ℕ
 numbersOf m =
-    (asBit (m .numbered) ∷ m .nln ∷ m .callcount ∷ [])
+    (asBit (m .hasNln) ∷ m .nln ∷ m .callcount ∷ [])
     ++ each callNumbers (m .calls)
     ++ release6Numbers (m .release6)
     ++ release7Numbers (m .release7)
@@ -78,13 +78,13 @@ unfoldable pub reducedBy : Fields → List ℕ → ℕ → Reduced
 reducedBy f ns at = record { reference = f .word (getD ns at 0); vgcs = isOne (getD ns (at + 1) 0) }
 
 unfoldable pub randomFrom : List ℕ → ℕ → Random
-randomFrom ns at = record { segment = isOne (getD ns at 0); given = isOne (getD ns (at + 1) 0); rand = getD ns (at + 2) 0 }
+randomFrom ns at = record { segment = isOne (getD ns at 0); hasRandom = isOne (getD ns (at + 1) 0); rand = getD ns (at + 2) 0 }
 
 unfoldable pub release6By : Fields → List ℕ → Release6
 release6By f ns =
     record {
-      there = isOne (getD ns release6At 0);
-      counted = isOne (getD ns countedAt 0);
+      hasRelease = isOne (getD ns release6At 0);
+      hasCount = isOne (getD ns countedAt 0);
       cellcount = f .octet (getD ns cellcountAt 0);
       reducedcount = getD ns reducedsAt 0;
       reduced = partsFrom (reducedBy f ns) firstReduced reducedLength mostReduceds;
@@ -95,17 +95,17 @@ release6By f ns =
 unfoldable pub release7By : Fields → List ℕ → Release7
 release7By f ns =
     record {
-      there = isOne (getD ns release7At 0);
+      hasRelease = isOne (getD ns release7At 0);
       markcount = getD ns marksAt 0;
       marks = partsFrom (λ at. isOne (getD ns at 0)) firstMark 1 mostMarks;
-      uplinked = isOne (getD ns uplinkedAt 0);
+      hasUplink = isOne (getD ns uplinkedAt 0);
       uplink = isOne (getD ns uplinkAt 0);
-      amr = isOne (getD ns amrAt 0);
-      fullrated = isOne (getD ns fullratedAt 0);
+      hasAmr = isOne (getD ns amrAt 0);
+      hasFullrate = isOne (getD ns fullratedAt 0);
       fullrate = f .octet (getD ns fullrateAt 0);
-      halfrated = isOne (getD ns halfratedAt 0);
+      hasHalfrate = isOne (getD ns halfratedAt 0);
       halfrate = f .octet (getD ns halfrateAt 0);
-      sms = isOne (getD ns smsAt 0);
+      hasSms = isOne (getD ns smsAt 0);
       confidential = isOne (getD ns confidentialAt 0);
       private = isOne (getD ns privateAt 0);
     }
@@ -113,7 +113,7 @@ release7By f ns =
 unfoldable pub recordBy : Fields → List ℕ → Notification
 recordBy f ns =
     record {
-      numbered = isOne (getD ns numberedAt 0);
+      hasNln = isOne (getD ns numberedAt 0);
       nln = f .octet (getD ns nlnAt 0);
       callcount = getD ns callsAt 0;
       calls = partsFrom (callBy f ns) firstCall callLength mostCalls;

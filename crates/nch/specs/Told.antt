@@ -33,16 +33,16 @@ abbrev pub noReduced : Reduced
 noReduced = record { reference = 0; vgcs = false }
 
 abbrev pub randomOf : ℕ × Option ℕ → Random
-randomOf v = record { segment = isOne (segmentId v); given = isThere (vstkRand v); rand = orZero (vstkRand v) }
+randomOf v = record { segment = isOne (segmentId v); hasRandom = isThere (vstkRand v); rand = orZero (vstkRand v) }
 
 abbrev pub noRandom : Random
-noRandom = record { segment = false; given = false; rand = 0 }
+noRandom = record { segment = false; hasRandom = false; rand = 0 }
 
 abbrev pub noRelease6 : Release6
 noRelease6 =
     record {
-      there = false;
-      counted = false;
+      hasRelease = false;
+      hasCount = false;
       cellcount = 0;
       reducedcount = 0;
       reduced = padded noReduced mostReduceds [];
@@ -54,8 +54,8 @@ abbrev pub release6Of : Option Release6Value → Release6
 release6Of none = noRelease6
 release6Of (some v) =
     record {
-      there = true;
-      counted = isThere (cellGlobalCount v);
+      hasRelease = true;
+      hasCount = isThere (cellGlobalCount v);
       cellcount = orZero (cellGlobalCount v);
       reducedcount = length (reducedReferences v);
       reduced = padded noReduced mostReduceds (map reducedOf (reducedReferences v));
@@ -68,17 +68,17 @@ release6Of (some v) =
 abbrev pub noRelease7 : Release7
 noRelease7 =
     record {
-      there = false;
+      hasRelease = false;
       markcount = 0;
       marks = padded false mostMarks [];
-      uplinked = false;
+      hasUplink = false;
       uplink = false;
-      amr = false;
-      fullrated = false;
+      hasAmr = false;
+      hasFullrate = false;
       fullrate = 0;
-      halfrated = false;
+      hasHalfrate = false;
       halfrate = 0;
-      sms = false;
+      hasSms = false;
       confidential = false;
       private = false;
     }
@@ -104,17 +104,17 @@ abbrev pub release7Of : Option Release7Value → Release7
 release7Of none = noRelease7
 release7Of (some v) =
     record {
-      there = true;
+      hasRelease = true;
       markcount = length (emergencyMarks v);
       marks = padded false mostMarks (map isOne (emergencyMarks v));
-      uplinked = isThere (uplinkAccess v);
+      hasUplink = isThere (uplinkAccess v);
       uplink = orFalse (uplinkAccess v);
-      amr = isThere (amrPart v);
-      fullrated = isThere (fullRate (amrPart v));
+      hasAmr = isThere (amrPart v);
+      hasFullrate = isThere (fullRate (amrPart v));
       fullrate = orZero (fullRate (amrPart v));
-      halfrated = isThere (halfRate (amrPart v));
+      hasHalfrate = isThere (halfRate (amrPart v));
       halfrate = orZero (halfRate (amrPart v));
-      sms = isThere (smsPart v);
+      hasSms = isThere (smsPart v);
       confidential = confidentiality (smsPart v);
       private = privacy (smsPart v);
     }
@@ -124,7 +124,7 @@ release7Of (some v) =
 abbrev pub recordOf : Value → Notification
 recordOf v =
     record {
-      numbered = isThere (nlnPart v);
+      hasNln = isThere (nlnPart v);
       nln = orZero (nlnPart v);
       callcount = length (callList v);
       calls = padded noCall mostCalls (map callOf (callList v));
@@ -133,7 +133,7 @@ recordOf v =
     }
 
 abbrev pub noRecord : Notification
-noRecord = record { numbered = false; nln = 0; callcount = 0; calls = padded noCall mostCalls []; release6 = noRelease6; release7 = noRelease7 }
+noRecord = record { hasNln = false; nln = 0; callcount = 0; calls = padded noCall mostCalls []; release6 = noRelease6; release7 = noRelease7 }
 
 -- a refusal is its number alone
 abbrev pub readingOf : Res Value → Reading
@@ -157,19 +157,19 @@ abbrev pub reducedValue : Reduced → List ℕ
 reducedValue r = r .reference ∷ asBit (r .vgcs) ∷ []
 
 abbrev pub randomValue : Random → ℕ × Option ℕ
-randomValue r = (asBit (r .segment), there (r .given) (r .rand))
+randomValue r = (asBit (r .segment), there (r .hasRandom) (r .rand))
 
 abbrev pub release6Value : Release6 → Release6Value
 release6Value r =
-    let count = there (r .counted) (r .cellcount) in
+    let count = there (r .hasCount) (r .cellcount) in
     let references = map reducedValue (take (r .reducedcount) (r .reduced)) in
     let randoms = map randomValue (take (r .randomcount) (r .randoms)) in
     (count, (references, randoms))
 
 abbrev pub amrValue : Release7 → AmrValue
 amrValue r =
-    let full = there (r .fullrated) (r .fullrate) in
-    let half = there (r .halfrated) (r .halfrate) in
+    let full = there (r .hasFullrate) (r .fullrate) in
+    let half = there (r .hasHalfrate) (r .halfrate) in
     (full, half)
 
 abbrev pub smsValue : Release7 → ℕ × ℕ
@@ -178,15 +178,15 @@ smsValue r = (asBit (r .confidential), asBit (r .private))
 abbrev pub release7Value : Release7 → Release7Value
 release7Value r =
     let marks = map asBit (take (r .markcount) (r .marks)) in
-    let uplink = there (r .uplinked) (asBit (r .uplink)) in
-    let amr = there (r .amr) (amrValue r) in
-    let sms = there (r .sms) (smsValue r) in
+    let uplink = there (r .hasUplink) (asBit (r .uplink)) in
+    let amr = there (r .hasAmr) (amrValue r) in
+    let sms = there (r .hasSms) (smsValue r) in
     (marks, (uplink, (amr, sms)))
 
 abbrev pub valueOf : Notification → Value
 valueOf m =
-    let nln = there (m .numbered) (m .nln) in
+    let nln = there (m .hasNln) (m .nln) in
     let calls = map callValue (take (m .callcount) (m .calls)) in
-    let six = there (m .release6 .there) (release6Value (m .release6)) in
-    let seven = there (m .release7 .there) (release7Value (m .release7)) in
+    let six = there (m .release6 .hasRelease) (release6Value (m .release6)) in
+    let seven = there (m .release7 .hasRelease) (release7Value (m .release7)) in
     (nln, (calls, (six, seven)))

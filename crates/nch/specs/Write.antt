@@ -50,10 +50,10 @@ abbrev pub reducedIsZero : Reduced → Bool
 reducedIsZero r = both (eqb (r .reference) 0) (not (r .vgcs))
 
 abbrev pub randomInRange : Random → Bool
-randomInRange r = flaggedRight (r .given) (r .rand) (2 ^ 36)
+randomInRange r = flaggedRight (r .hasRandom) (r .rand) (2 ^ 36)
 
 abbrev pub randomIsZero : Random → Bool
-randomIsZero r = both (not (r .segment)) (both (not (r .given)) (eqb (r .rand) 0))
+randomIsZero r = both (not (r .segment)) (both (not (r .hasRandom)) (eqb (r .rand) 0))
 
 -- a mark in use may be either
 abbrev pub anyMark : Bool → Bool
@@ -61,7 +61,7 @@ anyMark b = true
 
 abbrev pub release6Places : Release6 → Bool
 release6Places r =
-    both (flaggedRight (r .counted) (r .cellcount) 4)
+    both (flaggedRight (r .hasCount) (r .cellcount) 4)
     (both (placesRight reducedInRange reducedIsZero (r .reducedcount) (r .reduced)) (placesRight randomInRange randomIsZero (r .randomcount) (r .randoms)))
 
 -- an absent release has nothing in it
@@ -69,15 +69,15 @@ unfoldable pub release6InRange : Release6 → Bool
 release6InRange r =
     both (leb (r .reducedcount) mostReduceds)
     (both (leb (r .randomcount) mostRandoms)
-    (both (pick (r .there) true (both (not (r .counted)) (both (eqb (r .reducedcount) 0) (eqb (r .randomcount) 0)))) (release6Places r)))
+    (both (pick (r .hasRelease) true (both (not (r .hasCount)) (both (eqb (r .reducedcount) 0) (eqb (r .randomcount) 0)))) (release6Places r)))
 
 abbrev pub amrInRange : Release7 → Bool
 amrInRange r =
-    both (behind (r .amr) (r .fullrated))
-    (both (behind (r .amr) (r .halfrated)) (both (flaggedRight (r .fullrated) (r .fullrate) 16) (flaggedRight (r .halfrated) (r .halfrate) 16)))
+    both (behind (r .hasAmr) (r .hasFullrate))
+    (both (behind (r .hasAmr) (r .hasHalfrate)) (both (flaggedRight (r .hasFullrate) (r .fullrate) 16) (flaggedRight (r .hasHalfrate) (r .halfrate) 16)))
 
 abbrev pub flagsInRange : Release7 → Bool
-flagsInRange r = both (behind (r .uplinked) (r .uplink)) (both (amrInRange r) (both (behind (r .sms) (r .confidential)) (behind (r .sms) (r .private))))
+flagsInRange r = both (behind (r .hasUplink) (r .uplink)) (both (amrInRange r) (both (behind (r .hasSms) (r .confidential)) (behind (r .hasSms) (r .private))))
 
 abbrev pub release7Places : Release7 → Bool
 release7Places r = both (placesRight anyMark not (r .markcount) (r .marks)) (flagsInRange r)
@@ -85,12 +85,12 @@ release7Places r = both (placesRight anyMark not (r .markcount) (r .marks)) (fla
 unfoldable pub release7InRange : Release7 → Bool
 release7InRange r =
     both (leb (r .markcount) mostMarks)
-    (both (pick (r .there) true (both (eqb (r .markcount) 0) (both (not (r .uplinked)) (both (not (r .amr)) (not (r .sms)))))) (release7Places r))
+    (both (pick (r .hasRelease) true (both (eqb (r .markcount) 0) (both (not (r .hasUplink)) (both (not (r .hasAmr)) (not (r .hasSms)))))) (release7Places r))
 
 unfoldable pub inRange : Notification → Bool
 inRange m =
     both (leb (m .callcount) mostCalls)
-    (both (flaggedRight (m .numbered) (m .nln) 4)
+    (both (flaggedRight (m .hasNln) (m .nln) 4)
     (both (placesRight callInRange callIsZero (m .callcount) (m .calls)) (both (release6InRange (m .release6)) (release7InRange (m .release7)))))
 
 -- ## 4, 3, 5: over the calls and reduced references in use
@@ -116,7 +116,7 @@ unfoldable pub randomsOwned : Notification → Bool
 randomsOwned m = leb (m .release6 .randomcount) (count ciphered (callsOf m) + m .release6 .reducedcount)
 
 abbrev pub isDescribed : Call → Bool
-isDescribed c = c .described
+isDescribed c = c .hasDescription
 
 unfoldable pub marksOwned : Notification → Bool
 marksOwned m = leb (m .release7 .markcount) (count isDescribed (callsOf m))

@@ -59,7 +59,7 @@ fn fill_parts6(s: &[u8], at: usize, numbers: &mut [u64]) -> Release6Passed
         return no_release6(c.refusal);
     }
     numbers[places::RELEASE6] = 1;
-    numbers[places::COUNTED] = c.there as u64;
+    numbers[places::COUNTED] = c.hasValue as u64;
     numbers[places::CELLCOUNT] = c.value;
     let d = list_reduceds(s, c.at, &mut *numbers);
     if d.refusal.number != 0 {
@@ -120,9 +120,9 @@ fn fill_amr(s: &[u8], at: usize, numbers: &mut [u64]) -> PartPassed
         return no_part(half.refusal);
     }
     numbers[places::AMR] = 1;
-    numbers[places::FULLRATED] = full.there as u64;
+    numbers[places::FULLRATED] = full.hasValue as u64;
     numbers[places::FULLRATE] = full.value;
-    numbers[places::HALFRATED] = half.there as u64;
+    numbers[places::HALFRATED] = half.hasValue as u64;
     numbers[places::HALFRATE] = half.value;
     PartPassed {
         refusal: csn1::no_refusal(),
@@ -173,7 +173,7 @@ fn fill_parts7(s: &[u8], at: usize, numbers: &mut [u64]) -> ListPassed
     if u.refusal.number != 0 {
         return no_list(u.refusal);
     }
-    numbers[places::UPLINKED] = u.there as u64;
+    numbers[places::UPLINKED] = u.hasValue as u64;
     numbers[places::UPLINK] = u.value;
     let a = fill_amr(s, u.at, &mut *numbers);
     if a.refusal.number != 0 {

@@ -20,15 +20,15 @@ pub struct Reduced {
 pub struct Random {
     // Segment Id: the second segment where true.
     pub segment: bool,
-    pub given: bool,
+    pub hasRandom: bool,
     // VSTK_RAND, 36 bits.
     pub rand: u64,
 }
 
 // What Release 6 added.
 pub struct Release6 {
-    pub there: bool,
-    pub counted: bool,
+    pub hasRelease: bool,
+    pub hasCount: bool,
     // CELL_GLOBAL_COUNT.
     pub cellcount: u8,
     pub reducedcount: usize,
@@ -39,21 +39,21 @@ pub struct Release6 {
 
 // What Release 7 added.
 pub struct Release7 {
-    pub there: bool,
+    pub hasRelease: bool,
     pub markcount: usize,
     // Emergency_Ind.
     pub marks: [bool; places::MOST_MARKS],
-    pub uplinked: bool,
+    pub hasUplink: bool,
     // Priority Uplink Access: on the group channel where true.
     pub uplink: bool,
-    pub amr: bool,
-    pub fullrated: bool,
+    pub hasAmr: bool,
+    pub hasFullrate: bool,
     // FR AMR Config.
     pub fullrate: u8,
-    pub halfrated: bool,
+    pub hasHalfrate: bool,
     // HR AMR Config.
     pub halfrate: u8,
-    pub sms: bool,
+    pub hasSms: bool,
     // SMS Data Confidentiality Ind.
     pub confidential: bool,
     // SMS Guaranteed Privacy Ind.
@@ -62,7 +62,7 @@ pub struct Release7 {
 
 // The record of a notification. What is absent, and every unused place, is zero.
 pub struct Notification {
-    pub numbered: bool,
+    pub hasNln: bool,
     pub nln: u8,
     pub callcount: usize,
     pub calls: [Call; places::MOST_CALLS],

@@ -88,7 +88,7 @@ pub(crate) fn list_calls(s: &[u8], from: usize, numbers: &mut [u64]) -> CallsPas
         }
         count += 1;
         ciphered += (1 <= c.call.cipher) as usize;
-        described += c.call.described as usize;
+        described += c.call.hasDescription as usize;
         at = c.at;
     }
 }
@@ -169,7 +169,7 @@ pub(crate) fn list_randoms(s: &[u8], from: usize, numbers: &mut [u64]) -> ListPa
         if count < places::MOST_RANDOMS {
             let place = places::FIRST_RANDOM + places::RANDOM_LENGTH * count;
             numbers[place] = segment;
-            numbers[place + 1] = rand.there as u64;
+            numbers[place + 1] = rand.hasValue as u64;
             numbers[place + 2] = rand.value;
         }
         count += 1;

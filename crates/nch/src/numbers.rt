@@ -24,7 +24,7 @@ pub fn numbers_of(c: Call) -> [u64; places::CALL_LENGTH]
         c.acknowledged as u64,
         c.priority as u64,
         c.cipher as u64,
-        c.described as u64,
+        c.hasDescription as u64,
         c.description.channel as u64,
         c.description.hopping as u64,
         c.description.shortlist as u64,
@@ -57,7 +57,7 @@ pub fn call_at(numbers: &[u64], place: u8) -> Call
         acknowledged: fields::flag_at(numbers, at + 2),
         priority: fields::octet_at(numbers, at + 3),
         cipher: fields::octet_at(numbers, at + 4),
-        described: fields::flag_at(numbers, at + 5),
+        hasDescription: fields::flag_at(numbers, at + 5),
         description: description_at(numbers, at + 6),
     }
 }
@@ -91,7 +91,7 @@ fn random_no(numbers: &[u64], k: usize) -> Random
     let at = places::FIRST_RANDOM + places::RANDOM_LENGTH * k;
     Random {
         segment: fields::flag_at(numbers, at),
-        given: fields::flag_at(numbers, at + 1),
+        hasRandom: fields::flag_at(numbers, at + 1),
         rand: fields::number_at(numbers, at + 2),
     }
 }
@@ -128,8 +128,8 @@ fn release6_from(numbers: &[u64]) -> Release6
     ensures { λ r. ⌜ r ≡ release6By cut (now (numbers .entry)) ⌝ }
 {
     Release6 {
-        there: fields::flag_at(numbers, places::RELEASE6),
-        counted: fields::flag_at(numbers, places::COUNTED),
+        hasRelease: fields::flag_at(numbers, places::RELEASE6),
+        hasCount: fields::flag_at(numbers, places::COUNTED),
         cellcount: fields::octet_at(numbers, places::CELLCOUNT),
         reducedcount: fields::number_at(numbers, places::REDUCEDS) as usize,
         reduced: reduceds_from(numbers),
@@ -142,7 +142,7 @@ fn release7_from(numbers: &[u64]) -> Release7
     ensures { λ r. ⌜ r ≡ release7By cut (now (numbers .entry)) ⌝ }
 {
     Release7 {
-        there: fields::flag_at(numbers, places::RELEASE7),
+        hasRelease: fields::flag_at(numbers, places::RELEASE7),
         markcount: fields::number_at(numbers, places::MARKS) as usize,
         marks: [
             fields::flag_at(numbers, places::FIRST_MARK),
@@ -150,14 +150,14 @@ fn release7_from(numbers: &[u64]) -> Release7
             fields::flag_at(numbers, places::FIRST_MARK + 2),
             fields::flag_at(numbers, places::FIRST_MARK + 3),
         ],
-        uplinked: fields::flag_at(numbers, places::UPLINKED),
+        hasUplink: fields::flag_at(numbers, places::UPLINKED),
         uplink: fields::flag_at(numbers, places::UPLINK),
-        amr: fields::flag_at(numbers, places::AMR),
-        fullrated: fields::flag_at(numbers, places::FULLRATED),
+        hasAmr: fields::flag_at(numbers, places::AMR),
+        hasFullrate: fields::flag_at(numbers, places::FULLRATED),
         fullrate: fields::octet_at(numbers, places::FULLRATE),
-        halfrated: fields::flag_at(numbers, places::HALFRATED),
+        hasHalfrate: fields::flag_at(numbers, places::HALFRATED),
         halfrate: fields::octet_at(numbers, places::HALFRATE),
-        sms: fields::flag_at(numbers, places::SMS),
+        hasSms: fields::flag_at(numbers, places::SMS),
         confidential: fields::flag_at(numbers, places::CONFIDENTIAL),
         private: fields::flag_at(numbers, places::PRIVATE),
     }
@@ -168,7 +168,7 @@ pub fn record_from(numbers: &[u64]) -> Notification
     ensures { λ r. ⌜ r ≡ recordBy cut (now (numbers .entry)) ⌝ }
 {
     Notification {
-        numbered: fields::flag_at(numbers, places::NUMBERED),
+        hasNln: fields::flag_at(numbers, places::NUMBERED),
         nln: fields::octet_at(numbers, places::NLN),
         callcount: fields::number_at(numbers, places::CALLS) as usize,
         calls: [

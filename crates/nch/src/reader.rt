@@ -27,7 +27,7 @@ fn fill_all(s: &[u8], numbers: &mut [u64]) -> PartPassed
         return no_part(csn1::ground(1));
     }
     let nln = csn1::read_flagged(s, 0, 2);
-    numbers[places::NUMBERED] = nln.there as u64;
+    numbers[places::NUMBERED] = nln.hasValue as u64;
     numbers[places::NLN] = nln.value;
     let c = list_calls(s, nln.at, &mut *numbers);
     if c.refusal.number != 0 {

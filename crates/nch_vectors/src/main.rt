@@ -31,7 +31,7 @@ fn show_call(line: Line, c: Call) -> Line {
         .number(b" ", c.acknowledged as u64)
         .number(b" ", c.priority as u64)
         .number(b" ", c.cipher as u64);
-    if c.described {
+    if c.hasDescription {
         let d = c.description;
         return show_description(line, d);
     }
@@ -45,7 +45,7 @@ fn show_reduced(line: Line, c: Reduced) -> Line {
 
 fn show_random(line: Line, c: Random) -> Line {
     let line = line.number(b" random ", c.segment as u64);
-    if c.given {
+    if c.hasRandom {
         return line.hex(b" ", c.rand, 1);
     }
     line
@@ -81,7 +81,7 @@ fn show_randoms(before: Line, r: Release6) -> Line {
 
 fn show_six(before: Line, r: Release6) -> Line {
     let mut line = before.word(b" six");
-    if r.counted {
+    if r.hasCount {
         line = line.number(b" count ", r.cellcount as u64);
     }
     show_randoms(show_reduceds(line, r), r)
@@ -103,11 +103,11 @@ fn show_marks(before: Line, r: Release7) -> Line {
 
 fn show_seven(before: Line, r: Release7) -> Line {
     let mut line = show_marks(before.word(b" seven"), r);
-    if r.uplinked {
+    if r.hasUplink {
         line = line.number(b" uplink ", r.uplink as u64);
     }
     line = show_amr(line, r);
-    if r.sms {
+    if r.hasSms {
         line = line.number(b" sms ", r.confidential as u64)
             .number(b" ", r.private as u64);
     }
@@ -115,14 +115,14 @@ fn show_seven(before: Line, r: Release7) -> Line {
 }
 
 fn show_amr(before: Line, r: Release7) -> Line {
-    if !r.amr {
+    if !r.hasAmr {
         return before;
     }
     let mut line = before.word(b" amr");
-    if r.fullrated {
+    if r.hasFullrate {
         line = line.number(b" full ", r.fullrate as u64);
     }
-    if r.halfrated {
+    if r.hasHalfrate {
         line = line.number(b" half ", r.halfrate as u64);
     }
     line
@@ -144,16 +144,16 @@ fn show_calls(before: Line, m: Notification) -> Line {
 
 fn show_record(before: Line, m: Notification) -> Line {
     let mut line = before;
-    if m.numbered {
+    if m.hasNln {
         line = line.number(b" nln ", m.nln as u64);
     }
     line = show_calls(line, m);
     let six = m.release6;
-    if six.there {
+    if six.hasRelease {
         line = show_six(line, six);
     }
     let seven = m.release7;
-    if seven.there {
+    if seven.hasRelease {
         line = show_seven(line, seven);
     }
     line

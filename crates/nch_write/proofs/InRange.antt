@@ -29,7 +29,7 @@ pub in-range-few : (m : Notification) → inRange m ≡ true → (m .callcount �
 unfolding inRange release6InRange
 in-range-few m e =
     let n = both-true (leb (m .callcount) 4) _ e in
-    let f = both-true (flaggedRight (m .numbered) (m .nln) 4) _ (n .1) in
+    let f = both-true (flaggedRight (m .hasNln) (m .nln) 4) _ (n .1) in
     let p = both-true (placesRight callInRange callIsZero (m .callcount) (m .calls)) _ (f .1) in
     let s = both-true (release6InRange (m .release6)) _ (p .1) in
     (leb-true (m .callcount) 4 (n .0), leb-true (m .release6 .reducedcount) 5 (both-true (leb (m .release6 .reducedcount) 5) _ (s .0) .0))

@@ -62,7 +62,7 @@ module _ (b d : List ℕ) (p : ℕ) (size : length b * 8 ≡ 160) where
       rw h (laid {F = opt (num 1 ⨟ num 1)} (laid-row b d p size (1 ∷ 1 ∷ 1 ∷ []) (1 ∷ asBit x ∷ asBit y ∷ []) v e (omega arith) (omega arith) ((omega arith, (flag-lt x, (flag-lt y, tt))))))
 
   -- a random entry's flag and number go behind
-  pub random-put : (r : Random) (v q : ℕ) (e : List ℕ) → d ≡ afterPut b p 2 v → v ≡ 2 + asBit (r .segment) → Put (opt (num 36)) 160 (p + 2) (there (r .given) (r .rand)) q d e
+  pub random-put : (r : Random) (v q : ℕ) (e : List ℕ) → d ≡ afterPut b p 2 v → v ≡ 2 + asBit (r .segment) → Put (opt (num 36)) 160 (p + 2) (there (r .hasRandom) (r .rand)) q d e
       → Laid 160 p (1 ∷ format random .bits 160 (p + 1) (randomValue r)) q b e
   unfolding numBits
   random-put r v q e x y f =
@@ -92,7 +92,7 @@ unfolding callLengthRight
 call-short c r =
     let a = both-true (callInRange c) _ r in
     let b = both-true (callIsLow c) _ (a .1) in
-    rw (call-size c) (go (c .described) (c .description .hopping) (c .description .shortlist) (both-true (callLengthRight c) (callHopsRight c) (b .1) .0))
+    rw (call-size c) (go (c .hasDescription) (c .description .hopping) (c .description .shortlist) (both-true (callLengthRight c) (callHopsRight c) (b .1) .0))
   where
     go : (d h s : Bool) → pick (both d (both h (not s))) (oneToEight (c .description .length)) true ≡ true → sizeFrom d h s (c .description .length) ≤ 135
     go false h s e = omega arith

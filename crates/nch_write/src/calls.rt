@@ -23,7 +23,7 @@ pub(crate) fn counted(calls: [Call; places::MOST_CALLS], n: usize) -> Counts
         let c = calls[i];
         if i < n {
             coded += (1 <= c.cipher) as usize;
-            described += c.described as usize;
+            described += c.hasDescription as usize;
         }
         i += 1;
     }

@@ -89,7 +89,7 @@ fn random_is_zero(c: Random) -> bool
     if c.segment {
         return false;
     }
-    if c.given {
+    if c.hasRandom {
         return false;
     }
     c.rand == 0
@@ -102,7 +102,7 @@ fn randoms_in_range(items: [Random; places::MOST_RANDOMS], n: usize) -> bool
     while i < places::MOST_RANDOMS {
         let c = items[i];
         if i < n {
-            if !flagged_right(c.given, c.rand, 68719476736) {
+            if !flagged_right(c.hasRandom, c.rand, 68719476736) {
                 return false;
             }
         } else {
@@ -140,8 +140,8 @@ fn release6_in_range(r: Release6) -> bool
     if places::MOST_RANDOMS < r.randomcount {
         return false;
     }
-    if !r.there {
-        if r.counted {
+    if !r.hasRelease {
+        if r.hasCount {
             return false;
         }
         if r.reducedcount != 0 {
@@ -151,7 +151,7 @@ fn release6_in_range(r: Release6) -> bool
             return false;
         }
     }
-    if !flagged_right(r.counted, r.cellcount as u64, 4) {
+    if !flagged_right(r.hasCount, r.cellcount as u64, 4) {
         return false;
     }
     let reduced = r.reduced;
@@ -166,25 +166,25 @@ fn release6_in_range(r: Release6) -> bool
 fn flags_in_range(r: Release7) -> bool
     ensures { λ b. ⌜ b ≡ flagsInRange r ⌝ }
 {
-    if !bit_right(r.uplinked, r.uplink) {
+    if !bit_right(r.hasUplink, r.uplink) {
         return false;
     }
-    if !bit_right(r.amr, r.fullrated) {
+    if !bit_right(r.hasAmr, r.hasFullrate) {
         return false;
     }
-    if !bit_right(r.amr, r.halfrated) {
+    if !bit_right(r.hasAmr, r.hasHalfrate) {
         return false;
     }
-    if !flagged_right(r.fullrated, r.fullrate as u64, 16) {
+    if !flagged_right(r.hasFullrate, r.fullrate as u64, 16) {
         return false;
     }
-    if !flagged_right(r.halfrated, r.halfrate as u64, 16) {
+    if !flagged_right(r.hasHalfrate, r.halfrate as u64, 16) {
         return false;
     }
-    if !bit_right(r.sms, r.confidential) {
+    if !bit_right(r.hasSms, r.confidential) {
         return false;
     }
-    bit_right(r.sms, r.private)
+    bit_right(r.hasSms, r.private)
 }
 
 fn release7_in_range(r: Release7) -> bool
@@ -193,17 +193,17 @@ fn release7_in_range(r: Release7) -> bool
     if places::MOST_MARKS < r.markcount {
         return false;
     }
-    if !r.there {
+    if !r.hasRelease {
         if r.markcount != 0 {
             return false;
         }
-        if r.uplinked {
+        if r.hasUplink {
             return false;
         }
-        if r.amr {
+        if r.hasAmr {
             return false;
         }
-        if r.sms {
+        if r.hasSms {
             return false;
         }
     }
@@ -221,7 +221,7 @@ pub fn in_range(m: Notification) -> bool
     if places::MOST_CALLS < m.callcount {
         return false;
     }
-    if !flagged_right(m.numbered, m.nln as u64, 4) {
+    if !flagged_right(m.hasNln, m.nln as u64, 4) {
         return false;
     }
     let calls = m.calls;

@@ -103,7 +103,7 @@ fn put_randoms(
     while i < count {
         let c = items[i];
         bits::put(&mut *buf, at, 2, 2 + bit_of(c.segment));
-        at = put_flagged(&mut *buf, at + 2, c.given, 36, c.rand);
+        at = put_flagged(&mut *buf, at + 2, c.hasRandom, 36, c.rand);
         i += 1;
     }
     bits::put(&mut *buf, at, 1, 0);
@@ -129,13 +129,13 @@ fn put_marks(buf: &mut [u8], from: usize, marks: [bool; places::MOST_MARKS], cou
 // {null | L | H <Release 6>}
 fn put_release6(buf: &mut [u8], at: usize, r: Release6) -> usize
     requires { ⌜ (at ≤ 2048) × ((length (now buf) ≡ 20) × (release6InRange r ≡ true)) ⌝ }
-    ensures { λ q. ⌜ Put (release (format release6)) 160 at (there (r .there) (release6Value r)) q (now (buf .entry)) (now (buf .exit)) × (q ≤ at + 502) ⌝ }
+    ensures { λ q. ⌜ Put (release (format release6)) 160 at (there (r .hasRelease) (release6Value r)) q (now (buf .entry)) (now (buf .exit)) × (q ≤ at + 502) ⌝ }
 {
-    if !r.there {
+    if !r.hasRelease {
         return put_low(&mut *buf, at);
     }
     put_high(&mut *buf, at);
-    let a = put_flagged(&mut *buf, at + 1, r.counted, 2, r.cellcount as u64);
+    let a = put_flagged(&mut *buf, at + 1, r.hasCount, 2, r.cellcount as u64);
     let reduced = r.reduced;
     let b = put_reduceds(&mut *buf, a, reduced, r.reducedcount);
     let randoms = r.randoms;
@@ -164,15 +164,15 @@ fn put_low(buf: &mut [u8], at: usize) -> usize
 // {0 | 1 {0|1 <FR AMR Config: bit(4)>} {0|1 <HR AMR Config: bit(4)>}}
 fn put_amr(buf: &mut [u8], at: usize, r: Release7) -> usize
     requires { ⌜ (at ≤ 4096) × ((length (now buf) ≡ 20) × ((r .fullrate < 16) × (r .halfrate < 16))) ⌝ }
-    ensures { λ q. ⌜ Put (opt (format amr)) 160 at (there (r .amr) (amrValue r)) q (now (buf .entry)) (now (buf .exit)) × (q ≤ at + 11) ⌝ }
+    ensures { λ q. ⌜ Put (opt (format amr)) 160 at (there (r .hasAmr) (amrValue r)) q (now (buf .entry)) (now (buf .exit)) × (q ≤ at + 11) ⌝ }
 {
-    if !r.amr {
+    if !r.hasAmr {
         bits::put(&mut *buf, at, 1, 0);
         return at + 1;
     }
     bits::put(&mut *buf, at, 1, 1);
-    let a = put_flagged(&mut *buf, at + 1, r.fullrated, 4, r.fullrate as u64);
-    put_flagged(&mut *buf, a, r.halfrated, 4, r.halfrate as u64)
+    let a = put_flagged(&mut *buf, at + 1, r.hasFullrate, 4, r.fullrate as u64);
+    put_flagged(&mut *buf, a, r.hasHalfrate, 4, r.halfrate as u64)
 }
 
 // {0 | 1 <SMS Data Confidentiality Ind: bit(1)> <SMS Guaranteed Privacy Ind: bit(1)>}
@@ -196,17 +196,17 @@ fn put_sms(buf: &mut [u8], at: usize, here: bool, confidential: bool, private: b
 // {null | L | H <Release 7>}
 fn put_release7(buf: &mut [u8], at: usize, r: Release7) -> usize
     requires { ⌜ (at ≤ 2048) × ((length (now buf) ≡ 20) × (release7InRange r ≡ true)) ⌝ }
-    ensures { λ q. ⌜ Put (release (format release7)) 160 at (there (r .there) (release7Value r)) q (now (buf .entry)) (now (buf .exit)) ⌝ }
+    ensures { λ q. ⌜ Put (release (format release7)) 160 at (there (r .hasRelease) (release7Value r)) q (now (buf .entry)) (now (buf .exit)) ⌝ }
 {
-    if !r.there {
+    if !r.hasRelease {
         return put_low(&mut *buf, at);
     }
     put_high(&mut *buf, at);
     let marks = r.marks;
     let a = put_marks(&mut *buf, at + 1, marks, r.markcount);
-    let b = put_flagged(&mut *buf, a, r.uplinked, 1, bit_of(r.uplink));
+    let b = put_flagged(&mut *buf, a, r.hasUplink, 1, bit_of(r.uplink));
     let c = put_amr(&mut *buf, b, r);
-    put_sms(&mut *buf, c, r.sms, r.confidential, r.private)
+    put_sms(&mut *buf, c, r.hasSms, r.confidential, r.private)
 }
 
 // The whole form over padding, and its length in bits.
@@ -214,7 +214,7 @@ fn put_all(buf: &mut [u8], m: Notification) -> usize
     requires { ⌜ (length (now buf) ≡ 20) × (recordRefusal m ≡ 0) ⌝ }
     ensures { λ q. ⌜ Put notification 160 0 (valueOf m) q (now (buf .entry)) (now (buf .exit)) ⌝ }
 {
-    let a = put_flagged(&mut *buf, 0, m.numbered, 2, m.nln as u64);
+    let a = put_flagged(&mut *buf, 0, m.hasNln, 2, m.nln as u64);
     let calls = m.calls;
     let b = put_calls(&mut *buf, a, calls, m.callcount);
     let six = m.release6;

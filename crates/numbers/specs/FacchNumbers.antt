@@ -13,11 +13,11 @@ use Rattle.nch.specs.CallNumbers.{callNumbers, callMost, callFrom}
 
 -- Release 6 there, count there, CELL_GLOBAL_COUNT, B22_COUNT, VSTK_RAND there, VSTK_RAND
 abbrev pub release6Numbers : Release6 → List ℕ
-release6Numbers r = asBit (r .there) ∷ asBit (r .counted) ∷ r .cellcount ∷ asBit (r .b22) ∷ asBit (r .given) ∷ r .rand ∷ []
+release6Numbers r = asBit (r .hasRelease) ∷ asBit (r .hasCount) ∷ r .cellcount ∷ asBit (r .b22) ∷ asBit (r .hasRandom) ∷ r .rand ∷ []
 
 -- Release 7 there, Priority Uplink Access, emergency, Paging Cause there
 abbrev pub release7Numbers : Release7 → List ℕ
-release7Numbers r = asBit (r .there) ∷ asBit (r .uplink) ∷ asBit (r .emergency) ∷ asBit (r .caused) ∷ []
+release7Numbers r = asBit (r .hasRelease) ∷ asBit (r .uplink) ∷ asBit (r .emergency) ∷ asBit (r .hasCause) ∷ []
 
 -- 21 numbers
 unfoldable pub numbersOf : Notification → List ℕ
@@ -47,19 +47,19 @@ recordFrom ns =
       call = callFrom ns callAt;
       release6 =
           record {
-            there = isOne (getD ns release6At 0);
-            counted = isOne (getD ns (release6At + 1) 0);
+            hasRelease = isOne (getD ns release6At 0);
+            hasCount = isOne (getD ns (release6At + 1) 0);
             cellcount = getD ns (release6At + 2) 0;
             b22 = isOne (getD ns (release6At + 3) 0);
-            given = isOne (getD ns (release6At + 4) 0);
+            hasRandom = isOne (getD ns (release6At + 4) 0);
             rand = getD ns (release6At + 5) 0;
           };
       release7 =
           record {
-            there = isOne (getD ns release7At 0);
+            hasRelease = isOne (getD ns release7At 0);
             uplink = isOne (getD ns (release7At + 1) 0);
             emergency = isOne (getD ns (release7At + 2) 0);
-            caused = isOne (getD ns (release7At + 3) 0);
+            hasCause = isOne (getD ns (release7At + 3) 0);
           };
     }
 

@@ -29,11 +29,11 @@ fn release6_numbers(r: Release6) -> [u64; RELEASE6_LENGTH]
     ensures { λ a. ⌜ a ≡ release6Numbers r ⌝ }
 {
     [
-        r.there as u64,
-        r.counted as u64,
+        r.hasRelease as u64,
+        r.hasCount as u64,
         r.cellcount as u64,
         r.b22 as u64,
-        r.given as u64,
+        r.hasRandom as u64,
         r.rand,
     ]
 }
@@ -42,10 +42,10 @@ fn release7_numbers(r: Release7) -> [u64; RELEASE7_LENGTH]
     ensures { λ a. ⌜ a ≡ release7Numbers r ⌝ }
 {
     [
-        r.there as u64,
+        r.hasRelease as u64,
         r.uplink as u64,
         r.emergency as u64,
-        r.caused as u64,
+        r.hasCause as u64,
     ]
 }
 

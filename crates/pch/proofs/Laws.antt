@@ -76,7 +76,7 @@ wide-channel c w =
     let d = c .description in
     let over : 2 ^ 24 ≤ d .channel = ltb-false (d .channel) (2 ^ 24) w in
     rw (w, ne-eqb (d .channel) 0 (λ e. omega (arith, over, e)))
-    (none-right (headInRange c) (c .described) (frequenciesInRange (d .hopping) (d .shortlist) (d .length) (d .frequencies))
+    (none-right (headInRange c) (c .hasDescription) (frequenciesInRange (d .hopping) (d .shortlist) (d .length) (d .frequencies))
     (both (not (d .hopping)) (both (not (d .shortlist)) (both (eqb (d .length) 0) (eqb (d .frequencies) 0)))))
 
 wide : (ns : List ℕ) → ltb (descriptionIn ns .channel) (2 ^ 24) ≡ false → callInRange (callIn ns) ≡ false

@@ -71,7 +71,7 @@ an-accepted-entry-is-under-its-key ns a = (
   leb-true (numberAt ns keyAt) lastKey (accepted-tests ns a .0),
 )
 
-described-same : (ns : List ℕ) (f : Bool) → pick f (fullCall ns) (reducedCall ns) .described ≡ isSet ns describedAt
+described-same : (ns : List ℕ) (f : Bool) → pick f (fullCall ns) (reducedCall ns) .hasDescription ≡ isSet ns describedAt
 described-same ns true = refl
 described-same ns false = refl
 

@@ -103,7 +103,7 @@ module _ (ns : List ℕ) where
         acknowledged = isOne (numberAt referenceAt / 2 ^ 7 % 2);
         priority = numberAt referenceAt / 2 ^ 4 % 8;
         cipher = numberAt referenceAt % 16;
-        described = isSet describedAt;
+        hasDescription = isSet describedAt;
         description = descriptionIn;
       }
 
@@ -116,7 +116,7 @@ module _ (ns : List ℕ) where
         acknowledged = false;
         priority = 0;
         cipher = 0;
-        described = isSet describedAt;
+        hasDescription = isSet describedAt;
         description = descriptionIn;
       }
 
@@ -129,9 +129,9 @@ module _ (ns : List ℕ) where
         ciphered = isSet cipheredAt;
         full = isSet fullAt;
         call = callIn;
-        given = isSet givenAt;
+        hasRandom = isSet givenAt;
         rand = pick (isSet givenAt) (numberAt randAt) 0;
-        counted = isSet countedAt;
+        hasCount = isSet countedAt;
         cellcount = pick (isSet countedAt) (numberAt cellcountAt) 0;
       }
 
@@ -190,7 +190,7 @@ module _ (ns : List ℕ) where
       (pick keyIsLow (pick lengthRight (pick hopsRight (pick inRange noRefusal (ground 12)) (ground 5)) (ground 3)) (ground 4)) (ground 13)
 
 abbrev pub noEntry : Entry
-noEntry = record { ciphered = false; full = false; call = noCall; given = false; rand = 0; counted = false; cellcount = 0 }
+noEntry = record { ciphered = false; full = false; call = noCall; hasRandom = false; rand = 0; hasCount = false; cellcount = 0 }
 
 -- a refusal is its number alone
 unfoldable pub readOf : List ℕ → Reading

@@ -26,7 +26,7 @@ An-accepted-entry-is-under-its-key =
 
 -- 3. There is no description without a full reference.
 abbrev pub A-described-entry-is-full : Type 0
-A-described-entry-is-full = (ns : List ℕ) → Accepted ns → readOf ns .«record» .call .described ≡ true → readOf ns .«record» .full ≡ true
+A-described-entry-is-full = (ns : List ℕ) → Accepted ns → readOf ns .«record» .call .hasDescription ≡ true → readOf ns .«record» .full ≡ true
 
 -- 4. The cipher key number of a full reference is 0 exactly where the entry is not marked.
 abbrev pub A-full-entry-is-ciphered-as-marked : Type 0

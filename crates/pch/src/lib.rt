@@ -51,10 +51,10 @@ pub struct Entry {
     // A full reference of 36 bits; else the key's reference and service flag alone.
     pub full: bool,
     pub call: Call,
-    pub given: bool,
+    pub hasRandom: bool,
     // VSTK_RAND, 36 bits.
     pub rand: u64,
-    pub counted: bool,
+    pub hasCount: bool,
     // CELL_GLOBAL_COUNT.
     pub cellcount: u8,
 }
@@ -267,7 +267,7 @@ fn full_call(numbers: &[u64]) -> Call
         acknowledged: head / 128 % 2 == 1,
         priority: (head / 16 % 8) as u8,
         cipher: (head % 16) as u8,
-        described: is_set(numbers, DESCRIBED),
+        hasDescription: is_set(numbers, DESCRIBED),
         description: description_in(numbers),
     }
 }
@@ -284,7 +284,7 @@ fn reduced_call(numbers: &[u64]) -> Call
         acknowledged: false,
         priority: 0,
         cipher: 0,
-        described: is_set(numbers, DESCRIBED),
+        hasDescription: is_set(numbers, DESCRIBED),
         description: description_in(numbers),
     }
 }
@@ -307,9 +307,9 @@ fn entry_in(numbers: &[u64]) -> Entry
         ciphered: is_set(numbers, CIPHERED),
         full: is_set(numbers, FULL),
         call: call_in(numbers),
-        given: is_set(numbers, GIVEN),
+        hasRandom: is_set(numbers, GIVEN),
         rand: behind(numbers, GIVEN, RAND),
-        counted: is_set(numbers, COUNTED),
+        hasCount: is_set(numbers, COUNTED),
         cellcount: behind(numbers, COUNTED, CELLCOUNT) as u8,
     }
 }
@@ -322,9 +322,9 @@ pub fn no_entry() -> Entry
         ciphered: false,
         full: false,
         call: call::no_call(),
-        given: false,
+        hasRandom: false,
         rand: 0,
-        counted: false,
+        hasCount: false,
         cellcount: 0,
     }
 }

@@ -32,15 +32,15 @@ flagged-lt : (h : Bool) (v : ℕ) → flaggedRight h v 4 ≡ true → h ≡ true
 flagged-lt true v e o = ltb-true v 4 e
 flagged-lt false v e o = absurd (let z : _≡_ {A = ℕ} 0 1 = cc in omega arith)
 
-written-nln : (m : Notification) → writeNumber m 20 ≡ 0 → flaggedRight (m .numbered) (m .nln) 4 ≡ true
+written-nln : (m : Notification) → writeNumber m 20 ≡ 0 → flaggedRight (m .hasNln) (m .nln) 4 ≡ true
 unfolding writeNumber inRange
 written-nln m e =
     let b = picked (inRange m) _ 12 (omega arith) e in
-    both-true (flaggedRight (m .numbered) (m .nln) 4) _ (both-true (leb (m .callcount) 4) _ (b .0) .1) .0
+    both-true (flaggedRight (m .hasNln) (m .nln) 4) _ (both-true (leb (m .callcount) 4) _ (b .0) .1) .0
 
 -- where a message has an NLN, it is none that says that none is known
-read-nln : (s : List ℕ) → readOf s .refusal .number ≡ 0 → readOf s .«record» .numbered ≡ true → readOf s .«record» .nln < noNln
-read-nln s z o = flagged-lt (readOf s .«record» .numbered) (readOf s .«record» .nln) (written-nln (readOf s .«record») (writing-gives-back-what-was-read s z .accepted)) o
+read-nln : (s : List ℕ) → readOf s .refusal .number ≡ 0 → readOf s .«record» .hasNln ≡ true → readOf s .«record» .nln < noNln
+read-nln s z o = flagged-lt (readOf s .«record» .hasNln) (readOf s .«record» .nln) (written-nln (readOf s .«record») (writing-gives-back-what-was-read s z .accepted)) o
 
 abbrev pub Low : Cause → Type 0
 Low nothing = Unit {0}
@@ -54,7 +54,7 @@ low-numbering true n h = h refl
 low-numbering false n h = tt
 
 pub low : (h : Happening) → groundsOf h .number ≡ 0 → Low (contentOf h .cause)
-low (heardNch s) z = low-numbering (readOf s .«record» .numbered) (readOf s .«record» .nln) (read-nln s z)
+low (heardNch s) z = low-numbering (readOf s .«record» .hasNln) (readOf s .«record» .nln) (read-nln s z)
 low (heardFacch s) z = tt
 low (heardPch ns) z = tt
 low (joins k) z = tt

@@ -48,15 +48,15 @@ by-least false false false false true = omega arith
 by-least false false false false false = omega arith
 
 -- an entry with a description
-pub described-class : (ch : ℕ) (e : Record) → e .call .described ≡ true
-    → classOf ch e ≡ pick (isCiphered e) (pick (segmentIs ch false e) (pick (e .given) 2 3) 7) 1
+pub described-class : (ch : ℕ) (e : Record) → e .call .hasDescription ≡ true
+    → classOf ch e ≡ pick (isCiphered e) (pick (segmentIs ch false e) (pick (e .hasRandom) 2 3) 7) 1
 unfolding classOf
-described-class ch e d = by-described (isCiphered e) (e .call .described) (e .given) (segmentIs ch false e) (segmentIs ch true e) (e .full) d
+described-class ch e d = by-described (isCiphered e) (e .call .hasDescription) (e .hasRandom) (segmentIs ch false e) (segmentIs ch true e) (e .full) d
 
 -- an entry without one
-pub bare-class : (ch : ℕ) (e : Record) → e .call .described ≡ false → classOf ch e ≡ pick (isSecond ch e) 4 (pick (e .full) 6 7)
+pub bare-class : (ch : ℕ) (e : Record) → e .call .hasDescription ≡ false → classOf ch e ≡ pick (isSecond ch e) 4 (pick (e .full) 6 7)
 unfolding classOf
-bare-class ch e d = by-bare (isCiphered e) (e .call .described) (e .given) (segmentIs ch false e) (segmentIs ch true e) (e .full) d
+bare-class ch e d = by-bare (isCiphered e) (e .call .hasDescription) (e .hasRandom) (segmentIs ch false e) (segmentIs ch true e) (e .full) d
 
 -- no class is 0
 pub class-least : (ch : ℕ) (e : Record) → 0 < classOf ch e

@@ -25,17 +25,17 @@ use Rattle.receiver.specs.Model.{mapAt}
 abbrev pub nchCommon : Notification → Common
 nchCommon m =
     record {
-      counted = m .release6 .counted;
+      hasCount = m .release6 .hasCount;
       cellcount = m .release6 .cellcount;
       b22 = false;
-      uplinked = m .release7 .uplinked;
+      hasUplink = m .release7 .hasUplink;
       uplink = m .release7 .uplink;
-      amr = m .release7 .amr;
-      fullrated = m .release7 .fullrated;
+      hasAmr = m .release7 .hasAmr;
+      hasFullrate = m .release7 .hasFullrate;
       fullrate = m .release7 .fullrate;
-      halfrated = m .release7 .halfrated;
+      hasHalfrate = m .release7 .hasHalfrate;
       halfrate = m .release7 .halfrate;
-      sms = m .release7 .sms;
+      hasSms = m .release7 .hasSms;
       confidential = m .release7 .confidential;
       private = m .release7 .private;
     }
@@ -47,7 +47,7 @@ segmentOf (some r) = r .segment
 
 abbrev pub givenOf : Option Random → Bool
 givenOf none = false
-givenOf (some r) = r .given
+givenOf (some r) = r .hasRandom
 
 abbrev pub randOf : Option Random → ℕ
 randOf none = 0
@@ -55,16 +55,16 @@ randOf (some r) = r .rand
 
 -- all that an entry is told of its random entry
 abbrev pub ownedOf : Option Random → Owned
-ownedOf r = record { there = isThere r; segment = segmentOf r; given = givenOf r; rand = randOf r }
+ownedOf r = record { hasSegment = isThere r; segment = segmentOf r; hasRandom = givenOf r; rand = randOf r }
 
 abbrev pub entryOf : Bool → Call → Option Random → Bool → Common → Record
 entryOf full c r emergency common =
     record {
       full = full;
       call = c;
-      segmented = isThere r;
+      hasSegment = isThere r;
       segment = segmentOf r;
-      given = givenOf r;
+      hasRandom = givenOf r;
       rand = randOf r;
       emergency = emergency;
       common = common;
@@ -79,7 +79,7 @@ reducedCall r =
       acknowledged = false;
       priority = 0;
       cipher = 0;
-      described = false;
+      hasDescription = false;
       description = noDescription;
     }
 
@@ -105,17 +105,17 @@ nchEntries m = mapAt (callEntry m) 0 (callsOf m) ++ mapAt (reducedEntry m) 0 (ta
 abbrev pub facchCommon : Message → Common
 facchCommon m =
     record {
-      counted = m .release6 .counted;
+      hasCount = m .release6 .hasCount;
       cellcount = m .release6 .cellcount;
       b22 = m .release6 .b22;
-      uplinked = m .release7 .there;
+      hasUplink = m .release7 .hasRelease;
       uplink = m .release7 .uplink;
-      amr = false;
-      fullrated = false;
+      hasAmr = false;
+      hasFullrate = false;
       fullrate = 0;
-      halfrated = false;
+      hasHalfrate = false;
       halfrate = 0;
-      sms = false;
+      hasSms = false;
       confidential = false;
       private = false;
     }
@@ -125,9 +125,9 @@ facchEntry m =
     record {
       full = true;
       call = m .call;
-      segmented = false;
+      hasSegment = false;
       segment = false;
-      given = m .release6 .given;
+      hasRandom = m .release6 .hasRandom;
       rand = m .release6 .rand;
       emergency = m .release7 .emergency;
       common = facchCommon m;
@@ -141,33 +141,33 @@ facchEntries m = facchEntry m ∷ []
 abbrev pub pchCommon : Entry → Common
 pchCommon p =
     record {
-      counted = p .counted;
+      hasCount = p .hasCount;
       cellcount = p .cellcount;
       b22 = false;
-      uplinked = false;
+      hasUplink = false;
       uplink = false;
-      amr = false;
-      fullrated = false;
+      hasAmr = false;
+      hasFullrate = false;
       fullrate = 0;
-      halfrated = false;
+      hasHalfrate = false;
       halfrate = 0;
-      sms = false;
+      hasSms = false;
       confidential = false;
       private = false;
     }
 
 -- an entry without the full reference counts as a reduced one, save that it is ciphered only if marked so: one that is not has no use for a VSTK_RAND, and is no half
 abbrev pub halfRand : Entry → Bool
-halfRand p = both (p .given) (pick (p .full) true (p .ciphered))
+halfRand p = both (p .hasRandom) (pick (p .full) true (p .ciphered))
 
 unfoldable pub pchEntry : Entry → Record
 pchEntry p =
     record {
       full = p .full;
       call = p .call;
-      segmented = false;
+      hasSegment = false;
       segment = false;
-      given = halfRand p;
+      hasRandom = halfRand p;
       rand = pick (halfRand p) (p .rand) 0;
       emergency = false;
       common = pchCommon p;

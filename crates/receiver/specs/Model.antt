@@ -26,23 +26,23 @@ use Rattle.receiver.specs.Channels.{keyCount, places, sideOf, indexIn, b
 abbrev pub noCommon : Common
 noCommon =
     record {
-      counted = false;
+      hasCount = false;
       cellcount = 0;
       b22 = false;
-      uplinked = false;
+      hasUplink = false;
       uplink = false;
-      amr = false;
-      fullrated = false;
+      hasAmr = false;
+      hasFullrate = false;
       fullrate = 0;
-      halfrated = false;
+      hasHalfrate = false;
       halfrate = 0;
-      sms = false;
+      hasSms = false;
       confidential = false;
       private = false;
     }
 
 abbrev pub noRecord : Record
-noRecord = record { full = false; call = noCall; segmented = false; segment = false; given = false; rand = 0; emergency = false; common = noCommon }
+noRecord = record { full = false; call = noCall; hasSegment = false; segment = false; hasRandom = false; rand = 0; emergency = false; common = noCommon }
 
 abbrev pub emptySlot : Slot
 emptySlot = record { half = 0; since = 0; «record» = noRecord }
@@ -144,23 +144,23 @@ isCiphered e = pick (e .full) (ciphered (e .call)) true
 
 -- Segment Id as it must be where the channel has it
 abbrev pub segmentIs : ℕ → Bool → Record → Bool
-segmentIs ch b e = pick (asks ch) (both (e .segmented) (pick b (e .segment) (not (e .segment)))) true
+segmentIs ch b e = pick (asks ch) (both (e .hasSegment) (pick b (e .segment) (not (e .segment)))) true
 
 abbrev pub isClear : Record → Bool
-isClear e = both (not (isCiphered e)) (e .call .described)
+isClear e = both (not (isCiphered e)) (e .call .hasDescription)
 
 abbrev pub isWhole : ℕ → Record → Bool
-isWhole ch e = both (isCiphered e) (both (e .call .described) (both (e .given) (segmentIs ch false e)))
+isWhole ch e = both (isCiphered e) (both (e .call .hasDescription) (both (e .hasRandom) (segmentIs ch false e)))
 
 abbrev pub isFirst : ℕ → Record → Bool
-isFirst ch e = both (isCiphered e) (both (e .call .described) (both (not (e .given)) (segmentIs ch false e)))
+isFirst ch e = both (isCiphered e) (both (e .call .hasDescription) (both (not (e .hasRandom)) (segmentIs ch false e)))
 
 abbrev pub isSecond : ℕ → Record → Bool
-isSecond ch e = both (isCiphered e) (both (not (e .call .described)) (both (e .given) (segmentIs ch true e)))
+isSecond ch e = both (isCiphered e) (both (not (e .call .hasDescription)) (both (e .hasRandom) (segmentIs ch true e)))
 
 -- a call without a channel, and no second half
 abbrev pub isBare : Record → Bool
-isBare e = both (e .full) (not (e .call .described))
+isBare e = both (e .full) (not (e .call .hasDescription))
 
 -- 1 complete and clear, 2 complete in one piece, 3 a first half, 4 a second half, 6 no channel, 7 any other
 unfoldable pub classOf : ℕ → Record → ℕ
@@ -184,17 +184,17 @@ agree a b = pick (both (a .full) (b .full)) (sameReference (a .call) (b .call)) 
 abbrev pub withCount : Common → Common → Common
 withCount first second =
     record {
-      counted = pick (second .counted) true (first .counted);
-      cellcount = pick (second .counted) (second .cellcount) (first .cellcount);
-      b22 = pick (second .counted) (second .b22) (first .b22);
-      uplinked = first .uplinked;
+      hasCount = pick (second .hasCount) true (first .hasCount);
+      cellcount = pick (second .hasCount) (second .cellcount) (first .cellcount);
+      b22 = pick (second .hasCount) (second .b22) (first .b22);
+      hasUplink = first .hasUplink;
       uplink = first .uplink;
-      amr = first .amr;
-      fullrated = first .fullrated;
+      hasAmr = first .hasAmr;
+      hasFullrate = first .hasFullrate;
       fullrate = first .fullrate;
-      halfrated = first .halfrated;
+      hasHalfrate = first .hasHalfrate;
       halfrate = first .halfrate;
-      sms = first .sms;
+      hasSms = first .hasSms;
       confidential = first .confidential;
       private = first .private;
     }
@@ -205,9 +205,9 @@ joinedOf first second =
     record {
       full = first .full;
       call = first .call;
-      segmented = first .segmented;
+      hasSegment = first .hasSegment;
       segment = first .segment;
-      given = true;
+      hasRandom = true;
       rand = second .rand;
       emergency = first .emergency;
       common = withCount (first .common) (second .common);

@@ -153,7 +153,7 @@ plainly x = record { cause = x; channel = onNch; entries = [] }
 
 abbrev pub contentOf : Happening → Content
 contentOf (heardNch s) =
-    record { cause = numbering (readOf s .«record» .numbered) (readOf s .«record» .nln); channel = onNch; entries = nchEntries (readOf s .«record») }
+    record { cause = numbering (readOf s .«record» .hasNln) (readOf s .«record» .nln); channel = onNch; entries = nchEntries (readOf s .«record») }
 contentOf (heardFacch s) = record { cause = nothing; channel = onFacch; entries = facchEntries (readFacch s .«record») }
 contentOf (heardPch ns) =
     record { cause = paged (keyOf (readPch ns .«record» .call)); channel = onPch; entries = pchEntries (readPch ns .«record») }

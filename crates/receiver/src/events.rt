@@ -291,8 +291,8 @@ impl Receiver {
         }
         let n = m.record;
         let last = self.cell;
-        let rule = nln_rule(last, n.numbered, n.nln);
-        let cell = cell_after(last, n.numbered, n.nln);
+        let rule = nln_rule(last, n.hasNln, n.nln);
+        let cell = cell_after(last, n.hasNln, n.nln);
         accepted(
             self,
             tick,

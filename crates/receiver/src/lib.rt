@@ -11,19 +11,19 @@ pub mod store;
 
 // The parts that a message has once for all of its calls.
 pub struct Common {
-    pub counted: bool,
+    pub hasCount: bool,
     // CELL_GLOBAL_COUNT, and B22_COUNT where the channel has it.
     pub cellcount: u8,
     pub b22: bool,
-    pub uplinked: bool,
+    pub hasUplink: bool,
     // Priority Uplink Access.
     pub uplink: bool,
-    pub amr: bool,
-    pub fullrated: bool,
+    pub hasAmr: bool,
+    pub hasFullrate: bool,
     pub fullrate: u8,
-    pub halfrated: bool,
+    pub hasHalfrate: bool,
     pub halfrate: u8,
-    pub sms: bool,
+    pub hasSms: bool,
     pub confidential: bool,
     pub private: bool,
 }
@@ -33,10 +33,10 @@ pub struct Record {
     // A full reference of 36 bits; else a reduced one, whose other fields are zero.
     pub full: bool,
     pub call: Call,
-    pub segmented: bool,
+    pub hasSegment: bool,
     // Segment Id.
     pub segment: bool,
-    pub given: bool,
+    pub hasRandom: bool,
     // VSTK_RAND.
     pub rand: u64,
     pub emergency: bool,

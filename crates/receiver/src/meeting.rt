@@ -12,17 +12,17 @@ pub fn no_common() -> Common
     ensures { λ r. ⌜ r ≡ noCommon ⌝ }
 {
     Common {
-        counted: false,
+        hasCount: false,
         cellcount: 0,
         b22: false,
-        uplinked: false,
+        hasUplink: false,
         uplink: false,
-        amr: false,
-        fullrated: false,
+        hasAmr: false,
+        hasFullrate: false,
         fullrate: 0,
-        halfrated: false,
+        hasHalfrate: false,
         halfrate: 0,
-        sms: false,
+        hasSms: false,
         confidential: false,
         private: false,
     }
@@ -34,9 +34,9 @@ pub fn no_record() -> Record
     Record {
         full: false,
         call: call::no_call(),
-        segmented: false,
+        hasSegment: false,
         segment: false,
-        given: false,
+        hasRandom: false,
         rand: 0,
         emergency: false,
         common: no_common(),
@@ -71,7 +71,7 @@ fn segment_is(ch: usize, b: bool, e: Record) -> bool
     if !channels::asks(ch) {
         return true;
     }
-    if !e.segmented {
+    if !e.hasSegment {
         return false;
     }
     if b {
@@ -87,10 +87,10 @@ fn is_second(ch: usize, e: Record) -> bool
     if !is_ciphered(e) {
         return false;
     }
-    if e.call.described {
+    if e.call.hasDescription {
         return false;
     }
-    if !e.given {
+    if !e.hasRandom {
         return false;
     }
     segment_is(ch, true, e)
@@ -100,12 +100,12 @@ fn is_second(ch: usize, e: Record) -> bool
 pub fn class(ch: usize, e: Record) -> u8
     ensures { λ r. ⌜ r ≡ classOf ch e ⌝ }
 {
-    if e.call.described {
+    if e.call.hasDescription {
         if !is_ciphered(e) {
             return 1;
         }
         if segment_is(ch, false, e) {
-            if e.given {
+            if e.hasRandom {
                 return 2;
             }
             return 3;
@@ -160,8 +160,8 @@ fn with_count(first: Common, second: Common) -> Common
     ensures { λ r. ⌜ r ≡ withCount first second ⌝ }
 {
     let mut c = first;
-    if second.counted {
-        c.counted = true;
+    if second.hasCount {
+        c.hasCount = true;
         c.cellcount = second.cellcount;
         c.b22 = second.b22;
     }
@@ -178,9 +178,9 @@ pub fn join(first: Record, second: Record) -> Record
     Record {
         full: first.full,
         call,
-        segmented: first.segmented,
+        hasSegment: first.hasSegment,
         segment: first.segment,
-        given: true,
+        hasRandom: true,
         rand: second.rand,
         emergency: first.emergency,
         common: with_count(a, b),

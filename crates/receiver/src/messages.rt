@@ -43,23 +43,23 @@ pub fn facch_entry(m: facch::Notification) -> Record
     Record {
         full: true,
         call,
-        segmented: false,
+        hasSegment: false,
         segment: false,
-        given: m.release6.given,
+        hasRandom: m.release6.hasRandom,
         rand: m.release6.rand,
         emergency: m.release7.emergency,
         common: Common {
-            counted: m.release6.counted,
+            hasCount: m.release6.hasCount,
             cellcount: m.release6.cellcount,
             b22: m.release6.b22,
-            uplinked: m.release7.there,
+            hasUplink: m.release7.hasRelease,
             uplink: m.release7.uplink,
-            amr: false,
-            fullrated: false,
+            hasAmr: false,
+            hasFullrate: false,
             fullrate: 0,
-            halfrated: false,
+            hasHalfrate: false,
             halfrate: 0,
-            sms: false,
+            hasSms: false,
             confidential: false,
             private: false,
         },
@@ -81,27 +81,27 @@ pub fn pch_entry(p: pch::Entry) -> Record
     ensures { λ r. ⌜ r ≡ pchEntry p ⌝ }
 {
     let call = p.call;
-    let given = p.given && (p.full || p.ciphered);
+    let given = p.hasRandom && (p.full || p.ciphered);
     Record {
         full: p.full,
         call,
-        segmented: false,
+        hasSegment: false,
         segment: false,
-        given,
+        hasRandom: given,
         rand: if given { p.rand } else { 0 },
         emergency: false,
         common: Common {
-            counted: p.counted,
+            hasCount: p.hasCount,
             cellcount: p.cellcount,
             b22: false,
-            uplinked: false,
+            hasUplink: false,
             uplink: false,
-            amr: false,
-            fullrated: false,
+            hasAmr: false,
+            hasFullrate: false,
             fullrate: 0,
-            halfrated: false,
+            hasHalfrate: false,
             halfrate: 0,
-            sms: false,
+            hasSms: false,
             confidential: false,
             private: false,
         },
@@ -122,17 +122,17 @@ pub fn nch_common(m: nch::Notification) -> Common
     ensures { λ r. ⌜ r ≡ nchCommon m ⌝ }
 {
     Common {
-        counted: m.release6.counted,
+        hasCount: m.release6.hasCount,
         cellcount: m.release6.cellcount,
         b22: false,
-        uplinked: m.release7.uplinked,
+        hasUplink: m.release7.hasUplink,
         uplink: m.release7.uplink,
-        amr: m.release7.amr,
-        fullrated: m.release7.fullrated,
+        hasAmr: m.release7.hasAmr,
+        hasFullrate: m.release7.hasFullrate,
         fullrate: m.release7.fullrate,
-        halfrated: m.release7.halfrated,
+        hasHalfrate: m.release7.hasHalfrate,
         halfrate: m.release7.halfrate,
-        sms: m.release7.sms,
+        hasSms: m.release7.hasSms,
         confidential: m.release7.confidential,
         private: m.release7.private,
     }
@@ -140,9 +140,9 @@ pub fn nch_common(m: nch::Notification) -> Common
 
 // The random entry that an entry owns, and all zero where it owns none.
 pub struct Owned {
-    pub there: bool,
+    pub hasSegment: bool,
     pub segment: bool,
-    pub given: bool,
+    pub hasRandom: bool,
     pub rand: u64,
 }
 
@@ -150,9 +150,9 @@ pub fn owns_none() -> Owned
     ensures { λ r. ⌜ r ≡ ownedOf none ⌝ }
 {
     Owned {
-        there: false,
+        hasSegment: false,
         segment: false,
-        given: false,
+        hasRandom: false,
         rand: 0,
     }
 }
@@ -170,9 +170,9 @@ fn random_at(m: nch::Notification, k: usize) -> Owned
     let six = m.release6;
     let one = six.randoms[k];
     Owned {
-        there: true,
+        hasSegment: true,
         segment: one.segment,
-        given: one.given,
+        hasRandom: one.hasRandom,
         rand: one.rand,
     }
 }
@@ -191,7 +191,7 @@ fn random_of_call(m: nch::Notification, c: Call, k: usize) -> Owned
 fn emergency_of_call(m: nch::Notification, c: Call, k: usize) -> bool
     ensures { λ r. ⌜ r ≡ pick (isDescribed c) (orNot (nth k (marksOf m))) false ⌝ }
 {
-    if !c.described {
+    if !c.hasDescription {
         return false;
     }
     if m.release7.markcount <= k {
@@ -212,9 +212,9 @@ pub fn call_entry(m: nch::Notification, c: Call, random: usize, mark: usize) -> 
     Record {
         full: true,
         call: c,
-        segmented: owned.there,
+        hasSegment: owned.hasSegment,
         segment: owned.segment,
-        given: owned.given,
+        hasRandom: owned.hasRandom,
         rand: owned.rand,
         emergency: emergency_of_call(m, c, mark),
         common: nch_common(m),
@@ -232,9 +232,9 @@ pub fn reduced_entry(m: nch::Notification, r: Reduced, random: usize) -> Record
     Record {
         full: false,
         call,
-        segmented: owned.there,
+        hasSegment: owned.hasSegment,
         segment: owned.segment,
-        given: owned.given,
+        hasRandom: owned.hasRandom,
         rand: owned.rand,
         emergency: false,
         common: nch_common(m),
@@ -266,7 +266,7 @@ fn call_entries(m: nch::Notification) -> CallEntries
         let c = m.calls[i];
         items[i] = call_entry(m, c, random, mark);
         random += one_if(1 <= c.cipher);
-        mark += one_if(c.described);
+        mark += one_if(c.hasDescription);
         i += 1;
     }
     CallEntries {

@@ -34,7 +34,7 @@ fn show_call(line: Line, c: Call) -> Line {
         .number(b" ", c.acknowledged as u64)
         .number(b" ", c.priority as u64)
         .number(b" ", c.cipher as u64);
-    if c.described {
+    if c.hasDescription {
         let d = c.description;
         return show_description(line, d);
     }
@@ -52,22 +52,22 @@ fn show_if(line: Line, there: bool, word: &[u8], n: u64) -> Line {
 
 fn show_amr(line: Line, c: Common) -> Line {
     let line = line.word(b" amr");
-    if !c.amr {
+    if !c.hasAmr {
         return line.word(b" -");
     }
-    let line = show_if(line, c.fullrated, b"", c.fullrate as u64);
-    show_if(line, c.halfrated, b"", c.halfrate as u64)
+    let line = show_if(line, c.hasFullrate, b"", c.fullrate as u64);
+    show_if(line, c.hasHalfrate, b"", c.halfrate as u64)
 }
 
 fn show_common(before: Line, c: Common) -> Line {
-    let mut line = show_if(before, c.counted, b" count", c.cellcount as u64);
-    if c.counted {
+    let mut line = show_if(before, c.hasCount, b" count", c.cellcount as u64);
+    if c.hasCount {
         line = line.number(b" ", c.b22 as u64);
     }
-    line = show_if(line, c.uplinked, b" uplink", c.uplink as u64);
+    line = show_if(line, c.hasUplink, b" uplink", c.uplink as u64);
     line = show_amr(line, c);
-    line = show_if(line, c.sms, b" sms", c.confidential as u64);
-    if c.sms {
+    line = show_if(line, c.hasSms, b" sms", c.confidential as u64);
+    if c.hasSms {
         line = line.number(b" ", c.private as u64);
     }
     line
@@ -76,8 +76,8 @@ fn show_common(before: Line, c: Common) -> Line {
 fn show_record(before: Line, r: Record) -> Line {
     let c = r.call;
     let mut line = show_call(before, c);
-    line = show_if(line, r.segmented, b" segment", r.segment as u64);
-    if r.given {
+    line = show_if(line, r.hasSegment, b" segment", r.segment as u64);
+    if r.hasRandom {
         line = line.hex(b" rand ", r.rand, 9);
     } else {
         line = line.word(b" rand -");

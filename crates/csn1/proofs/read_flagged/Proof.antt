@@ -81,7 +81,7 @@ add-t13 c =
 returns-4 : tie.Need-returns-4
 returns-4 c =
     let a = c .before .before .before .before .before .before .before .before .before .args in
-    ap (λ (r : Refusal). record { refusal = r; there = false; value = 0; at = a .at + 1 }) (c .no-refusal .ensures)
+    ap (λ (r : Refusal). record { refusal = r; hasValue = false; value = 0; at = a .at + 1 }) (c .no-refusal .ensures)
     ∙ sym (ap flaggedOf (flagged-at (now (a .s)) (a .at) (a .width) (omega arith) (omega arith) ∙ opt-none (num (a .width)) (now (a .s)) (a .at) _ (flag-got (c .before .before)) (c .before .if3 .taken)))
 
 add-field : tie.Need-add-field
@@ -138,7 +138,7 @@ add-t18 c =
 returns-6 : tie.Need-returns-6
 returns-6 c =
     let a = c .before .before .before .before .before .before .before .before .before .before .before .before .before .args in
-    ap (λ (r : Refusal). record { refusal = r; there = true; value = c .before .before .value .given .0 .0; at = a .at + 1 + a .width }) (c .no-refusal2 .ensures)
+    ap (λ (r : Refusal). record { refusal = r; hasValue = true; value = c .before .before .value .given .0 .0; at = a .at + 1 + a .width }) (c .no-refusal2 .ensures)
     ∙ sym (ap flaggedOf (flagged-at (now (a .s)) (a .at) (a .width) (omega arith) (omega arith)
     ∙ opt-some (num (a .width)) (now (a .s)) (a .at) _ (flag-got (c .before .before .before .before .before .before)) (c .before .before .before .before .before .if3 .left)
     ∙ ap (λ (x : Res ℕ). x then λ v q. ok (some v) q) (num-got (now (a .s)) (a .at + 1) (a .width) _ (value-got (c .before)))))

@@ -26,7 +26,9 @@ shared-slice-read-if1 : tie.Need-shared-slice-read-if1 Inv-loop μ-loop
 shared-slice-read-if1 c = search needs
 
 returns : tie.Need-returns Inv-loop μ-loop
-returns c = octets-not (now (c .before .before .before .before .args .numbers)) (c .before .before .before .loop .i) (c .before .before .before .loop .inv .1) (omega arith) (c .if1 .taken)
+returns c =
+    let l = c .before .before .before in
+    octets-not (now (l .before .args .numbers)) (l .loop .i) (l .loop .inv .1) (omega arith) (c .if1 .taken)
 
 add-i : tie.Need-add-i Inv-loop μ-loop
 add-i c = search needs
@@ -35,7 +37,9 @@ loop-less : tie.Need-loop-less Inv-loop μ-loop
 loop-less c = omega arith
 
 loop-again : tie.Need-loop-again Inv-loop μ-loop
-loop-again c = (omega arith, octets-next (now (c .before .before .before .before .args .numbers)) (c .before .before .before .loop .i) (c .before .before .before .loop .inv .1) (omega arith) (c .if1 .left))
+loop-again c =
+    let l = c .before .before .before in
+    (omega arith, octets-next (now (l .before .args .numbers)) (l .loop .i) (l .loop .inv .1) (omega arith) (c .if1 .left))
 
 returns-2 : tie.Need-returns-2 Inv-loop μ-loop
 returns-2 c = octets-end (now (c .before .before .args .numbers)) (c .before .loop .i) (c .before .loop .inv .1) (omega arith)

@@ -19,7 +19,7 @@ put-flagged-requires : tie.Need-put-flagged-requires
 put-flagged-requires c κs =
     let m = c .before .before .before .args .m in
     let t = right m (c .before .before .before .pre .1) in
-    (omega arith, (omega arith, (c .before .before .before .pre .0, flag-limit (m .numbered) (m .nln) 4 (t .numbered) (omega arith))))
+    (omega arith, (omega arith, (c .before .before .before .pre .0, flag-limit (m .hasNln) (m .nln) 4 (t .hasNln) (omega arith))))
 
 put-calls-requires : tie.Need-put-calls-requires
 put-calls-requires c κs =

@@ -23,7 +23,7 @@ same-length c = omega arith
 returns : tie.Need-returns
 returns c =
     let a = c .before .before .before .before .before .before .before .args in
-    (put-no {F = format amr} (now (a .buf)) (c .before .before .put .last .0) (a .at) (omega arith) (a .r .amr) (amrValue (a .r)) (not-true (a .r .amr) (c .before .before .before .before .if1 .taken)) (c .before .before .put .ensures .1), omega arith)
+    (put-no {F = format amr} (now (a .buf)) (c .before .before .put .last .0) (a .at) (omega arith) (a .r .hasAmr) (amrValue (a .r)) (not-true (a .r .hasAmr) (c .before .before .before .before .if1 .taken)) (c .before .before .put .ensures .1), omega arith)
 
 put-requires-2 : tie.Need-put-requires-2
 put-requires-2 c κs = omega arith
@@ -51,7 +51,7 @@ returns-2 c =
     let a = c .before .before .before .before .before .before .before .before .before .before .before .before .before .before .before .before .before .args in
     let f = c .before .before .before .before .before .before .before .put-flagged in
     let g = c .before .before .put-flagged2 in (
-      put-yes {F = format amr} (now (a .buf)) (c .before .before .before .before .before .before .before .before .before .before .before .before .put2 .last .0) (a .at) (omega (arith, c .before .before .before .before .before .before .before .before .before .before .before .before .before .before .before .before .before .pre .1 .0)) (a .r .amr) (not-false (a .r .amr) (c .before .before .before .before .before .before .before .before .before .before .before .before .before .before .if1 .left)) (amrValue (a .r)) (g .result) (g .last .0)
+      put-yes {F = format amr} (now (a .buf)) (c .before .before .before .before .before .before .before .before .before .before .before .before .put2 .last .0) (a .at) (omega (arith, c .before .before .before .before .before .before .before .before .before .before .before .before .before .before .before .before .before .pre .1 .0)) (a .r .hasAmr) (not-false (a .r .hasAmr) (c .before .before .before .before .before .before .before .before .before .before .before .before .before .before .if1 .left)) (amrValue (a .r)) (g .result) (g .last .0)
           (put-both {F = opt (num 4)} {G = opt (num 4)} (f .ensures .0) (g .ensures .0)) (c .before .before .before .before .before .before .before .before .before .before .before .before .put2 .ensures .1),
       omega (arith, f .ensures .1, g .ensures .1),
     )

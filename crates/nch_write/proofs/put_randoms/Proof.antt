@@ -48,7 +48,7 @@ put-flagged-requires c κs =
     let x = getD (a .t3) (l .i) noRandom in
     let size : length (a .t3) ≡ 9 = c .before .before .before .before .before .before .before .before .before .before .good .1 .1 .0 .1 .0 .1 in
     let r = all-at randomInRange noRandom (a .t3) (a .count) (l .i) (c .before .before .before .before .before .before .before .before .before .before .pre .1 .1 .1) (omega arith) (omega arith) in
-    (omega arith, (omega arith, (c .before .before .before .put .kept .0 ∙ l .inv .1 .1 .kept ∙ c .before .before .before .before .before .before .before .before .before .before .pre .1 .1 .0, flag-limit (x .given) (x .rand) (2 ^ 36) r (omega arith))))
+    (omega arith, (omega arith, (c .before .before .before .put .kept .0 ∙ l .inv .1 .1 .kept ∙ c .before .before .before .before .before .before .before .before .before .before .pre .1 .1 .0, flag-limit (x .hasRandom) (x .rand) (2 ^ 36) r (omega arith))))
 
 add-i : tie.Need-add-i Inv-loop μ-loop
 add-i c = omega arith

@@ -51,10 +51,10 @@ cast-result-3 : tie.Need-cast-result-3
 cast-result-3 c = search needs
 
 add-result-3 : tie.Need-add-result-3
-add-result-3 c = let a = c .before .before .before .before .before .before .args .c in omega (arith, byte-lt (a .vgcs), byte-lt (a .acknowledged), byte-lt (a .described))
+add-result-3 c = let a = c .before .before .before .before .before .before .args .c in omega (arith, byte-lt (a .vgcs), byte-lt (a .acknowledged), byte-lt (a .hasDescription))
 
 returns : tie.Need-returns
-returns c = let a = c .before .before .before .before .before .before .args .c in omega (arith, flag-byte (a .vgcs), flag-byte (a .acknowledged), flag-byte (a .described))
+returns c = let a = c .before .before .before .before .before .before .args .c in omega (arith, flag-byte (a .vgcs), flag-byte (a .acknowledged), flag-byte (a .hasDescription))
 
 pub head-spec : {M : Type 1} → statement M
 head-spec =

@@ -23,18 +23,18 @@ description-is-zero-requires c κs = search needs
 
 returns-4 : tie.Need-returns-4
 unfolding callInRange
-returns-4 c = let a = c .before .before .before .before .before .before .before .before .before .before .args .c in rw (lt-ltb (a .reference) 134217728 (omega arith), lt-ltb (a .priority) 8 (omega arith), lt-ltb (a .cipher) 16 (omega arith), not-true (a .described) (c .before .if4 .taken)) (c .description-is-zero .ensures)
+returns-4 c = let a = c .before .before .before .before .before .before .before .before .before .before .args .c in rw (lt-ltb (a .reference) 134217728 (omega arith), lt-ltb (a .priority) 8 (omega arith), lt-ltb (a .cipher) 16 (omega arith), not-true (a .hasDescription) (c .before .if4 .taken)) (c .description-is-zero .ensures)
 
 returns-5 : tie.Need-returns-5
 unfolding callInRange
-returns-5 c = let a = c .before .before .before .before .before .before .before .before .before .before .before .args .c in rw (lt-ltb (a .reference) 134217728 (omega arith), lt-ltb (a .priority) 8 (omega arith), lt-ltb (a .cipher) 16 (omega arith), not-false (a .described) (c .before .before .if4 .left), le-ltb (a .description .channel) 16777216 (omega arith))
+returns-5 c = let a = c .before .before .before .before .before .before .before .before .before .before .before .args .c in rw (lt-ltb (a .reference) 134217728 (omega arith), lt-ltb (a .priority) 8 (omega arith), lt-ltb (a .cipher) 16 (omega arith), not-false (a .hasDescription) (c .before .before .if4 .left), le-ltb (a .description .channel) 16777216 (omega arith))
 
 frequencies-in-range-requires : tie.Need-frequencies-in-range-requires
 frequencies-in-range-requires c κs = search needs
 
 returns-6 : tie.Need-returns-6
 unfolding callInRange
-returns-6 c = let a = c .before .before .before .before .before .before .before .before .before .before .before .before .args .c in rw (lt-ltb (a .reference) 134217728 (omega arith), lt-ltb (a .priority) 8 (omega arith), lt-ltb (a .cipher) 16 (omega arith), not-false (a .described) (c .before .before .before .if4 .left), lt-ltb (a .description .channel) 16777216 (omega arith)) (c .frequencies-in-range .ensures)
+returns-6 c = let a = c .before .before .before .before .before .before .before .before .before .before .before .before .args .c in rw (lt-ltb (a .reference) 134217728 (omega arith), lt-ltb (a .priority) 8 (omega arith), lt-ltb (a .cipher) 16 (omega arith), not-false (a .hasDescription) (c .before .before .before .if4 .left), lt-ltb (a .description .channel) 16777216 (omega arith)) (c .frequencies-in-range .ensures)
 
 pub in-range-spec : {M : Type 1} → statement M
 in-range-spec =

@@ -6,13 +6,13 @@ use Rattle.call.proofs.writer.size.Statement.{statement}
 use Rattle.call.proofs.writer.size.Tie as tie
 
 returns : tie.Need-returns
-returns c = let a = c .before .before .args .c in rw (call-size a, not-true (a .described) (c .if1 .taken))
+returns c = let a = c .before .before .args .c in rw (call-size a, not-true (a .hasDescription) (c .if1 .taken))
 
 returns-2 : tie.Need-returns-2
-returns-2 c = let a = c .before .before .before .before .args .c in rw (call-size a, not-false (a .described) (c .before .before .if1 .left), not-true (a .description .hopping) (c .if2 .taken))
+returns-2 c = let a = c .before .before .before .before .args .c in rw (call-size a, not-false (a .hasDescription) (c .before .before .if1 .left), not-true (a .description .hopping) (c .if2 .taken))
 
 returns-3 : tie.Need-returns-3
-returns-3 c = let a = c .before .before .before .before .before .args .c in rw (call-size a, not-false (a .described) (c .before .before .before .if1 .left), not-false (a .description .hopping) (c .before .if2 .left), c .if3 .taken)
+returns-3 c = let a = c .before .before .before .before .before .args .c in rw (call-size a, not-false (a .hasDescription) (c .before .before .before .if1 .left), not-false (a .description .hopping) (c .before .if2 .left), c .if3 .taken)
 
 cast-result : tie.Need-cast-result
 cast-result c = search needs
@@ -24,7 +24,7 @@ add-result : tie.Need-add-result
 add-result c = search needs
 
 returns-4 : tie.Need-returns-4
-returns-4 c = let a = c .before .before .before .before .before .before .args .c in rw (call-size a, not-false (a .described) (c .before .before .before .before .if1 .left), not-false (a .description .hopping) (c .before .before .if2 .left), (c .before .if3 .left))
+returns-4 c = let a = c .before .before .before .before .before .before .args .c in rw (call-size a, not-false (a .hasDescription) (c .before .before .before .before .if1 .left), not-false (a .description .hopping) (c .before .before .if2 .left), (c .before .if3 .left))
 
 pub size-spec : {M : Type 1} → statement M
 size-spec =

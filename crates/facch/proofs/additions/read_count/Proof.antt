@@ -68,7 +68,7 @@ add-t10 c = omega (arith, flag-within (c .before .before))
 returns-2 : tie.Need-returns-2
 returns-2 c =
     let a = c .before .before .before .before .before .before .before .args in
-    ap (λ (r : Refusal). record { refusal = r; there = false; cellcount = 0; b22 = false; at = a .at + 1 }) (c .no-refusal .ensures)
+    ap (λ (r : Refusal). record { refusal = r; hasCount = false; cellcount = 0; b22 = false; at = a .at + 1 }) (c .no-refusal .ensures)
     ∙ sym (ap countAtOf (opt-none (num 2 ⨟ num 1) (now (a .s)) (a .at) _ (flag-got (c .before .before)) (c .before .if1 .taken)))
 
 add-field : tie.Need-add-field
@@ -145,7 +145,7 @@ returns-5 c =
     let a = c .before .before .before .before .before .before .before .before .before .before .before .before .before .before .before .args in
     let y = c .before .before .before .before .before .before .cellcount .given .0 .0 in
     let z = c .before .before .b22 .given .0 .0 in
-    ap₂ (λ (r : Refusal) (n : ℕ). record { refusal = r; there = true; cellcount = y; b22 = isOne z; at = n }) (c .no-refusal2 .ensures) (omega arith)
+    ap₂ (λ (r : Refusal) (n : ℕ). record { refusal = r; hasCount = true; cellcount = y; b22 = isOne z; at = n }) (c .no-refusal2 .ensures) (omega arith)
     ∙ sym (ap countAtOf (opt-ok (num 2 ⨟ num 1) (now (a .s)) (a .at) _ (flag-got (c .before .before .before .before .before .before .before .before .before .before)) (c .before .before .before .before .before .before .before .before .before .if1 .left) _ _
     (then-ok (num 2) (num 1) (now (a .s)) (a .at + 1) _ _ _ _ (count-read (c .before .before .before .before .before)) (num-got (now (a .s)) (a .at + 3) 1 _ (b22-got (c .before))))))
 

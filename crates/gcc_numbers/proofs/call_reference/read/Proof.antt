@@ -26,7 +26,9 @@ same-length : tie.Need-same-length
 same-length c = search needs
 
 returns : tie.Need-returns
-returns c = rw (← c .before .before .before .before .before .before .before .read .ensures) (refl, rw (c .before .before .before .before .before .before .number-of .ensures) at (c .before .before .store .ensures))
+returns c =
+    let c6 = c .before .before .before .before .before .before in
+    rw (← c6 .before .read .ensures) (refl, rw (c6 .number-of .ensures) at (c .before .before .store .ensures))
 
 pub read-spec : {M : Type 1} → statement M
 read-spec =

@@ -1,15 +1,22 @@
 -- `gcc_numbers::call_reference::write` meets its contract. Assumes nothing.
 use denote.Ref.{now}
-use mathlib.Core.Path.{_∙_}
+use mathlib.Core.Path.{_≡_}
+use mathlib.Core.List.{List}
+use mathlib.Core.Bool.{true}
+use Prim.Native.Nat.{ℕ, _≤_}
+use lib.ListN.{getD}
 use native.Mathlib.Omega.{arith}
-use Rattle.gcc_numbers.specs.ElementNumbers.{referenceMost}
-use Rattle.gcc_numbers.proofs.Refusals.{code-13, fits-13, code-12, fits-12, code-own, fits-own, each-at-most}
+use Rattle.arrays.specs.Limits.{flag, word}
+use Rattle.gcc_numbers.specs.ElementNumbers.{fits, referenceMost}
+use Rattle.gcc_numbers.proofs.Refusals.{fits-own, fits-at, octets-13, octets-12, octets-own}
 use borrow.Author.Needs.{needs}
 use Rattle.gcc_numbers.proofs.call_reference.write.Statement.{statement}
 use Rattle.gcc_numbers.proofs.call_reference.write.Tie as tie
 
 returns : tie.Need-returns
-returns c = (code-13 3 referenceMost (now (c .before .before .before .args .numbers)) _ (c .if1 .taken), rw (fits-13 3 referenceMost (now (c .before .before .before .args .numbers)) (c .if1 .taken)))
+returns c =
+    let a = c .before .before .before .args in
+    octets-13 3 referenceMost (now (a .numbers)) _ _ (now (a .octets)) (c .if1 .taken)
 
 slice-aggregate-holds : tie.Need-slice-aggregate-holds
 slice-aggregate-holds c = search needs
@@ -19,27 +26,43 @@ holds-requires c κs = search needs
 
 returns-2 : tie.Need-returns-2
 returns-2 c =
-    let ns = now (c .before .before .before .before .before .before .args .numbers) in
-    let h = c .before .holds in
-    (code-12 3 referenceMost ns _ (h .result) (c .before .before .before .if1 .left) (h .ensures) (c .if2 .taken), rw (fits-12 3 referenceMost ns (h .result) (c .before .before .before .if1 .left) (h .ensures) (c .if2 .taken)))
+    let c3 = c .before .before .before in
+    let a = c3 .before .before .before .args in
+    octets-12 3 referenceMost (now (a .numbers)) _ _ (now (a .octets)) _ (c3 .if1 .left) (c .before .holds .ensures) (c .if2 .taken)
+
+abbrev numbers : tie.Else2 → List ℕ
+numbers c = now (c .before .before .before .before .before .before .args .numbers)
+
+-- both tests are past
+fitting : (c : tie.Else2) → fits 3 referenceMost (numbers c) ≡ true
+fitting c = fits-own 3 referenceMost (numbers c) _ (c .before .before .before .if1 .left) (c .before .holds .ensures) (c .if2 .left)
+
+reference : (c : tie.Else2) → getD (numbers c) 0 0 ≤ word
+reference c = fits-at 3 referenceMost (numbers c) (fitting c) 0 (omega arith)
+
+flagged : (c : tie.Else2) → getD (numbers c) 1 0 ≤ flag
+flagged c = fits-at 3 referenceMost (numbers c) (fitting c) 1 (omega arith)
+
+level : (c : tie.Else2) → getD (numbers c) 2 0 ≤ 7
+level c = fits-at 3 referenceMost (numbers c) (fitting c) 2 (omega arith)
 
 shared-slice-read-priority-of : tie.Need-shared-slice-read-priority-of
 shared-slice-read-priority-of c = search needs
 
 mul-priority-of : tie.Need-mul-priority-of
-mul-priority-of c = omega (arith, each-at-most referenceMost (now (c .before .before .before .before .before .before .before .args .numbers)) (c .before .before .holds .result) (c .before .before .holds .ensures) (c .before .if2 .left) 1 (omega arith))
+mul-priority-of c = omega (arith, flagged (c .before))
 
 shared-slice-read-priority-of-2 : tie.Need-shared-slice-read-priority-of-2
 shared-slice-read-priority-of-2 c = search needs
 
 mul-priority-of-2 : tie.Need-mul-priority-of-2
-mul-priority-of-2 c = omega (arith, each-at-most referenceMost (now (c .before .before .before .before .before .before .before .before .args .numbers)) (c .before .before .before .holds .result) (c .before .before .before .holds .ensures) (c .before .before .if2 .left) 2 (omega arith))
+mul-priority-of-2 c = omega (arith, level (c .before .before))
 
 add-priority-of : tie.Need-add-priority-of
-add-priority-of c = omega (arith, each-at-most referenceMost (now (c .before .before .before .before .before .before .before .before .args .numbers)) (c .before .before .before .holds .result) (c .before .before .before .holds .ensures) (c .before .before .if2 .left) 1 (omega arith), each-at-most referenceMost (now (c .before .before .before .before .before .before .before .before .args .numbers)) (c .before .before .before .holds .result) (c .before .before .before .holds .ensures) (c .before .before .if2 .left) 2 (omega arith))
+add-priority-of c = omega (arith, flagged (c .before .before), level (c .before .before))
 
 cast-priority-of : tie.Need-cast-priority-of
-cast-priority-of c = omega (arith, each-at-most referenceMost (now (c .before .before .before .before .before .before .before .before .args .numbers)) (c .before .before .before .holds .result) (c .before .before .before .holds .ensures) (c .before .before .if2 .left) 1 (omega arith), each-at-most referenceMost (now (c .before .before .before .before .before .before .before .before .args .numbers)) (c .before .before .before .holds .result) (c .before .before .before .holds .ensures) (c .before .before .if2 .left) 2 (omega arith))
+cast-priority-of c = omega (arith, flagged (c .before .before), level (c .before .before))
 
 priority-of-requires : tie.Need-priority-of-requires
 priority-of-requires c κs = search needs
@@ -48,7 +71,7 @@ shared-slice-read-write : tie.Need-shared-slice-read-write
 shared-slice-read-write c = search needs
 
 cast-write : tie.Need-cast-write
-cast-write c = omega (arith, each-at-most referenceMost (now (c .before .before .before .before .before .before .before .before .before .before .args .numbers)) (c .before .before .before .before .before .holds .result) (c .before .before .before .before .before .holds .ensures) (c .before .before .before .before .if2 .left) 0 (omega arith))
+cast-write c = omega (arith, reference (c .before .before .before .before))
 
 write-requires : tie.Need-write-requires
 write-requires c κs = search needs
@@ -58,11 +81,11 @@ same-length c = search needs
 
 returns-3 : tie.Need-returns-3
 returns-3 c =
-    let ns = now (c .before .before .before .before .before .before .before .before .before .before .before .before .before .before .args .numbers) in
-    let h = c .before .before .before .before .before .before .before .before .before .holds in
-    let w = c .before .before .write .ensures in
-    let p = c .before .before .before .before .before .priority-of .ensures in
-    (rw p at (w .0) ∙ code-own 3 referenceMost ns _ (h .result) (c .before .before .before .before .before .before .before .before .before .before .before .if1 .left) (h .ensures) (c .before .before .before .before .before .before .before .before .if2 .left), rw (fits-own 3 referenceMost ns (h .result) (c .before .before .before .before .before .before .before .before .before .before .before .if1 .left) (h .ensures) (c .before .before .before .before .before .before .before .before .if2 .left)) (rw p at (w .1)))
+    let w = c .before .before .write in
+    let c5 = c .before .before .before .before .before in
+    let c8 = c5 .before .before .before in
+    let e = c5 .priority-of .ensures in
+    octets-own 3 referenceMost (numbers c8) _ _ _ (w .result) _ (fitting c8) (rw e at (w .ensures .0)) (rw e at (w .ensures .1))
 
 pub write-spec : {M : Type 1} → statement M
 write-spec =

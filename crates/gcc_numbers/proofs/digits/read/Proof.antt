@@ -25,8 +25,10 @@ same-length c = search needs
 
 returns : tie.Need-returns
 returns c =
-    let ns = now (c .before .before .before .before .before .before .before .before .before .before .before .before .before .args .numbers) in
-    rw (← c .before .before .before .before .before .before .before .before .before .before .read .ensures) (refl, widened (length ns) _ _ _ ns (c .before .before .before .before .before .before .before .clear .ensures) (c .before .before .widen .ensures))
+    let c7 = c .before .before .before .before .before .before .before in
+    let c10 = c7 .before .before .before in
+    let ns = now (c10 .before .before .before .args .numbers) in
+    rw (← c10 .read .ensures) (refl, widened (length ns) _ _ _ ns (c7 .clear .ensures) (c .before .before .widen .ensures))
 
 pub read-spec : {M : Type 1} → statement M
 read-spec =

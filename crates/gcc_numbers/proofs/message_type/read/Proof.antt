@@ -27,7 +27,9 @@ same-length : tie.Need-same-length
 same-length c = search needs
 
 returns : tie.Need-returns
-returns c = rw (← c .before .before .before .before .before .before .before .read .ensures) (refl, simp (flag-byte, c .before .before .before .before .before .number-of .ensures) at (c .before .before .store .ensures))
+returns c =
+    let c5 = c .before .before .before .before .before in
+    rw (← c5 .before .before .read .ensures) (refl, simp (flag-byte, c5 .number-of .ensures) at (c .before .before .store .ensures))
 
 pub read-spec : {M : Type 1} → statement M
 read-spec =

@@ -1,8 +1,11 @@
 -- `gcc_numbers::sms::write` meets its contract. Assumes nothing.
 use denote.Ref.{now}
-use mathlib.Core.Path.{refl}
-use Rattle.gcc_numbers.specs.ElementNumbers.{smsMost}
-use Rattle.gcc_numbers.proofs.Refusals.{code-13, code-12, code-own}
+use mathlib.Core.Path.{_≡_, refl}
+use mathlib.Core.List.{List}
+use mathlib.Core.Bool.{true}
+use Prim.Native.Nat.{ℕ}
+use Rattle.gcc_numbers.specs.ElementNumbers.{fits, smsMost}
+use Rattle.gcc_numbers.proofs.Refusals.{code-13, code-12, fits-own, code-fits}
 use borrow.Author.Needs.{needs}
 use Rattle.gcc_numbers.proofs.sms.write.Statement.{statement}
 use Rattle.gcc_numbers.proofs.sms.write.Tie as tie
@@ -18,9 +21,15 @@ holds-requires c κs = search needs
 
 returns-2 : tie.Need-returns-2
 returns-2 c =
-    let ns = now (c .before .before .before .before .before .args .numbers) in
-    let h = c .before .holds in
-    (code-12 2 smsMost ns _ (h .result) (c .before .before .before .if1 .left) (h .ensures) (c .if2 .taken), refl)
+    let c3 = c .before .before .before in
+    (code-12 2 smsMost (now (c3 .before .before .args .numbers)) _ _ (c3 .if1 .left) (c .before .holds .ensures) (c .if2 .taken), refl)
+
+abbrev numbers : tie.Else2 → List ℕ
+numbers c = now (c .before .before .before .before .before .args .numbers)
+
+-- both tests are past
+fitting : (c : tie.Else2) → fits 2 smsMost (numbers c) ≡ true
+fitting c = fits-own 2 smsMost (numbers c) _ (c .before .before .before .if1 .left) (c .before .holds .ensures) (c .if2 .left)
 
 shared-slice-read-t11 : tie.Need-shared-slice-read-t11
 shared-slice-read-t11 c = search needs
@@ -33,8 +42,8 @@ write-requires c κs = search needs
 
 returns-3 : tie.Need-returns-3
 returns-3 c =
-    let h = c .before .before .before .before .holds in
-    (code-own 2 smsMost (now (c .before .before .before .before .before .before .before .before .args .numbers)) _ (h .result) (c .before .before .before .before .before .before .if1 .left) (h .ensures) (c .before .before .before .if2 .left), c .write .ensures)
+    let d = c .before .before .before in
+    (code-fits 2 smsMost (numbers d) _ (fitting d), c .write .ensures)
 
 pub write-spec : {M : Type 1} → statement M
 write-spec =

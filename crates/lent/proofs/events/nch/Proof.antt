@@ -79,7 +79,7 @@ returns-3 c =
     let r = c8 .read-into .ensures in
     let v = ap recordFrom (read-whole s _ (r .1)) ∙ record-read s in
     fed-accepted l (nch (a .time) s) _ (c11 .early .ensures) (c10 .if1 .left) _ _ _ (sym (ap (λ (x : Refusal). x .number) (r .0)) ∙ c5 .if2 .left)
-    (contentOf (heardNch s)) refl (numbering-rule (decodeOf l) (readOf s .«record» .numbered) (readOf s .«record» .nln)) refl (rw v at (c2 .accept-nch .ensures))
+    (contentOf (heardNch s)) refl (numbering-rule (decodeOf l) (readOf s .«record» .hasNln) (readOf s .«record» .nln)) refl (rw v at (c2 .accept-nch .ensures))
 
 pub nch-spec : {M : Type 1} → statement M
 nch-spec =

@@ -133,7 +133,7 @@ add-described c =
       flag-within (c .before .before .before .before .before .before .before),
       few-described _ _ _ _ _ _ _ _ (l .inv),
       byte-lt
-          (c .before .before .before .before .before .read .result .call .described),
+          (c .before .before .before .before .before .read .result .call .hasDescription),
       c .before .before .before .before .before .before .before .before .before .before .before .before .before .before .pre .0,
     )
 

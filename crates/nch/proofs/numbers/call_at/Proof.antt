@@ -53,7 +53,7 @@ returns c =
       acknowledged = c .before .before .before .before .flag-at2 .ensures i;
       priority = c .before .before .before .octet-at .ensures i;
       cipher = c .before .before .octet-at2 .ensures i;
-      described = c .before .flag-at3 .ensures i;
+      hasDescription = c .before .flag-at3 .ensures i;
       description = c .description-at .ensures i;
     }
 

@@ -31,7 +31,7 @@ returns c =
     λ i.
     record {
       segment = c .before .before .flag-at .ensures i;
-      given = c .before .flag-at2 .ensures i;
+      hasRandom = c .before .flag-at2 .ensures i;
       rand = c .number-at .ensures i;
     }
 

@@ -37,7 +37,7 @@ unfolding recordBy
 returns c =
     λ i.
     record {
-      numbered = c .before .before .before .before .before .before .before .before .flag-at .ensures i;
+      hasNln = c .before .before .before .before .before .before .before .before .flag-at .ensures i;
       nln = c .before .before .before .before .before .before .before .octet-at .ensures i;
       callcount = c .before .before .before .before .before .before .number-at .ensures i;
       calls =

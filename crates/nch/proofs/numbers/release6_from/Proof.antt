@@ -30,8 +30,8 @@ unfolding release6By
 returns c =
     λ i.
     record {
-      there = c .before .before .before .before .before .before .flag-at .ensures i;
-      counted = c .before .before .before .before .before .flag-at2 .ensures i;
+      hasRelease = c .before .before .before .before .before .before .flag-at .ensures i;
+      hasCount = c .before .before .before .before .before .flag-at2 .ensures i;
       cellcount = c .before .before .before .before .octet-at .ensures i;
       reducedcount = c .before .before .before .number-at .ensures i;
       reduced = c .before .before .reduceds-from .ensures i;

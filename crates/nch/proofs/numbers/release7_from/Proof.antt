@@ -67,7 +67,7 @@ unfolding release7By
 returns c =
     λ i.
     record {
-      there = c .before .before .before .before .before .before .before .before .before .before .before .before .before .before .before .flag-at .ensures i;
+      hasRelease = c .before .before .before .before .before .before .before .before .before .before .before .before .before .before .before .flag-at .ensures i;
       markcount = c .before .before .before .before .before .before .before .before .before .before .before .before .before .before .number-at .ensures i;
       marks =
           c .before .before .before .before .before .before .before .before .before .before .before .before .before .flag-at2 .ensures i
@@ -75,14 +75,14 @@ returns c =
           ∷ c .before .before .before .before .before .before .before .before .before .before .before .flag-at4 .ensures i
           ∷ c .before .before .before .before .before .before .before .before .before .before .flag-at5 .ensures i
           ∷ [];
-      uplinked = c .before .before .before .before .before .before .before .before .before .flag-at6 .ensures i;
+      hasUplink = c .before .before .before .before .before .before .before .before .before .flag-at6 .ensures i;
       uplink = c .before .before .before .before .before .before .before .before .flag-at7 .ensures i;
-      amr = c .before .before .before .before .before .before .before .flag-at8 .ensures i;
-      fullrated = c .before .before .before .before .before .before .flag-at9 .ensures i;
+      hasAmr = c .before .before .before .before .before .before .before .flag-at8 .ensures i;
+      hasFullrate = c .before .before .before .before .before .before .flag-at9 .ensures i;
       fullrate = c .before .before .before .before .before .octet-at .ensures i;
-      halfrated = c .before .before .before .before .flag-at10 .ensures i;
+      hasHalfrate = c .before .before .before .before .flag-at10 .ensures i;
       halfrate = c .before .before .before .octet-at2 .ensures i;
-      sms = c .before .before .flag-at11 .ensures i;
+      hasSms = c .before .before .flag-at11 .ensures i;
       confidential = c .before .flag-at12 .ensures i;
       private = c .flag-at13 .ensures i;
     }

@@ -47,7 +47,7 @@ cast-described c = omega arith
 add-described : tie.Need-add-described Inv-loop μ-loop
 add-described c =
     let l = c .before .before .before .before .before in
-    omega (arith, l .loop .inv .1 .few, byte-lt (one l .described))
+    omega (arith, l .loop .inv .1 .few, byte-lt (one l .hasDescription))
 
 add-i : tie.Need-add-i Inv-loop μ-loop
 add-i c = omega arith
@@ -63,7 +63,7 @@ loop-again c =
     ⊎-elim
     (λ w. (
       rw (w .3) (counted-next ciphered _ _ _ _ (p .0) noCall h (w .0 .taken) (leb 1 (one l .cipher)) refl),
-      rw (w .4) (counted-next isDescribed _ _ _ _ (p .1) noCall h (w .0 .taken) (one l .described) refl),
+      rw (w .4) (counted-next isDescribed _ _ _ _ (p .1) noCall h (w .0 .taken) (one l .hasDescription) refl),
     ))
     (λ w. (rw (w .1) (counted-past ciphered _ _ _ _ (p .0) (w .0 .left)), rw (w .2) (counted-past isDescribed _ _ _ _ (p .1) (w .0 .left))))
     (c .if1 .came)

@@ -14,11 +14,11 @@ use Rattle.nch_write.proofs.checks.release7_in_range.Tie as tie
 
 -- past the tests of an absent release
 empty : (c : tie.Joined2) → let r : Release7 = c .before .before .before .before .args .r in
-    pick (r .there) true (both (eqb (r .markcount) 0) (both (not (r .uplinked)) (both (not (r .amr)) (not (r .sms))))) ≡ true
+    pick (r .hasRelease) true (both (eqb (r .markcount) 0) (both (not (r .hasUplink)) (both (not (r .hasAmr)) (not (r .hasSms))))) ≡ true
 empty c =
     let r : Release7 = c .before .before .before .before .args .r in
-    ⊎-elim (λ w. rw (not-true (r .there) (w .0 .taken), eq-eqb (r .markcount) 0 (w .2 .left), w .3 .left, w .4 .left, w .5 .left))
-    (λ w. rw (not-false (r .there) (w .left))) (c .if2 .came)
+    ⊎-elim (λ w. rw (not-true (r .hasRelease) (w .0 .taken), eq-eqb (r .markcount) 0 (w .2 .left), w .3 .left, w .4 .left, w .5 .left))
+    (λ w. rw (not-false (r .hasRelease) (w .left))) (c .if2 .came)
 
 returns : tie.Need-returns
 unfolding release7InRange
@@ -26,19 +26,19 @@ returns c = rw (lt-leb (c .before .before .args .r .markcount) 4 (c .if1 .taken)
 
 returns-2 : tie.Need-returns-2
 unfolding release7InRange
-returns-2 c = rw (le-leb (c .before .before .before .before .before .before .args .r .markcount) 4 (c .before .before .before .before .if1 .left), not-true (c .before .before .before .before .before .before .args .r .there) (c .before .before .if2 .taken), ne-eqb (c .before .before .before .before .before .before .args .r .markcount) 0 (c .if3 .taken))
+returns-2 c = rw (le-leb (c .before .before .before .before .before .before .args .r .markcount) 4 (c .before .before .before .before .if1 .left), not-true (c .before .before .before .before .before .before .args .r .hasRelease) (c .before .before .if2 .taken), ne-eqb (c .before .before .before .before .before .before .args .r .markcount) 0 (c .if3 .taken))
 
 returns-3 : tie.Need-returns-3
 unfolding release7InRange
-returns-3 c = rw (le-leb (c .before .before .before .before .before .before .before .args .r .markcount) 4 (c .before .before .before .before .before .if1 .left), not-true (c .before .before .before .before .before .before .before .args .r .there) (c .before .before .before .if2 .taken), eq-eqb (c .before .before .before .before .before .before .before .args .r .markcount) 0 (c .before .if3 .left), c .if4 .taken)
+returns-3 c = rw (le-leb (c .before .before .before .before .before .before .before .args .r .markcount) 4 (c .before .before .before .before .before .if1 .left), not-true (c .before .before .before .before .before .before .before .args .r .hasRelease) (c .before .before .before .if2 .taken), eq-eqb (c .before .before .before .before .before .before .before .args .r .markcount) 0 (c .before .if3 .left), c .if4 .taken)
 
 returns-4 : tie.Need-returns-4
 unfolding release7InRange
-returns-4 c = rw (le-leb (c .before .before .before .before .before .before .before .before .args .r .markcount) 4 (c .before .before .before .before .before .before .if1 .left), not-true (c .before .before .before .before .before .before .before .before .args .r .there) (c .before .before .before .before .if2 .taken), eq-eqb (c .before .before .before .before .before .before .before .before .args .r .markcount) 0 (c .before .before .if3 .left), c .before .if4 .left, c .if5 .taken)
+returns-4 c = rw (le-leb (c .before .before .before .before .before .before .before .before .args .r .markcount) 4 (c .before .before .before .before .before .before .if1 .left), not-true (c .before .before .before .before .before .before .before .before .args .r .hasRelease) (c .before .before .before .before .if2 .taken), eq-eqb (c .before .before .before .before .before .before .before .before .args .r .markcount) 0 (c .before .before .if3 .left), c .before .if4 .left, c .if5 .taken)
 
 returns-5 : tie.Need-returns-5
 unfolding release7InRange
-returns-5 c = rw (le-leb (c .before .before .before .before .before .before .before .before .before .args .r .markcount) 4 (c .before .before .before .before .before .before .before .if1 .left), not-true (c .before .before .before .before .before .before .before .before .before .args .r .there) (c .before .before .before .before .before .if2 .taken), eq-eqb (c .before .before .before .before .before .before .before .before .before .args .r .markcount) 0 (c .before .before .before .if3 .left), c .before .before .if4 .left, c .before .if5 .left, c .if6 .taken)
+returns-5 c = rw (le-leb (c .before .before .before .before .before .before .before .before .before .args .r .markcount) 4 (c .before .before .before .before .before .before .before .if1 .left), not-true (c .before .before .before .before .before .before .before .before .before .args .r .hasRelease) (c .before .before .before .before .before .if2 .taken), eq-eqb (c .before .before .before .before .before .before .before .before .before .args .r .markcount) 0 (c .before .before .before .if3 .left), c .before .before .if4 .left, c .before .if5 .left, c .if6 .taken)
 
 marks-in-range-requires : tie.Need-marks-in-range-requires
 marks-in-range-requires c κs = omega arith

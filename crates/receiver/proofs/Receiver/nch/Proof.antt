@@ -62,7 +62,7 @@ returns-3 c =
     let a = s .before .before .args in
     let z = ap (λ (x : Nch). x .refusal .number) (sym (m .read .ensures)) ∙ c .before .before .before .before .before .before .if2 .left in
     let n = m .read .result .«record» in
-    let rule = numbering-rule (a .self) (n .numbered) (n .nln) ∙ ap (λ (x : Nch). ruleBy (a .self) (numbering (x .«record» .numbered) (x .«record» .nln))) (m .read .ensures) in
+    let rule = numbering-rule (a .self) (n .hasNln) (n .nln) ∙ ap (λ (x : Nch). ruleBy (a .self) (numbering (x .«record» .hasNln) (x .«record» .nln))) (m .read .ensures) in
     c .accepted .ensures
     ∙ is-accepted (a .self) _ (heardNch (now (a .octets))) (s .is-late .ensures) (m .before .if1 .left) z (rw (m .read .ensures) at (c .before .nch-entries .ensures))
     (c .before .before .before .nln-rule .ensures ∙ rule) (rw (m .read .ensures) at (c .before .before .cell-after .ensures))

@@ -19,7 +19,7 @@ returns-3 c =
     simp (
       sym (c .before .before .before .before .is-ciphered .ensures) ∙ not-false _ (c .before .before .before .if1 .left),
       c .before .before .if2 .left,
-      not-true (c .before .before .before .before .before .args .e .given) (c .if3 .taken),
+      not-true (c .before .before .before .before .before .args .e .hasRandom) (c .if3 .taken),
     )
 
 segment-is-requires : tie.Need-segment-is-requires
@@ -30,7 +30,7 @@ returns-4 c =
     simp (
       sym (c .before .before .before .before .before .is-ciphered .ensures) ∙ not-false _ (c .before .before .before .before .if1 .left),
       c .before .before .before .if2 .left,
-      not-false (c .before .before .before .before .before .before .args .e .given) (c .before .if3 .left),
+      not-false (c .before .before .before .before .before .before .args .e .hasRandom) (c .before .if3 .left),
       c .segment-is .ensures,
     )
 

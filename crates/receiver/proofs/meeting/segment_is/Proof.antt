@@ -12,13 +12,13 @@ returns : tie.Need-returns
 returns c = rw (sym (c .before .asks .ensures) ∙ not-true _ (c .if1 .taken))
 
 returns-2 : tie.Need-returns-2
-returns-2 c = rw (sym (c .before .before .before .asks .ensures) ∙ not-false _ (c .before .before .if1 .left), not-true (c .before .before .before .before .args .e .segmented) (c .if2 .taken))
+returns-2 c = rw (sym (c .before .before .before .asks .ensures) ∙ not-false _ (c .before .before .if1 .left), not-true (c .before .before .before .before .args .e .hasSegment) (c .if2 .taken))
 
 returns-3 : tie.Need-returns-3
 returns-3 c =
     rw (
       sym (c .before .before .before .before .asks .ensures) ∙ not-false _ (c .before .before .before .if1 .left),
-      not-false (c .before .before .before .before .before .args .e .segmented) (c .before .if2 .left),
+      not-false (c .before .before .before .before .before .args .e .hasSegment) (c .before .if2 .left),
       c .if3 .taken,
     )
 
@@ -26,7 +26,7 @@ returns-4 : tie.Need-returns-4
 returns-4 c =
     rw (
       sym (c .before .before .before .before .before .asks .ensures) ∙ not-false _ (c .before .before .before .before .if1 .left),
-      not-false (c .before .before .before .before .before .before .args .e .segmented) (c .before .before .if2 .left),
+      not-false (c .before .before .before .before .before .before .args .e .hasSegment) (c .before .before .if2 .left),
       c .before .if3 .left,
     )
 

@@ -13,18 +13,18 @@ four : (c : tie.Start) → length (c .args .m .release7 .marks) ≡ 4
 four c = sym (length-map (c .args .m .release7 .marks) _) ∙ c .good .0 .1 .1 .1 .1 .1 .1 .1 .0 .1 .1 .1 .1 .0 .1 .0 .1
 
 returns : tie.Need-returns
-returns c = rw (not-true (c .before .before .args .c .described) (c .if1 .taken))
+returns c = rw (not-true (c .before .before .args .c .hasDescription) (c .if1 .taken))
 
 returns-2 : tie.Need-returns-2
 returns-2 c =
     let x = c .before .before .before .before .args in
-    rw (not-false (x .c .described) (c .before .before .if1 .left), nth-past (x .k) (x .m .release7 .markcount) (x .m .release7 .marks) (omega arith))
+    rw (not-false (x .c .hasDescription) (c .before .before .if1 .left), nth-past (x .k) (x .m .release7 .markcount) (x .m .release7 .marks) (omega arith))
 
 returns-3 : tie.Need-returns-3
 returns-3 c =
     let x = c .before .before .before .before .before .args in
     rw (
-      not-false (x .c .described) (c .before .before .before .if1 .left),
+      not-false (x .c .hasDescription) (c .before .before .before .if1 .left),
       nth-past (x .k) (x .m .release7 .markcount) (x .m .release7 .marks) (omega (arith, four (c .before .before .before .before .before))),
     )
 
@@ -35,7 +35,7 @@ returns-4 : tie.Need-returns-4
 returns-4 c =
     let x = c .before .before .before .before .before .before .before .args in
     rw (
-      not-false (x .c .described) (c .before .before .before .before .before .if1 .left),
+      not-false (x .c .hasDescription) (c .before .before .before .before .before .if1 .left),
       nth-there (x .k) (x .m .release7 .markcount) (x .m .release7 .marks) false (omega arith) (omega (arith, four (c .before .before .before .before .before .before .before))),
     )
 

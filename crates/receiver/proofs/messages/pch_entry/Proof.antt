@@ -10,9 +10,9 @@ use Rattle.receiver.proofs.messages.pch_entry.Tie as tie
 used : (c : tie.Joined1) → c .if1 .given ≡ halfRand (c .before .before .args .p)
 used c =
     let p = c .before .before .args .p in
-    ⊎-elim (λ w. let a : p .given ≡ true = w .0 .taken in let b : p .full ≡ true = w .1 .taken in w .2 ∙ sym (rw (a, b)))
-    (⊎-elim (λ w. let a : p .given ≡ true = w .0 .taken in let b : p .full ≡ false = w .1 .left in w .2 ∙ sym (rw (a, b)))
-    (λ w. let a : p .given ≡ false = w .0 .left in w .1 ∙ rw a))
+    ⊎-elim (λ w. let a : p .hasRandom ≡ true = w .0 .taken in let b : p .full ≡ true = w .1 .taken in w .2 ∙ sym (rw (a, b)))
+    (⊎-elim (λ w. let a : p .hasRandom ≡ true = w .0 .taken in let b : p .full ≡ false = w .1 .left in w .2 ∙ sym (rw (a, b)))
+    (λ w. let a : p .hasRandom ≡ false = w .0 .left in w .1 ∙ rw a))
     (c .if1 .came)
 
 returns : tie.Need-returns
