@@ -9,7 +9,7 @@ struct row {
 static const struct row refusals[] = {
     [ASTERNHAKEN_ACCEPTED] = { "accepted", "Nothing is refused." },
     [ASTERNHAKEN_REFUSED_MESSAGE_LENGTH] = { "message length", "The message has a wrong length: an NCH message has 20 octets, a FACCH message has 2 to 23." },
-    [ASTERNHAKEN_REFUSED_RAN_OUT] = { "bits ran out", "The bits of the message ran out inside a part." },
+    [ASTERNHAKEN_REFUSED_RAN_OUT] = { "bits ran out", "The bits of the message ran out before the releases." },
     [ASTERNHAKEN_REFUSED_ALLOCATION_LENGTH] = { "allocation length", "The length of a mobile allocation is not 1 to 8." },
     [ASTERNHAKEN_REFUSED_REFERENCE] = { "reference", "The reference of a message, of a call reference element, of a joined key or of a PCH entry is above 99,999,999." },
     [ASTERNHAKEN_REFUSED_HOPPING] = { "hopping", "The hopping bit of a channel description is unlike the hopping flag behind it." },
@@ -21,6 +21,8 @@ static const struct row refusals[] = {
     [ASTERNHAKEN_REFUSED_FORM_SIZE] = { "form size", "The written form is over 160 bits, or the buffer to write is not of its exact size." },
     [ASTERNHAKEN_REFUSED_RANGE] = { "range", "A field is out of its range, an absent part or an unused place to be written is not zero, or parts of a PCH entry do not fit each other." },
     [ASTERNHAKEN_REFUSED_LENGTH] = { "length", "An element, an array to write, a PCH entry or the lent state has a wrong length, or a cause never ends." },
+    [ASTERNHAKEN_REFUSED_RAN_OUT_6] = { "bits ran out in Release 6", "The bits of the message ran out inside Release 6." },
+    [ASTERNHAKEN_REFUSED_RAN_OUT_7] = { "bits ran out in Release 7", "The bits of the message ran out inside Release 7." },
 };
 
 static const struct row tellings[] = {

@@ -122,9 +122,12 @@ static void show_entry(const struct asternhaken_entry *entry, uint32_t tick)
     keep(entry, tick);
 }
 
-static void show_refusal(uint32_t refusal)
+/* A refusal of bits that ran out says at which bit: 0 beside every other number. */
+static void show_refusal(uint32_t result)
 {
-    printf("refused %d: %s\n", (int)refusal, asternhaken_refusal_word(refusal));
+    printf("refused %d", (int)ASTERNHAKEN_REFUSAL(result));
+    if (ASTERNHAKEN_BIT(result)) printf(" at bit %d", (int)ASTERNHAKEN_BIT(result));
+    printf(": %s\n", asternhaken_refusal_word(ASTERNHAKEN_REFUSAL(result)));
 }
 
 /* What the library said to an event. */
@@ -132,7 +135,7 @@ static void show_answer(uint32_t result, uint32_t tick, const char *word)
 {
     show_event(tick, word);
     if (ASTERNHAKEN_REFUSAL(result) != ASTERNHAKEN_ACCEPTED) {
-        show_refusal(ASTERNHAKEN_REFUSAL(result));
+        show_refusal(result);
         return;
     }
     struct asternhaken_answer answer;
@@ -220,7 +223,7 @@ static const char *set_up(char **words, size_t n)
     uint32_t result = asternhaken_setup(state, sizeof state, keys, n - 5, tick, t3206, t3208, t3210);
     if (ASTERNHAKEN_REFUSAL(result) != ASTERNHAKEN_ACCEPTED) {
         show_event(tick, "setup");
-        show_refusal(ASTERNHAKEN_REFUSAL(result));
+        show_refusal(result);
         return NULL; /* the state is as it was, and so are the calls */
     }
     if (is_set_up) {

@@ -175,7 +175,7 @@ class ControlRoom:
         try:
             self.event(words)
         except Refused as refused:
-            self.show(int(words[1]), words[0], ["refused %d: %s" % (refused.number, refused.word)])
+            self.show(int(words[1]), words[0], ["refused %d%s: %s" % (refused.number, " at bit %d" % refused.bit if refused.bit else "", refused.word)])
 
 
 def main():

@@ -19,8 +19,8 @@
  * but what stands in the state, so each state may be used by a thread of its own, and a state may be copied, saved and sent.
  *
  * Every function that is lent something, but for asternhaken_is_set_up, answers with a refusal number in the low octet of its result, and ASTERNHAKEN_ACCEPTED (0)
- * where it refuses nothing. The upper bits are 0 today and kept for later parts of an answer: compare with ASTERNHAKEN_REFUSAL(result). A refused event leaves every
- * octet of the state as it was, the clock included. The octets of the state are laid out in docs/STATE.md; docs/C-API.md tells a host's programmer the rest.
+ * where it refuses nothing. Where bits ran out (2, 14, 15), the number of the bit where the missing field begins stands above it, else 0: take the two apart with
+ * ASTERNHAKEN_REFUSAL(result) and ASTERNHAKEN_BIT(result). A refused event leaves every octet of the state as it was, the clock included. The octets of the state are laid out in docs/STATE.md; docs/C-API.md tells a host's programmer the rest.
  *
  * Names: ASTERNHAKEN_REFUSED_ is a refusal number, ASTERNHAKEN_TOLD_ a told number, ASTERNHAKEN_PART_ a part for asternhaken_read, ASTERNHAKEN_PCH_ a number of a PCH entry.
  * A flag that says whether something is there ends in _GIVEN, or _given: channel_given stands beside channel. What is not there is 0.
@@ -94,13 +94,14 @@ uint32_t asternhaken_version(void);
 /* A subscription's key: the reference (at most 99,999,999) times 2 plus the service flag, 1 for VGCS and 0 for VBS. */
 #define ASTERNHAKEN_KEY(reference, vgcs) ((uint32_t)(reference) * 2u + (uint32_t)(vgcs))
 
-/* The refusal number of a result. */
+/* The refusal number of a result; the bit where the missing field begins, with 2, 14 and 15, else 0. Bits are numbered from 0, the top bit of the first octet. */
 #define ASTERNHAKEN_REFUSAL(result) ((result) & 255u)
+#define ASTERNHAKEN_BIT(result) ((result) >> 8)
 
 enum asternhaken_refusal {
     ASTERNHAKEN_ACCEPTED = 0,
     ASTERNHAKEN_REFUSED_MESSAGE_LENGTH = 1,    /* an NCH message not of 20 octets, a FACCH message not of 2 to 23 */
-    ASTERNHAKEN_REFUSED_RAN_OUT = 2,           /* the bits ran out inside a part */
+    ASTERNHAKEN_REFUSED_RAN_OUT = 2,           /* the bits ran out before the releases */
     ASTERNHAKEN_REFUSED_ALLOCATION_LENGTH = 3, /* a mobile allocation's length is not 1 to 8 */
     ASTERNHAKEN_REFUSED_REFERENCE = 4,         /* a reference above 99,999,999, in a message or a call reference element; a key above 199,999,999, joined or on the PCH */
     ASTERNHAKEN_REFUSED_HOPPING = 5,           /* the hopping bit is unlike the hopping flag */
@@ -111,7 +112,9 @@ enum asternhaken_refusal {
     ASTERNHAKEN_REFUSED_SETUP = 10,            /* over 50 keys, a key above 199,999,999, a repeat, a timer outside 1 to 60,000 */
     ASTERNHAKEN_REFUSED_FORM_SIZE = 11,        /* a written form over 160 bits, or a write buffer not of the form's exact size */
     ASTERNHAKEN_REFUSED_RANGE = 12,            /* a field out of its range; to write, anything but zero in an absent part or an unused place; PCH: parts that do not fit each other */
-    ASTERNHAKEN_REFUSED_LENGTH = 13            /* an element, an array to write, a PCH entry or the lent state of a wrong length; a cause that never ends */
+    ASTERNHAKEN_REFUSED_LENGTH = 13,           /* an element, an array to write, a PCH entry or the lent state of a wrong length; a cause that never ends */
+    ASTERNHAKEN_REFUSED_RAN_OUT_6 = 14,        /* the bits ran out inside Release 6 */
+    ASTERNHAKEN_REFUSED_RAN_OUT_7 = 15         /* the bits ran out inside Release 7 */
 };
 
 /* What an entry of a message is told. Only 1 to 3 carry a record. */

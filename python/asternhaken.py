@@ -54,7 +54,7 @@ PARTS = (
 
 # The refusal numbers.
 (ACCEPTED, REFUSED_MESSAGE_LENGTH, REFUSED_RAN_OUT, REFUSED_ALLOCATION_LENGTH, REFUSED_REFERENCE, REFUSED_HOPPING, REFUSED_RANDOM_ENTRIES, REFUSED_EMERGENCY_MARKS,
- REFUSED_PAGING, REFUSED_CLOCK, REFUSED_SETUP, REFUSED_FORM_SIZE, REFUSED_RANGE, REFUSED_LENGTH) = range(14)
+ REFUSED_PAGING, REFUSED_CLOCK, REFUSED_SETUP, REFUSED_FORM_SIZE, REFUSED_RANGE, REFUSED_LENGTH, REFUSED_RAN_OUT_6, REFUSED_RAN_OUT_7) = range(16)
 
 # The told numbers; 1 to 3 are complete and carry a record.
 (TOLD_NOT_OURS, TOLD_CLEAR, TOLD_ONE_PIECE, TOLD_JOINED, TOLD_HALF_STORED, TOLD_HALF_HELD, TOLD_NO_CHANNEL, TOLD_UNUSABLE, TOLD_SECOND_BEFORE_FIRST) = range(9)
@@ -140,12 +140,14 @@ def _u32(number, what):
 
 
 class Refused(Exception):
-    """The library refused a call. number is the ground's, word its short word; as text it is the sentence."""
+    """The library refused a call. number is the ground's, word its short word; as text it is the sentence. bit: where bits ran out (2, 14, 15), the number of the
+    bit at which the missing field begins, else 0."""
 
-    def __init__(self, number):
-        super().__init__(refusal_sentence(number))
-        self.number = number
-        self.word = refusal_word(number)
+    def __init__(self, result):
+        self.number = result & 255
+        self.bit = result >> 8
+        self.word = refusal_word(self.number)
+        super().__init__(refusal_sentence(self.number))
 
 
 # The record of a complete call, or of a half: a number for each part from call_reference on. What is not there is 0.
@@ -228,9 +230,9 @@ class Receiver:
         return bytes(self._state)
 
     def _call(self, function, *words):
-        refusal = function(self._lent, STATE_LENGTH, *words) & 255
-        if refusal:
-            raise Refused(refusal)
+        result = function(self._lent, STATE_LENGTH, *words)
+        if result:
+            raise Refused(result)
 
     @property
     def is_set_up(self):

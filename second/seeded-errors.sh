@@ -1,14 +1,15 @@
 #!/usr/bin/env bash
 # Tries the comparison itself: each error of seeded-errors.txt is put into a copy of the second program, which is then built and compared
 # with the archive in a short run of random inputs alone; the hand-written scenes and the vectors are left out. Every error must show up as
-# a difference, and one that keeps the random inputs from something as that being met too seldom. The copy without an error must show
-# nothing. The last line is `N passed, M failed`.
+# a difference, and one that keeps the random inputs from something as that being met too seldom. An error that a short run does not meet
+# must show up in a run with as many events as the comparison itself has. The copy without an error must show nothing. The last line is
+# `N passed, M failed`.
 #
 #   seeded-errors.sh               all of it
 #   seeded-errors.sh --list FILE   only that the list is long enough, of FILE
 set -u
 # How many errors must be listed, of either kind: those that give a wrong answer, and those that are met too seldom.
-least_wrong=190 least_seldom=8
+least_wrong=206 least_seldom=9
 here=$(cd "$(dirname "$0")" && pwd)
 case $(uname -m) in x86_64) lib=$here/../target/lib ;; *) lib=$here/../target/native ;; esac
 # What the environment names is meant from this folder, as build.rs means it.
@@ -18,6 +19,7 @@ export ASTERNHAKEN_LIB=$lib
 workers=${WORKERS:-$(nproc)}
 if [ "$workers" -gt 8 ]; then workers=8; fi
 runs=(--random --messages 20000 --steps 8000)
+long_runs=(--random --messages 20000 --steps 100000)
 work=$here/target/seeded-errors
 list=$here/seeded-errors.txt
 if [ "${1:-}" = --list ]; then list=$2; fi
@@ -83,6 +85,8 @@ compare() {
     (cd "$1" && CARGO_TARGET_DIR=$1/target cargo build --offline --quiet --profile seeded) >"$1/output" 2>&1 || return 2
     timeout 120 "$1/target/seeded/compare" --stop "${runs[@]}" >"$1/output" 2>&1
 }
+# Runs what was built once more, for longer.
+compare_longer() { timeout 600 "$1/target/seeded/compare" --stop "${long_runs[@]}" >"$1/output" 2>&1; }
 
 # Worker $1 of $workers takes every so many-th error. The first of its runs is the program as it is: where that differs, a difference
 # behind an error would say nothing, and none is tried.
@@ -101,7 +105,7 @@ take_errors() {
         cp "$here"/src/*.rs "$copy/src/"
         if ! apply "$i" "$copy"; then verdict="FAILED: does not apply"
         else
-            compare "$copy"
+            compare "$copy" && compare_longer "$copy"
             case $? in
                 1) if grep -qE "^ *${shows[$i]}" "$copy/output"; then verdict=passed; else verdict="FAILED: not found"; fi ;;
                 2) verdict="FAILED: does not build"; cp "$copy/output" "$work/build-$i.output" ;;

@@ -63,6 +63,8 @@ uint32_t __wrap_asternhaken_nch_read(const uint8_t *octets, size_t n, uint64_t *
     if (result && seeded("a refused reading leaves a number")) numbers[n_numbers - 1] = 1;
     if (!result && seeded("a reading is too long")) numbers[n_numbers] = 0;
     if (!result && seeded("a reading is another")) numbers[ASTERNHAKEN_NCH_USED]++;
+    if (ASTERNHAKEN_BIT(result) && seeded("a bit number is another")) result += 256;
+    if (ASTERNHAKEN_REFUSAL(result) == ASTERNHAKEN_REFUSED_RAN_OUT_6 && seeded("Release 6 is not told apart")) result -= ASTERNHAKEN_REFUSED_RAN_OUT_6 - ASTERNHAKEN_REFUSED_RAN_OUT;
     return result;
 }
 

@@ -324,11 +324,11 @@ static void take_record(uint64_t *numbers, const struct run *run)
 typedef uint32_t reader(const uint8_t *octets, size_t n, uint64_t *numbers, size_t n_numbers);
 typedef uint32_t writer(const uint64_t *numbers, size_t n_numbers, uint8_t *octets, size_t n);
 
-/* A refusal with the bit number that the upper bits of a result are kept for. */
+/* A refusal with its bit number. */
 static uint32_t say_result(uint32_t result)
 {
     say_number(ASTERNHAKEN_REFUSAL(result));
-    say_number(result >> 8);
+    say_number(ASTERNHAKEN_BIT(result));
     return ASTERNHAKEN_REFUSAL(result);
 }
 

@@ -105,6 +105,8 @@ leaving idle mode is a tick alone:must answer: 0 0 1 0$
 a refused setup gives another number:must answer: 10$
 an event has an upper bit:must answer: 0 0 
 a reading is another:must answer: 0 0 4 
+a bit number is another:must answer: 2 [1-9]
+Release 6 is not told apart:must answer: 14 [1-9]
 a part is another:must answer: 0 0 
 END
 

@@ -61,7 +61,7 @@ static void show_record(uint32_t e)
 static void show_answer(uint32_t result)
 {
     if (result != ASTERNHAKEN_ACCEPTED) {
-        printf("%lu 0 0 0\n", (unsigned long)result);
+        printf("%lu 0 0 0\n", (unsigned long)ASTERNHAKEN_REFUSAL(result));
         return;
     }
     uint32_t count = (uint32_t)part(0, ASTERNHAKEN_PART_ENTRY_COUNT);

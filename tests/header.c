@@ -371,8 +371,9 @@ static void refusals(void)
     REFUSED(facch(1001, "04"), ASTERNHAKEN_REFUSED_MESSAGE_LENGTH);
     REFUSED(facch(1001, FACCH_WHOLE "2b"), ASTERNHAKEN_REFUSED_MESSAGE_LENGTH);
     CHECK(ASTERNHAKEN_NCH_LENGTH == strlen(NOTHING) / 2 && ASTERNHAKEN_FACCH_LONGEST == strlen(FACCH_WHOLE) / 2 && ASTERNHAKEN_FACCH_SHORTEST == 2);
-    REFUSED(nch(1001, "0492492492492492492492492492492492492492"), ASTERNHAKEN_REFUSED_RAN_OUT); /* random entries to the last bit */
-    REFUSED(facch(1001, "042b"), ASTERNHAKEN_REFUSED_RAN_OUT);
+    REFUSED(nch(1001, "0492492492492492492492492492492492492492"), ASTERNHAKEN_REFUSED_RAN_OUT_6 | 160 << 8); /* random entries to the last bit */
+    REFUSED(facch(1001, "042b"), ASTERNHAKEN_REFUSED_RAN_OUT | 9 << 8);
+    CHECK(ASTERNHAKEN_REFUSAL(facch(1001, "040000005802")) == ASTERNHAKEN_REFUSED_RAN_OUT_7 && ASTERNHAKEN_BIT(facch(1001, "040000005802")) == 48);
     REFUSED(nch(1001, "4000933a8ee3e00104808080808080808080ab2b"), ASTERNHAKEN_REFUSED_ALLOCATION_LENGTH); /* nine octets */
     REFUSED(nch(1001, "ffffffffffffffffffffffffffffffffffffffff"), ASTERNHAKEN_REFUSED_REFERENCE);
     REFUSED(asternhaken_joined(state, LENGTH, 1001, ASTERNHAKEN_LAST_KEY + 1), ASTERNHAKEN_REFUSED_REFERENCE);
@@ -1196,7 +1197,7 @@ static int is_sentence(const char *text)
 
 static void words(void)
 {
-    enum { REFUSALS = ASTERNHAKEN_REFUSED_LENGTH + 1, TELLINGS = ASTERNHAKEN_TOLD_SECOND_BEFORE_FIRST + 1 };
+    enum { REFUSALS = ASTERNHAKEN_REFUSED_RAN_OUT_7 + 1, TELLINGS = ASTERNHAKEN_TOLD_SECOND_BEFORE_FIRST + 1 };
     ALL_DIFFER(asternhaken_refusal_word, REFUSALS);
     ALL_DIFFER(asternhaken_refusal_sentence, REFUSALS);
     ALL_DIFFER(asternhaken_told_word, TELLINGS);
@@ -1205,6 +1206,7 @@ static void words(void)
     for (uint32_t i = 0; i <= TELLINGS; i++) CHECK(is_sentence(asternhaken_told_sentence(i)));
     CHECK(!strcmp(asternhaken_refusal_word(ASTERNHAKEN_ACCEPTED), "accepted") && !strcmp(asternhaken_refusal_word(ASTERNHAKEN_REFUSED_CLOCK), "clock"));
     CHECK(!strcmp(asternhaken_refusal_word(ASTERNHAKEN_REFUSED_LENGTH), "length") && !strcmp(asternhaken_refusal_word(REFUSALS), "unknown"));
+    CHECK(!strcmp(asternhaken_refusal_word(ASTERNHAKEN_REFUSED_RAN_OUT_7), "bits ran out in Release 7"));
     CHECK(!strcmp(asternhaken_told_word(ASTERNHAKEN_TOLD_JOINED), "complete, joined") && !strcmp(asternhaken_told_word(TELLINGS), "unknown"));
     CHECK(!strcmp(asternhaken_told_word(((uint64_t)1 << 32) + ASTERNHAKEN_TOLD_JOINED), "unknown"));
     CHECK(asternhaken_told_sentence(((uint64_t)1 << 32) + ASTERNHAKEN_TOLD_JOINED) == asternhaken_told_sentence(TELLINGS));

@@ -166,7 +166,7 @@ static void receiver(void)
     message(nch, "nch, every part, in one piece", "dbebc1ffffb8f9e2c02b475fedcba98777aefb2b", 0);
     message(nch, "nch, five reduced references", "08000001c0000012000000f0000008800000592b", 0);
     message(nch, "nch, four calls", "900000030040000010010000007804000002040b", 0);
-    message(nch, "nch, refused at the last bit", "0492492492492492492492492492492492492492", 2);
+    message(nch, "nch, refused at the last bit", "0492492492492492492492492492492492492492", 14 | 160 << 8);
     message(nch, "nch, refused behind it", "4000933a80702b2b2b2b2b2b2b2b2b2b2b2b2b2b", 7);
     message(facch, "facch, a first half stored", "040001267aa56e11592b", 0);
     message(facch, "facch, held already", "040001267aa56e11592b", 0);

@@ -9,7 +9,7 @@
 
 enum { PARTS = 35, EXPIRED = 0, DROPPED = 1, COUNT = 2, KEY_OF = 3, TOLD = 4, ENTRIES = 9 };
 
-unsigned long refusals_seen[14], told_seen[9];
+unsigned long refusals_seen[16], told_seen[9];
 
 static uint64_t part(const struct side *s, const uint8_t *state, uint32_t entry, uint32_t number)
 {

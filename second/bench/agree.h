@@ -17,6 +17,6 @@ unsigned messages_alike(const struct side *const *sides, unsigned n_sides, uint6
 unsigned sequences_alike(const struct side *const *sides, unsigned n_sides, uint64_t seed, unsigned sequences, unsigned events);
 
 /* How often each refusal and each told number came up in the random sequences. */
-extern unsigned long refusals_seen[14], told_seen[9];
+extern unsigned long refusals_seen[16], told_seen[9];
 
 #endif

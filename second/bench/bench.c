@@ -226,7 +226,7 @@ static int answers_agree(uint64_t seed, unsigned messages, unsigned sequences)
         return 0;
     printf("The answers agree: all rows, %u random messages, %u random sequences of 40 events (seed %" PRIu64 ").\n", messages, sequences, seed);
     printf("Refusals met in the sequences:");
-    for (unsigned i = 0, n = 0; i < 14; i++)
+    for (unsigned i = 0, n = 0; i < 16; i++)
         if (refusals_seen[i])
             printf("%s %u: %lu", n++ ? "," : "", i, refusals_seen[i]);
     printf(". Numbers told:");

@@ -5,35 +5,39 @@
 #include <stdbool.h>
 #include <string.h>
 
-enum { ACCEPTED, MESSAGE_LENGTH, RAN_OUT, ALLOCATION_LENGTH, REFERENCE, HOPPING, RANDOM_ENTRIES, EMERGENCY_MARKS, PAGING };
+enum { ACCEPTED, MESSAGE_LENGTH, RAN_OUT, ALLOCATION_LENGTH, REFERENCE, HOPPING, RANDOM_ENTRIES, EMERGENCY_MARKS, PAGING, RAN_OUT_6 = 14, RAN_OUT_7 };
 
 struct bit_vector {
     const uint8_t *data;
     size_t n;      /* octets */
     size_t cursor; /* the next bit */
     bool short_of; /* bits ran out */
+    uint32_t ran_out; /* what is then told: the number, by the part of the message, and, once they did, the bit where the missing field begins */
 };
 
-static int bit_at(const struct bit_vector *v, size_t at)
+static unsigned bit_at(const struct bit_vector *v, size_t at)
 {
-    if (at / 8 >= v->n)
-        return -1;
-    return v->data[at / 8] >> (7 - at % 8) & 1;
+    return v->data[at / 8] >> (7 - at % 8) & 1u;
+}
+
+/* Whether a field of n bits is not there; the first such field is told. */
+static bool lacks(struct bit_vector *v, unsigned n)
+{
+    if (v->cursor + n > 8 * v->n && !v->short_of) {
+        v->short_of = true;
+        v->ran_out |= (uint32_t)v->cursor << 8;
+    }
+    return v->short_of;
 }
 
 /* The next n bits as one number; 0 once bits ran out. */
 __attribute__((noinline)) static uint64_t get_field(struct bit_vector *v, unsigned n)
 {
     uint64_t x = 0;
-    for (unsigned i = 0; i < n; i++) {
-        int bit = bit_at(v, v->cursor);
-        if (bit < 0) {
-            v->short_of = true;
-            return 0;
-        }
-        x = x << 1 | (unsigned)bit;
-        v->cursor++;
-    }
+    if (lacks(v, n))
+        return 0;
+    for (unsigned i = 0; i < n; i++)
+        x = x << 1 | bit_at(v, v->cursor++);
     return x;
 }
 
@@ -51,52 +55,53 @@ static bool at_end(const struct bit_vector *v)
 
 static uint32_t get_call(struct bit_vector *v, struct plain_call *c)
 {
+    if (lacks(v, 36)) /* one field, of five numbers */
+        return v->ran_out;
     c->reference = (uint32_t)get_field(v, 27);
     c->vgcs = (uint8_t)get_field(v, 1);
     c->acknowledged = (uint8_t)get_field(v, 1);
     c->priority = (uint8_t)get_field(v, 3);
     c->cipher_key_number = (uint8_t)get_field(v, 4);
-    if (v->short_of)
-        return RAN_OUT;
     if (c->reference > 99999999)
         return REFERENCE;
     c->described = (uint8_t)get_field(v, 1);
     if (!c->described)
-        return v->short_of ? RAN_OUT : ACCEPTED;
+        return v->short_of ? v->ran_out : ACCEPTED;
     c->channel = (uint32_t)get_field(v, 24);
     c->hops = (uint8_t)get_field(v, 1);
     if (v->short_of)
-        return RAN_OUT;
+        return v->ran_out;
     if ((c->channel >> 12 & 1) != c->hops)
         return HOPPING;
     if (!c->hops)
         return ACCEPTED;
     c->short_list = (uint8_t)get_field(v, 1);
     if (v->short_of)
-        return RAN_OUT;
+        return v->ran_out;
     if (c->short_list) {
         c->frequencies = get_field(v, 64);
     } else {
         c->allocation_octets = (uint8_t)get_field(v, 8);
         if (v->short_of)
-            return RAN_OUT;
+            return v->ran_out;
         if (c->allocation_octets < 1 || c->allocation_octets > 8)
             return ALLOCATION_LENGTH;
         c->frequencies = get_field(v, 8u * c->allocation_octets);
     }
-    return v->short_of ? RAN_OUT : ACCEPTED;
+    return v->short_of ? v->ran_out : ACCEPTED;
 }
 
 static uint32_t get_release_6(struct bit_vector *v, struct plain_nch *m)
 {
     m->release_6 = 1;
+    v->ran_out = RAN_OUT_6;
     m->counted = (uint8_t)get_field(v, 1);
     if (m->counted)
         m->cell_global_count = (uint8_t)get_field(v, 2);
     while (get_field(v, 1)) {
+        if (lacks(v, 28))
+            return v->ran_out;
         uint32_t reference = (uint32_t)get_field(v, 27), vgcs = (uint32_t)get_field(v, 1);
-        if (v->short_of)
-            return RAN_OUT;
         if (reference > 99999999)
             return REFERENCE;
         m->reduced[m->n_reduced++] = reference * 2 + vgcs;
@@ -111,12 +116,13 @@ static uint32_t get_release_6(struct bit_vector *v, struct plain_nch *m)
             m->random[m->n_random] = x;
         m->n_random++;
     }
-    return v->short_of ? RAN_OUT : ACCEPTED;
+    return v->short_of ? v->ran_out : ACCEPTED;
 }
 
 static uint32_t get_release_7(struct bit_vector *v, struct plain_nch *m)
 {
     m->release_7 = 1;
+    v->ran_out = RAN_OUT_7;
     while (get_field(v, 1)) {
         uint8_t mark = (uint8_t)get_field(v, 1);
         if (m->n_marks < 4)
@@ -140,7 +146,7 @@ static uint32_t get_release_7(struct bit_vector *v, struct plain_nch *m)
         m->sms_confidentiality = (uint8_t)get_field(v, 1);
         m->sms_privacy = (uint8_t)get_field(v, 1);
     }
-    return v->short_of ? RAN_OUT : ACCEPTED;
+    return v->short_of ? v->ran_out : ACCEPTED;
 }
 
 static uint32_t get_nch_parts(struct bit_vector *v, struct plain_nch *m)
@@ -160,7 +166,7 @@ static uint32_t get_nch_parts(struct bit_vector *v, struct plain_nch *m)
         m->calls[m->n_calls++] = c;
     }
     if (v->short_of)
-        return RAN_OUT;
+        return v->ran_out;
     if (!at_end(v) && get_high(v) && (refusal = get_release_6(v, m)) != 0)
         return refusal;
     if (!at_end(v) && get_high(v) && (refusal = get_release_7(v, m)) != 0)
@@ -176,7 +182,7 @@ static uint32_t get_nch(const uint8_t *octets, size_t n, struct plain_nch *m)
     memset(m, 0, sizeof *m);
     if (n != 20)
         return MESSAGE_LENGTH;
-    struct bit_vector v = { octets, n, 0, false };
+    struct bit_vector v = { octets, n, 0, false, RAN_OUT };
     uint32_t refusal = get_nch_parts(&v, m);
     if (refusal)
         memset(m, 0, sizeof *m);
@@ -192,6 +198,7 @@ static uint32_t get_facch_parts(struct bit_vector *v, struct plain_facch *m)
         return refusal;
     if (!at_end(v) && get_high(v)) {
         m->release_6 = 1;
+        v->ran_out = RAN_OUT_6;
         m->counted = (uint8_t)get_field(v, 1);
         if (m->counted) {
             m->cell_global_count = (uint8_t)get_field(v, 2);
@@ -202,9 +209,10 @@ static uint32_t get_facch_parts(struct bit_vector *v, struct plain_facch *m)
             m->vstk_rand = get_field(v, 36);
     }
     if (v->short_of)
-        return RAN_OUT;
+        return v->ran_out;
     if (!at_end(v) && get_high(v)) {
         m->release_7 = 1;
+        v->ran_out = RAN_OUT_7;
         m->uplink_access = (uint8_t)get_high(v);
         m->emergency = (uint8_t)get_high(v);
         m->paging_cause_given = (uint8_t)get_field(v, 1);
@@ -212,7 +220,7 @@ static uint32_t get_facch_parts(struct bit_vector *v, struct plain_facch *m)
             get_field(v, 1);
     }
     m->used = (uint8_t)v->cursor;
-    return v->short_of ? RAN_OUT : ACCEPTED;
+    return v->short_of ? v->ran_out : ACCEPTED;
 }
 
 static uint32_t get_facch(const uint8_t *octets, size_t n, struct plain_facch *m)
@@ -220,7 +228,7 @@ static uint32_t get_facch(const uint8_t *octets, size_t n, struct plain_facch *m
     memset(m, 0, sizeof *m);
     if (n < 2 || n > 23)
         return MESSAGE_LENGTH;
-    struct bit_vector v = { octets, n, 8, false };
+    struct bit_vector v = { octets, n, 8, false, RAN_OUT };
     uint32_t refusal = get_facch_parts(&v, m);
     if (refusal)
         memset(m, 0, sizeof *m);

@@ -15,7 +15,7 @@
 
 enum {
     ACCEPTED, MESSAGE_LENGTH, RAN_OUT, ALLOCATION_LENGTH, REFERENCE, HOPPING, RANDOM_ENTRIES, EMERGENCY_MARKS, PAGING, CLOCK, SETUP,
-    RANGE = 12, STATE_LENGTH = 13
+    RANGE = 12, STATE_LENGTH = 13, RAN_OUT_6, RAN_OUT_7
 };
 enum { NOT_OURS, CLEAR, ONE_PIECE, JOINED, HALF_STORED, HALF_HELD, NO_CHANNEL, UNUSABLE, SECOND_BEFORE_FIRST };
 enum { NCH, FACCH, PCH, CHANNELS };
@@ -26,7 +26,7 @@ enum { KEYS = 50, ENTRIES = 9, PCH_NUMBERS = 14, LONGEST = 60000, LAST_REFERENCE
 /* A message of at most 24 octets, first bit on top of the first word; the fourth word is 0, so that a field may always be put together from two. */
 struct bits {
     uint64_t words[4];
-    unsigned at, size;
+    unsigned at, size, ran_out; /* what bits that are missing here are refused with */
 };
 
 static inline uint64_t word_at(const uint8_t *p)
@@ -42,6 +42,12 @@ static inline uint64_t word_at(const uint8_t *p)
 static inline unsigned left(const struct bits *b)
 {
     return b->size - b->at;
+}
+
+/* A field is missing that begins so many bits ahead. */
+static inline uint32_t missing(const struct bits *b, unsigned ahead)
+{
+    return b->ran_out | (b->at + ahead) << 8;
 }
 
 /* The next n bits, 1 to 64; the caller has seen that they are there. */
@@ -73,7 +79,7 @@ static inline uint8_t high(struct bits *b)
 INLINE uint32_t read_description(struct bits *b, struct plain_call *c)
 {
     if (left(b) < 25)
-        return RAN_OUT;
+        return missing(b, left(b) < 24 ? 0 : 24);
     uint64_t v = take(b, 25);
     c->described = 1;
     c->channel = (uint32_t)(v >> 1);
@@ -83,21 +89,21 @@ INLINE uint32_t read_description(struct bits *b, struct plain_call *c)
     if (!c->hops)
         return ACCEPTED;
     if (left(b) < 1)
-        return RAN_OUT;
+        return missing(b, 0);
     c->short_list = flag(b);
     if (c->short_list) {
         if (left(b) < 64)
-            return RAN_OUT;
+            return missing(b, 0);
         c->frequencies = take(b, 64);
         return ACCEPTED;
     }
     if (left(b) < 8)
-        return RAN_OUT;
+        return missing(b, 0);
     unsigned n = (unsigned)take(b, 8);
     if (n < 1 || n > 8)
         return ALLOCATION_LENGTH;
     if (left(b) < 8 * n)
-        return RAN_OUT;
+        return missing(b, 0);
     c->allocation_octets = (uint8_t)n;
     c->frequencies = take(b, 8 * n);
     return ACCEPTED;
@@ -106,7 +112,7 @@ INLINE uint32_t read_description(struct bits *b, struct plain_call *c)
 INLINE uint32_t read_call(struct bits *b, struct plain_call *c)
 {
     if (left(b) < 36)
-        return RAN_OUT;
+        return missing(b, 0);
     uint64_t v = take(b, 36);
     c->reference = (uint32_t)(v >> 9);
     c->vgcs = v >> 8 & 1;
@@ -116,7 +122,7 @@ INLINE uint32_t read_call(struct bits *b, struct plain_call *c)
     if (c->reference > LAST_REFERENCE)
         return REFERENCE;
     if (left(b) < 1)
-        return RAN_OUT;
+        return missing(b, 0);
     return flag(b) ? read_description(b, c) : ACCEPTED;
 }
 
@@ -125,16 +131,16 @@ static uint32_t read_random(struct bits *b, struct plain_nch *m)
 {
     for (;;) {
         if (left(b) < 1)
-            return RAN_OUT;
+            return missing(b, 0);
         if (!flag(b))
             return ACCEPTED;
         if (left(b) < 2)
-            return RAN_OUT;
+            return missing(b, left(b));
         unsigned v = (unsigned)take(b, 2);
         uint64_t vstk_rand = 0;
         if (v & 1) {
             if (left(b) < 36)
-                return RAN_OUT;
+                return missing(b, 0);
             vstk_rand = take(b, 36);
         }
         if (m->n_random < 9)
@@ -146,21 +152,22 @@ static uint32_t read_random(struct bits *b, struct plain_nch *m)
 static uint32_t read_release_6(struct bits *b, struct plain_nch *m)
 {
     m->release_6 = 1;
+    b->ran_out = RAN_OUT_6;
     if (left(b) < 1)
-        return RAN_OUT;
+        return missing(b, 0);
     m->counted = flag(b);
     if (m->counted) {
         if (left(b) < 2)
-            return RAN_OUT;
+            return missing(b, 0);
         m->cell_global_count = (uint8_t)take(b, 2);
     }
     for (;;) {
         if (left(b) < 1)
-            return RAN_OUT;
+            return missing(b, 0);
         if (!flag(b))
             break;
         if (left(b) < 28) /* so there are never more than five */
-            return RAN_OUT;
+            return missing(b, 0);
         uint32_t key = (uint32_t)take(b, 28);
         if (key > LAST_KEY)
             return REFERENCE;
@@ -173,12 +180,12 @@ static uint32_t read_release_6(struct bits *b, struct plain_nch *m)
 INLINE uint32_t read_amr(struct bits *b, uint8_t *given, uint8_t *config)
 {
     if (left(b) < 1)
-        return RAN_OUT;
+        return missing(b, 0);
     *given = flag(b);
     if (!*given)
         return ACCEPTED;
     if (left(b) < 4)
-        return RAN_OUT;
+        return missing(b, 0);
     *config = (uint8_t)take(b, 4);
     return ACCEPTED;
 }
@@ -186,37 +193,43 @@ INLINE uint32_t read_amr(struct bits *b, uint8_t *given, uint8_t *config)
 static uint32_t read_release_7(struct bits *b, struct plain_nch *m)
 {
     m->release_7 = 1;
+    b->ran_out = RAN_OUT_7;
     for (;;) {
         if (left(b) < 1)
-            return RAN_OUT;
+            return missing(b, 0);
         if (!flag(b))
             break;
         if (left(b) < 1)
-            return RAN_OUT;
+            return missing(b, 0);
         uint8_t mark = flag(b);
         if (m->n_marks < 4)
             m->marks[m->n_marks] = mark;
         m->n_marks++;
     }
     if (left(b) < 1)
-        return RAN_OUT;
+        return missing(b, 0);
     m->uplink_given = flag(b);
     if (m->uplink_given) {
         if (left(b) < 1)
-            return RAN_OUT;
+            return missing(b, 0);
         m->uplink_access = flag(b);
     }
     if (left(b) < 1)
-        return RAN_OUT;
+        return missing(b, 0);
     m->amr = flag(b);
-    if (m->amr && (read_amr(b, &m->fr_amr_given, &m->fr_amr_config) || read_amr(b, &m->hr_amr_given, &m->hr_amr_config)))
-        return RAN_OUT;
+    if (m->amr) {
+        uint32_t refusal = read_amr(b, &m->fr_amr_given, &m->fr_amr_config);
+        if (!refusal)
+            refusal = read_amr(b, &m->hr_amr_given, &m->hr_amr_config);
+        if (refusal)
+            return refusal;
+    }
     if (left(b) < 1)
-        return RAN_OUT;
+        return missing(b, 0);
     m->sms = flag(b);
     if (m->sms) {
         if (left(b) < 2)
-            return RAN_OUT;
+            return missing(b, left(b));
         unsigned v = (unsigned)take(b, 2);
         m->sms_confidentiality = v >> 1 & 1;
         m->sms_privacy = v & 1;
@@ -234,7 +247,7 @@ static uint32_t read_nch_parts(struct bits *b, struct plain_nch *m)
         m->nln = (uint8_t)take(b, 2);
     for (;;) {
         if (left(b) < 1)
-            return RAN_OUT;
+            return missing(b, 0);
         if (!flag(b))
             break;
         struct plain_call *c = &m->calls[m->n_calls]; /* a fifth call has not bits enough, so nothing is written there */
@@ -268,7 +281,7 @@ static uint32_t read_nch(const uint8_t *octets, size_t n, struct plain_nch *m)
     memset(m, 0, sizeof *m);
     if (n != 20)
         return MESSAGE_LENGTH;
-    struct bits b = { { word_at(octets), word_at(octets + 8), word_at(octets + 12) << 32, 0 }, 0, 160 };
+    struct bits b = { { word_at(octets), word_at(octets + 8), word_at(octets + 12) << 32, 0 }, 0, 160, RAN_OUT };
     uint32_t refusal = read_nch_parts(&b, m);
     if (refusal)
         memset(m, 0, sizeof *m);
@@ -284,35 +297,37 @@ static uint32_t read_facch_parts(struct bits *b, struct plain_facch *m)
         return refusal;
     if (left(b) && high(b)) {
         m->release_6 = 1;
+        b->ran_out = RAN_OUT_6;
         if (left(b) < 1)
-            return RAN_OUT;
+            return missing(b, 0);
         m->counted = flag(b);
         if (m->counted) {
             if (left(b) < 3)
-                return RAN_OUT;
+                return missing(b, left(b) < 2 ? 0 : 2);
             unsigned v = (unsigned)take(b, 3);
             m->cell_global_count = v >> 1 & 3;
             m->b22_count = v & 1;
         }
         if (left(b) < 1)
-            return RAN_OUT;
+            return missing(b, 0);
         m->rand_given = flag(b);
         if (m->rand_given) {
             if (left(b) < 36)
-                return RAN_OUT;
+                return missing(b, 0);
             m->vstk_rand = take(b, 36);
         }
     }
     if (left(b) && high(b)) {
         m->release_7 = 1;
+        b->ran_out = RAN_OUT_7;
         if (left(b) < 3)
-            return RAN_OUT;
+            return missing(b, left(b));
         m->uplink_access = high(b);
         m->emergency = high(b);
         m->paging_cause_given = flag(b);
         if (m->paging_cause_given) {
             if (left(b) < 1)
-                return RAN_OUT;
+                return missing(b, 0);
             flag(b);
         }
     }
@@ -327,7 +342,7 @@ static uint32_t read_facch(const uint8_t *octets, size_t n, struct plain_facch *
         return MESSAGE_LENGTH;
     uint8_t whole[24] = { 0 };
     memcpy(whole, octets, n);
-    struct bits b = { { word_at(whole), word_at(whole + 8), word_at(whole + 16), 0 }, 8, 8 * (unsigned)n };
+    struct bits b = { { word_at(whole), word_at(whole + 8), word_at(whole + 16), 0 }, 8, 8 * (unsigned)n, RAN_OUT };
     uint32_t refusal = read_facch_parts(&b, m);
     if (refusal)
         memset(m, 0, sizeof *m);

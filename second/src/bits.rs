@@ -1,7 +1,21 @@
 //! Bits of a message: numbered from 0, the top bit of the first octet. And the refusal numbers, which everything here shares.
 
-/// A refusal number of document 01.
+/// A refusal as a result of the library has it: the number of document 01 in the low octet; above it, with 2, 14 and 15, the bit number
+/// where the missing field begins (document 02, §1).
 pub type Refusal = u32;
+
+pub fn number_of(refusal: Refusal) -> u32 {
+    refusal & 255
+}
+
+pub fn bit_of(refusal: Refusal) -> u32 {
+    refusal >> 8
+}
+
+/// `number` is 2, 14 or 15.
+pub fn missing(number: Refusal, bit: usize) -> Refusal {
+    number | (bit as u32) << 8
+}
 
 pub const MESSAGE_LENGTH: Refusal = 1;
 pub const RAN_OUT: Refusal = 2;
@@ -16,6 +30,9 @@ pub const SETUP: Refusal = 10;
 pub const FORM_SIZE: Refusal = 11;
 pub const RANGE: Refusal = 12;
 pub const LENGTH: Refusal = 13;
+/// Bits ran out inside Release 6, and inside Release 7; before them it is RAN_OUT.
+pub const RAN_OUT_6: Refusal = 14;
+pub const RAN_OUT_7: Refusal = 15;
 
 /// References have eight decimal digits.
 pub const LAST_REFERENCE: u64 = 99_999_999;
@@ -25,15 +42,16 @@ pub fn padding_bit(place: usize) -> u8 {
     (0x2B >> (7 - place % 8)) & 1
 }
 
-/// A message and a place in it.
+/// A message and a place in it, and the number for bits that are missing there.
 pub struct Reader<'a> {
     message: &'a [u8],
     pub place: usize,
+    ran_out: Refusal,
 }
 
 impl<'a> Reader<'a> {
     pub fn new(message: &'a [u8], place: usize) -> Self {
-        Reader { message, place }
+        Reader { message, place, ran_out: RAN_OUT }
     }
 
     fn size(&self) -> usize {
@@ -42,16 +60,19 @@ impl<'a> Reader<'a> {
 
     fn bit(&mut self) -> Result<u8, Refusal> {
         if self.place >= self.size() {
-            return Err(RAN_OUT);
+            return Err(missing(self.ran_out, self.place));
         }
         let bit = (self.message[self.place / 8] >> (7 - self.place % 8)) & 1;
         self.place += 1;
         Ok(bit)
     }
 
-    /// A field of up to 64 bits, top bit first.
+    /// A field of up to 64 bits, top bit first. It is there whole, or missing from its first bit on.
     pub fn number(&mut self, width: usize) -> Result<u64, Refusal> {
         let mut value = 0;
+        if self.place + width > self.size() {
+            return Err(missing(self.ran_out, self.place));
+        }
         for _ in 0..width {
             value = (value << 1) | u64::from(self.bit()?);
         }
@@ -73,12 +94,17 @@ impl<'a> Reader<'a> {
         Ok(self.bit()? != low)
     }
 
-    /// Whether a release's additions follow: nothing (all bits are used) and L say no, H says yes.
-    pub fn release(&mut self) -> Result<bool, Refusal> {
+    /// Whether a release's additions follow: nothing (all bits are used) and L say no, H says yes. From the bit behind the H on, what is
+    /// missing has a number of its own.
+    pub fn release(&mut self, ran_out: Refusal) -> Result<bool, Refusal> {
         if self.place == self.size() {
             return Ok(false);
         }
-        self.high()
+        let follows = self.high()?;
+        if follows {
+            self.ran_out = ran_out;
+        }
+        Ok(follows)
     }
 }
 

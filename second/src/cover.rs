@@ -40,7 +40,7 @@ use Met::*;
 
 /// How often each is met at least in 10,000 event steps: about a third to a half of what the usual seed gives. 7 on the FACCH is
 /// always a disagreement; 8 is told there alone.
-const LEAST: [(Met, u64); 51] = [
+const LEAST: [(Met, u64); 57] = [
     (Told(Nch, 0), 270),
     (Told(Nch, 1), 80),
     (Told(Nch, 2), 25),
@@ -86,6 +86,12 @@ const LEAST: [(Met, u64); 51] = [
     (Disagreed(Facch), 12),
     (Disagreed(Pch), 7),
     (Spared, 15),
+    (Refused(Nch, 2), 100),
+    (Refused(Nch, 14), 45),
+    (Refused(Nch, 15), 90),
+    (Refused(Facch, 2), 90),
+    (Refused(Facch, 14), 40),
+    (Refused(Facch, 15), 8),
     (Refused(Pch, 3), 30),
     (Refused(Pch, 4), 30),
     (Refused(Pch, 5), 14),

@@ -7,22 +7,67 @@ use crate::rng::Rng;
 /// Octet 2B hex, bit by bit.
 const PADDING: [u8; 8] = [0, 0, 1, 0, 1, 0, 1, 1];
 
+/// The bits of a form, and where its fields begin, each with the number that it is refused with where it is missing. The bit that leads a
+/// release may be missing: it has the release's own number, 6 or 7.
 #[derive(Clone, Default)]
-pub struct Bits(pub Vec<u8>);
+pub struct Bits(pub Vec<u8>, Vec<(usize, u32)>, Part);
+
+#[derive(Clone, Copy, Default)]
+enum Part {
+    #[default]
+    Before,
+    Six,
+    Seven,
+}
 
 impl Bits {
+    fn begin(&mut self, refusal: u32) {
+        self.1.push((self.0.len(), refusal));
+    }
+
+    fn begin_field(&mut self) {
+        self.begin(match self.2 {
+            Part::Before => 2,
+            Part::Six => 14,
+            Part::Seven => 15,
+        });
+    }
+
+    /// The bit that leads a release: its additions follow, or not.
+    fn lead(&mut self, part: Part, follow: bool) {
+        self.begin(if matches!(part, Part::Seven) { 7 } else { 6 });
+        self.2 = part;
+        if follow {
+            self.high();
+        } else {
+            self.low();
+        }
+    }
+
+    /// Where the first `size` bits of this form alone are there: the field that is then missing, its first bit and its number.
+    pub fn cut(&self, size: usize) -> Option<(usize, u32)> {
+        let ends = self.1.iter().skip(1).map(|next| next.0).chain([self.0.len()]);
+        self.1.iter().zip(ends).find(|(_, end)| *end > size).map(|(field, _)| *field)
+    }
+
     fn put(&mut self, value: u64, width: usize) {
+        self.begin_field();
+        self.more(value, width);
+    }
+
+    /// More bits of the same field.
+    fn more(&mut self, value: u64, width: usize) {
         for i in 0..width {
             self.0.push((value >> (width - 1 - i)) as u8 & 1);
         }
     }
 
     fn one(&mut self) {
-        self.0.push(1);
+        self.put(1, 1);
     }
 
     fn zero(&mut self) {
-        self.0.push(0);
+        self.put(0, 1);
     }
 
     fn maybe(&mut self, value: Option<u64>, width: usize) {
@@ -44,6 +89,7 @@ impl Bits {
     }
 
     fn coded(&mut self, bit: u64) {
+        self.begin_field();
         if bit == 1 {
             self.high()
         } else {
@@ -51,14 +97,18 @@ impl Bits {
         }
     }
 
-    /// At least `octets` octets, filled up with padding.
     pub fn octets(&self, octets: usize) -> Vec<u8> {
-        let mut bits = self.0.clone();
-        while bits.len() < 8 * octets || !bits.len().is_multiple_of(8) {
-            bits.push(PADDING[bits.len() % 8]);
-        }
-        bits.chunks(8).map(|eight| (0..8).map(|i| eight[i] << (7 - i)).sum()).collect()
+        octets_of_bits(&self.0, octets)
     }
+}
+
+/// At least `octets` octets, filled up with padding.
+pub fn octets_of_bits(bits: &[u8], octets: usize) -> Vec<u8> {
+    let mut bits = bits.to_vec();
+    while bits.len() < 8 * octets || !bits.len().is_multiple_of(8) {
+        bits.push(PADDING[bits.len() % 8]);
+    }
+    bits.chunks(8).map(|eight| (0..8).map(|i| eight[i] << (7 - i)).sum()).collect()
 }
 
 #[derive(Clone, Debug)]
@@ -93,10 +143,10 @@ impl CallDraft {
 
     fn lay(&self, bits: &mut Bits) {
         bits.put(self.reference, 27);
-        bits.put(self.service, 1);
-        bits.put(self.acknowledged, 1);
-        bits.put(self.priority, 3);
-        bits.put(self.cipher, 4);
+        bits.more(self.service, 1);
+        bits.more(self.acknowledged, 1);
+        bits.more(self.priority, 3);
+        bits.more(self.cipher, 4);
         let Some((channel, hops)) = &self.description else { return bits.zero() };
         bits.one();
         bits.put(*channel, 24);
@@ -106,8 +156,9 @@ impl CallDraft {
                 bits.one();
                 bits.zero();
                 bits.put(*length, 8);
+                bits.begin_field();
                 for i in (0..*length).rev() {
-                    bits.put(if i < 8 { octets >> (8 * i) } else { 0 }, 8);
+                    bits.more(if i < 8 { octets >> (8 * i) } else { 0 }, 8);
                 }
             }
             Hops::List(list) => {
@@ -164,9 +215,9 @@ impl NchDraft {
         bits.zero();
         match &self.six {
             None if bits.0.len() == 160 && self.seven.is_none() => return bits,
-            None => bits.low(),
+            None => bits.lead(Part::Six, false),
             Some(six) => {
-                bits.high();
+                bits.lead(Part::Six, true);
                 bits.maybe(six.count, 2);
                 for (reference, service) in &six.reduced {
                     bits.one();
@@ -183,9 +234,9 @@ impl NchDraft {
         }
         match &self.seven {
             None if bits.0.len() == 160 => return bits,
-            None => bits.low(),
+            None => bits.lead(Part::Seven, false),
             Some(seven) => {
-                bits.high();
+                bits.lead(Part::Seven, true);
                 for mark in &seven.marks {
                     bits.one();
                     bits.put(*mark, 1);
@@ -200,7 +251,14 @@ impl NchDraft {
                         bits.maybe(hr, 4);
                     }
                 }
-                bits.maybe(seven.sms.map(|(confidentiality, privacy)| confidentiality << 1 | privacy), 2);
+                match seven.sms {
+                    None => bits.zero(),
+                    Some((confidentiality, privacy)) => {
+                        bits.one();
+                        bits.put(confidentiality, 1);
+                        bits.put(privacy, 1);
+                    }
+                }
             }
         }
         bits
@@ -304,10 +362,17 @@ impl FacchDraft {
             return bits;
         }
         match self.six {
-            None => bits.low(),
+            None => bits.lead(Part::Six, false),
             Some((count, vstk_rand)) => {
-                bits.high();
-                bits.maybe(count.map(|(count, b22)| count << 1 | b22), 3);
+                bits.lead(Part::Six, true);
+                match count {
+                    None => bits.zero(),
+                    Some((count, b22)) => {
+                        bits.one();
+                        bits.put(count, 2);
+                        bits.put(b22, 1);
+                    }
+                }
                 bits.maybe(vstk_rand, 36);
             }
         }
@@ -315,9 +380,9 @@ impl FacchDraft {
             return bits;
         }
         match self.seven {
-            None => bits.low(),
+            None => bits.lead(Part::Seven, false),
             Some((uplink, emergency, cause)) => {
-                bits.high();
+                bits.lead(Part::Seven, true);
                 bits.coded(uplink);
                 bits.coded(emergency);
                 bits.maybe(cause, 1);

@@ -82,7 +82,7 @@ pub fn read(octets: &[u8]) -> Result<(Facch, usize), Refusal> {
         return Err(PAGING);
     }
     let call = Call::read(&mut r)?;
-    let release6 = if r.release()? { Some(read_release6(&mut r)?) } else { None };
-    let release7 = if r.release()? { Some(read_release7(&mut r)?) } else { None };
+    let release6 = if r.release(RAN_OUT_6)? { Some(read_release6(&mut r)?) } else { None };
+    let release7 = if r.release(RAN_OUT_7)? { Some(read_release7(&mut r)?) } else { None };
     Ok((Facch { call, release6, release7 }, r.place))
 }

@@ -1,5 +1,6 @@
 //! Document 01's "Listed inputs", and the vector files: messages of other people's software and mixed ones.
 
+use crate::bits::number_of;
 use crate::elements::{CALL_REFERENCE, CAUSE, DIGITS};
 use crate::messages::{compare_facch, compare_nch, compare_nch_write};
 use crate::pair::Pair;
@@ -210,7 +211,9 @@ impl<'a> Words<'a> {
 fn nch_mixed(tally: &mut Tally) {
     for row in rows(tally, "nch-mixed.tsv") {
         let octets = octets_of(&row[0]);
-        let archive = compare_nch(tally, &octets, nch::NUMBERS);
+        // The files name the number; the bit numbers are in vNN.txt's rows and in the scenes.
+        let (archive, record) = compare_nch(tally, &octets, nch::NUMBERS);
+        let archive = (number_of(archive), record);
         let mut words = Words::new(&row[1]);
         let mut numbers = vec![0; nch::NUMBERS];
         let (mut calls, mut reduced, mut random, mut marks) = (0, 0, 0, 0);
@@ -265,7 +268,8 @@ fn nch_mixed(tally: &mut Tally) {
 fn facch_mixed(tally: &mut Tally) {
     for row in rows(tally, "facch-mixed.tsv") {
         let octets = octets_of(&row[0]);
-        let archive = compare_facch(tally, &octets, facch::NUMBERS);
+        let (archive, record) = compare_facch(tally, &octets, facch::NUMBERS);
+        let archive = (number_of(archive), record);
         let mut words = Words::new(&row[1]);
         let mut numbers = vec![0; facch::NUMBERS];
         let mut refusal = 0;
@@ -381,7 +385,7 @@ fn events(tally: &mut Tally) {
             .collect();
         let archive = match said.archive {
             Ok(spoken) => (vec![0, spoken.expired, spoken.dropped, spoken.entries.len() as u64], spoken.entries),
-            Err(refusal) => (vec![u64::from(refusal), 0, 0, 0], Vec::new()),
+            Err(refusal) => (vec![u64::from(number_of(refusal)), 0, 0, 0], Vec::new()),
         };
         tally.same("events.tsv (second is the file)", || row[0].clone(), &archive, &(head, expected));
     }

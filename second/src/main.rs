@@ -1,4 +1,4 @@
-//! The second program: an implementation of document 01 (the scope) and of the requests of document 02 that have landed (§8, §3, §4) that shares
+//! The second program: an implementation of document 01 (the scope) and of the requests of document 02 that have landed (§8, §3, §4, §1) that shares
 //! nothing with the proved one, and a comparison of the two.
 //!
 //! It was written from documents, without sight of the proved code: 01, 02, the readings of their open places, the sources 000 to 004,
@@ -25,7 +25,7 @@
 //! stand in the environment, as SEED. A difference is printed with the seed, the input and both answers. `--record FILE` writes down what
 //! the archive was asked and what it answered: replay.c asks the same of another build of it, one for another processor too.
 //!
-//! Compared are: refusal, record and bits used of every reading; refusal and all lent octets after every writing; refusal, every number of
+//! Compared are: refusal, bit number, record and bits used of every reading; refusal and all lent octets after every writing; refusal, every number of
 //! the answer (through asternhaken_read, parts and entries beyond the last too, and entry by entry), what is held, with the time that is left,
 //! whether it was set up, and all 10,040 octets of the state after every setup and event, also from states that no setup left; that nothing
 //! beside lent memory was written; and, from a setup on, what each subscribed call is told on each channel, and what is held of it, with the

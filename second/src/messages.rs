@@ -1,6 +1,7 @@
 //! Messages and records: both sides read and write the same.
 
-use crate::draft::{Bits, CallDraft, FacchDraft, Hops, NchDraft, Pool};
+use crate::bits::missing;
+use crate::draft::{octets_of_bits, CallDraft, FacchDraft, Hops, NchDraft, Pool};
 use crate::ffi::{self, archive};
 use crate::rng::Rng;
 use crate::tally::{hex, sparse, Tally};
@@ -33,7 +34,7 @@ pub fn compare_nch(tally: &mut Tally, octets: &[u8], places: usize) -> (u32, Vec
     if archive.0 == 0 && places == nch::NUMBERS {
         let used = archive.1[0] as usize;
         let written = compare_nch_write(tally, &archive.1, 20);
-        let expected = Bits(bits_of(octets)[..used.min(160)].to_vec()).octets(20);
+        let expected = octets_of_bits(&bits_of(octets)[..used.min(160)], 20);
         tally.same_writing("nch: what was read is written back, then padding", || hex(octets), &written, &(0, expected));
     }
     archive
@@ -150,6 +151,13 @@ fn compare_nch_draft(tally: &mut Tally, draft: &NchDraft) -> Option<Vec<u64>> {
         let written = ffi::write_octets(archive::asternhaken_nch_write, numbers, &[0; 20]);
         tally.same_writing("nch_write of a draft (second is the draft)", || sparse(numbers), &written, &(0, octets));
     }
+    // What does not fit is missing: the draft knows which field, and where it begins. A release whose lead is behind the last bit is none.
+    if let Some((bit, number)) = draft.bits().cut(160).filter(|field| !matches!(field.1, 6 | 7)) {
+        let octets = &draft.octets()[..20];
+        let reading = ffi::read_octets(archive::asternhaken_nch_read, octets, nch::NUMBERS);
+        let expected = (missing(number, bit), vec![0; nch::NUMBERS]);
+        tally.same_reading("nch_read of a draft too long (second is the draft)", || hex(octets), &reading, &expected);
+    }
     numbers
 }
 
@@ -160,7 +168,22 @@ fn compare_facch_draft(tally: &mut Tally, draft: &FacchDraft) {
         return;
     }
     let reading = ffi::read_octets(archive::asternhaken_facch_read, &octets, facch::NUMBERS);
-    tally.same_reading("facch_read of a draft (second is the draft)", || hex(&octets), &reading, &(0, numbers));
+    tally.same_reading("facch_read of a draft (second is the draft)", || hex(&octets), &reading, &(0, numbers.clone()));
+    // Cut short after every octet: the missing field is told, or the cut is where a release would begin, and there is none.
+    for length in 2..octets.len() {
+        let Some((bit, number)) = draft.bits().cut(8 * length) else { break };
+        let reading = ffi::read_octets(archive::asternhaken_facch_read, &octets[..length], facch::NUMBERS);
+        let expected = match number {
+            6 | 7 => {
+                let mut numbers = numbers.clone();
+                numbers[if number == 6 { 12 } else { 18 }..].fill(0);
+                numbers[0] = 8 * length as u64;
+                (0, numbers)
+            }
+            _ => (missing(number, bit), vec![0; facch::NUMBERS]),
+        };
+        tally.same_reading("facch_read of a draft cut short (second is the draft)", || hex(&octets[..length]), &reading, &expected);
+    }
 }
 
 /// Drafts that bend a rule on purpose: references, hopping flags and lengths that must be refused.

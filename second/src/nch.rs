@@ -174,8 +174,8 @@ pub fn read(octets: &[u8]) -> Result<(Nch, usize), Refusal> {
     while r.flag()? {
         calls.push(Call::read(&mut r)?);
     }
-    let release6 = if r.release()? { Some(read_release6(&mut r)?) } else { None };
-    let release7 = if r.release()? { Some(read_release7(&mut r)?) } else { None };
+    let release6 = if r.release(RAN_OUT_6)? { Some(read_release6(&mut r)?) } else { None };
+    let release7 = if r.release(RAN_OUT_7)? { Some(read_release7(&mut r)?) } else { None };
     let message = Nch { nln, calls, release6, release7 };
     message.lists_agree()?;
     Ok((message, r.place))

@@ -1,6 +1,6 @@
 //! The archive and the second program side by side over one lent state.
 
-use crate::bits::Refusal;
+use crate::bits::{number_of, Refusal};
 use crate::cover::{Cause, Met};
 use crate::ffi::{self, archive};
 use crate::messages::filled;
@@ -136,8 +136,14 @@ impl Pair {
         let archive = feed(&mut self.archive, tick, event);
         let second = self.mirror.event(tick, event);
         tally.count_refusal(archive);
-        if let (Event::Pch(_), true) = (event, archive != 0) {
-            tally.cover.count(Met::Refused(Channel::Pch, archive), 1);
+        let channel = match event {
+            Event::Nch(_) => Some(Channel::Nch),
+            Event::Facch(_) => Some(Channel::Facch),
+            Event::Pch(_) => Some(Channel::Pch),
+            _ => None,
+        };
+        if let (Some(channel), true) = (channel, archive != 0) {
+            tally.cover.count(Met::Refused(channel, number_of(archive)), 1);
         }
         tally.same("event: refusal", || self.story(), &archive, &second.as_ref().err().copied().unwrap_or(0));
         self.check_state(tally, "event");

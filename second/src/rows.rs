@@ -1,12 +1,14 @@
-//! The receiver's rows of vectors/vNN.txt: answers that others worked out, held against both sides. vectors/README.md has the protocol.
+//! The receiver's and the readers' rows of vectors/vNN.txt: answers that others worked out, held against both sides. vectors/README.md has the protocol.
 //! tests/drive.sh holds every row of the file against the library; here the second program must give the same.
 
-use crate::bits::Refusal;
+use crate::bits::{bit_of, number_of, Refusal};
 use crate::listed::{folder, octets_of};
+use crate::messages::{compare_facch, compare_nch, second_facch, second_nch};
 use crate::pair::{Pair, Spoken};
 use crate::receiver::{Event, CHANNELS};
 use crate::state::{FIRST_RECORD_PART, RECORD_NUMBERS, STATE_LENGTH};
 use crate::tally::Tally;
+use crate::{facch, nch};
 
 /// Fewer receiver rows than this are not the whole file.
 const LEAST_ROWS: usize = 1_000;
@@ -30,11 +32,11 @@ fn call_record(key: u64, record: &[u64; RECORD_NUMBERS]) -> Vec<u64> {
     numbers
 }
 
-/// An EVENT-ANSWER. No bit number is known yet.
+/// An EVENT-ANSWER.
 fn answer(said: &Result<Spoken, Refusal>) -> String {
     let words = |numbers: &[u64]| numbers.iter().map(u64::to_string).collect::<Vec<String>>().join(" ");
     match said {
-        Err(refusal) => format!("{refusal} 0 0 0"),
+        Err(refusal) => format!("{} {} 0 0", number_of(*refusal), bit_of(*refusal)),
         Ok(spoken) => {
             let mut line = words(&[0, 0, spoken.dropped, spoken.expired]);
             for (key, told, record) in &spoken.entries {
@@ -65,11 +67,18 @@ fn numbers(words: &[&str]) -> Vec<u64> {
     words.iter().map(|word| word.parse().unwrap()).collect()
 }
 
+fn octets(word: &str) -> Vec<u8> {
+    if word == "-" {
+        Vec::new()
+    } else {
+        octets_of(word)
+    }
+}
+
 fn event(words: &[&str]) -> Event {
-    let octets = || if words[2] == "-" { Vec::new() } else { octets_of(words[2]) };
     match words[0] {
-        "nch" => Event::Nch(octets()),
-        "facch" => Event::Facch(octets()),
+        "nch" => Event::Nch(octets(words[2])),
+        "facch" => Event::Facch(octets(words[2])),
         "pch" => Event::Pch(pch_numbers(&numbers(&words[2..]))),
         "joined" => Event::Joined(words[2].parse().unwrap()),
         "reselected" => Event::Reselected,
@@ -91,6 +100,7 @@ pub fn run(tally: &mut Tally) {
     let mut pair = Pair::of(&[0; STATE_LENGTH], 2);
     let mut done = 0;
     while let (Some(command), Some(expected)) = (lines.next(), lines.next()) {
+        let mut expected = expected[2..].to_string();
         let words: Vec<&str> = command[2..].split(' ').collect();
         let (archive, second) = match words[0] {
             "setup" => {
@@ -105,11 +115,26 @@ pub fn run(tally: &mut Tally) {
                 let said = pair.event(tally, words[2].parse().unwrap(), &event(&words[1..]));
                 (answer(&said.archive), answer(&said.second))
             }
+            "nch" | "facch" => {
+                // Refusal, bit and bits used; tests/drive.sh compares the record with the library's, and the reading both sides.
+                let octets = octets(words[2]);
+                let (reading, second) = match words[0] {
+                    "nch" => (compare_nch(tally, &octets, nch::NUMBERS), second_nch(&octets)),
+                    _ => (compare_facch(tally, &octets, facch::NUMBERS), second_facch(&octets)),
+                };
+                let line = |refusal: Refusal, used: u64| format!("{} {} {used}", number_of(refusal), bit_of(refusal));
+                let second = match second {
+                    Ok(numbers) => line(0, numbers[0]),
+                    Err(refusal) => line(refusal, 0),
+                };
+                expected = expected.splitn(4, ' ').take(3).collect::<Vec<&str>>().join(" ");
+                (line(reading.0, reading.1[0]), second)
+            }
             _ => continue,
         };
         done += 1;
         for (side, line) in [("archive", archive), ("second", second)] {
-            tally.check(line == expected[2..], || format!("  {command}\n  the file  {}\n  {side:9} {line}", &expected[2..]));
+            tally.check(line == expected, || format!("  {command}\n  the file  {expected}\n  {side:9} {line}"));
         }
     }
     tally.check(done >= LEAST_ROWS, || format!("  only {done} receiver rows in {files:?}"));

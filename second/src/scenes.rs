@@ -1,8 +1,10 @@
 //! Hand-written scenes: each sentence of document 01's "Setup, clock and store" and "What each notified call is told", and of document 02's §8,
-//! §3 and §4, with the outcome that it asks for. The outcome is asked of both sides.
+//! §3, §4 and §1, with the outcome that it asks for. The outcome is asked of both sides.
 
+use crate::bits::missing;
 use crate::draft::{CallDraft, FacchDraft, Hops, NchDraft, PchDraft, SevenDraft, SixDraft};
 use crate::ffi::{self, archive};
+use crate::listed::octets_of;
 use crate::pair::{Pair, Said};
 use crate::receiver::{Channel, Event, Timers, DEFAULT_TIMERS};
 use crate::state::*;
@@ -215,6 +217,51 @@ pub fn run(tally: &mut Tally) {
     pch(tally);
     pch_drops(tally);
     pch_refusals(tally);
+    ran_out(tally);
+}
+
+/// Document 02, §1: the receiver says where the bits ran out. (Octets, number, bit.)
+fn ran_out(tally: &mut Tally) {
+    let facch: [(&str, u32, usize); 15] = [
+        ("042b", 2, 9),
+        ("0400000058", 2, 9),
+        ("040000005804", 2, 46),
+        ("040000005804b2bf", 2, 46),
+        ("040000005804004002", 2, 72),
+        ("04000000580400400202ff", 2, 80),
+        ("04000000580400400380000000000000", 2, 72),
+        ("040000005801", 14, 48),
+        ("040000005800", 14, 48),
+        ("040000005800ff", 14, 49),
+        ("04000004d094b2bff8", 14, 72),
+        ("040000005802", 15, 48),
+        ("04000004d094b2bff87ffffffffd", 15, 112),
+        ("04000004d094b2bff8d7", 15, 80),
+        ("04000000580147", 15, 56),
+    ];
+    let mut s = Scene::new(tally, "§1: where the bits ran out, FACCH");
+    s.facch(1_000, facch_first(VGCS)).told(&[4]);
+    for (octets, number, bit) in facch {
+        s.event(1_001, Event::Facch(octets_of(octets))).refuses(missing(number, bit));
+        s.event(999, Event::Facch(octets_of(octets))).refuses(9);
+    }
+    // A length of 200 near the end is 3, and only 2, 14 and 15 have a bit number.
+    s.event(1_001, Event::Facch(octets_of("040000005804004002c8"))).refuses(3);
+    s.event(1_001, Event::Facch(octets_of("0480"))).refuses(8);
+    s.facch(4_999, facch_second(VGCS, 7)).told(&[3]);
+
+    // A fifth call's 36 bits; the flag behind a Segment Id in the last bit; 78 marks to the last bit and no closing 0.
+    let nch: [(&str, u32, usize); 3] = [
+        ("400000000100000020040000010010000006006b", 2, 154),
+        ("0492492492492492492492492492492492492492", 14, 160),
+        ("3fffffffffffffffffffffffffffffffffffffff", 15, 160),
+    ];
+    let mut s = Scene::new(tally, "§1: where the bits ran out, NCH");
+    s.nch(1_000, with_nln(1, first(VGCS))).told(&[4]);
+    for (octets, number, bit) in nch {
+        s.event(1_001, Event::Nch(octets_of(octets))).refuses(missing(number, bit));
+    }
+    s.nch(5_999, second(VGCS, 7)).told(&[3]);
 }
 
 fn setups(tally: &mut Tally) {

@@ -166,13 +166,25 @@ fn event(rng: &mut Rng, pair: &Pair, pool: &Pool) -> Event {
             if receiver.nln.is_some() && !rng.one_in(12) {
                 draft.nln = rng.one_in(2).then_some(receiver.nln.map(u64::from).filter(|&nln| nln < 4)).flatten();
             }
+            // Now and then so much in Release 7 that it runs out.
+            if rng.one_in(16) {
+                draft.seven.get_or_insert_with(SevenDraft::default).marks = vec![1; 80];
+            }
             let mut octets = draft.octets();
             octets.truncate(20);
             Event::Nch(octets)
         }
         18..=31 => {
-            let mut octets = pool.facch(rng).octets();
+            let draft = pool.facch(rng);
+            let mut octets = draft.octets();
             octets.truncate(23);
+            // Often clipped, mostly inside the last parts.
+            if rng.one_in(4) {
+                let whole = draft.bits().0.len().div_ceil(8);
+                let most = if rng.one_in(4) { 20 } else { 3 };
+                let less = 1 + rng.below(most) as usize;
+                octets.truncate(whole.saturating_sub(less).max(2));
+            }
             Event::Facch(octets)
         }
         32 => {
@@ -236,7 +248,7 @@ fn with_leftovers(rng: &mut Rng, mut numbers: Vec<u64>) -> Vec<u64> {
 /// An entry with one or two things in it that are mostly refused; two of them show which goes first.
 fn doubtful_pch(rng: &mut Rng, mut n: Vec<u64>) -> Vec<u64> {
     for _ in 0..1 + rng.below(2) {
-        match rng.below(19) {
+        match rng.below(20) {
             0 | 1 => n[0] = rng.pick(&[200_000_000, 200_000_001, u64::from(u32::MAX), 1 << 32, n[0] | 1 << 32, u64::MAX]),
             // A mobile allocation of any length; one that is right may hold its octets or not.
             2..=5 => {
@@ -255,6 +267,11 @@ fn doubtful_pch(rng: &mut Rng, mut n: Vec<u64>) -> Vec<u64> {
             15 => n[11] = (1 << 36) + rng.below(2) - 1,
             16 => n[13] = 3 + rng.below(2),
             17 => n[2] = 0,
+            // A mark of ciphering that the full reference's cipher key number contradicts.
+            18 => {
+                n[1] = rng.below(2);
+                n[3] = n[3] & !15 | if n[1] == 1 { 0 } else { 1 + rng.below(15) };
+            }
             _ => n[5] |= 1 << (24 + rng.below(40)),
         }
     }

@@ -1,5 +1,6 @@
 //! Counting what was compared, and telling differences.
 
+use crate::bits::{number_of, Refusal};
 use crate::cover::Cover;
 use crate::ffi;
 
@@ -13,7 +14,7 @@ pub struct Tally {
     pub stop: bool,
     pub passed: u64,
     pub failed: u64,
-    pub refusals: [u64; 14],
+    pub refusals: [u64; 16],
     pub told: [u64; 9],
     pub cover: Cover,
 }
@@ -31,12 +32,12 @@ pub fn sparse(numbers: &[u64]) -> String {
 
 impl Tally {
     pub fn new(seed: u64, stop: bool) -> Tally {
-        Tally { seed, stop, passed: 0, failed: 0, refusals: [0; 14], told: [0; 9], cover: Cover::default() }
+        Tally { seed, stop, passed: 0, failed: 0, refusals: [0; 16], told: [0; 9], cover: Cover::default() }
     }
 
     /// What the archive answered. An unheard-of number differs from the second program's and is told there.
-    pub fn count_refusal(&mut self, number: u32) {
-        if let Some(count) = self.refusals.get_mut(number as usize) {
+    pub fn count_refusal(&mut self, refusal: Refusal) {
+        if let Some(count) = self.refusals.get_mut(number_of(refusal) as usize) {
             *count += 1;
         }
     }

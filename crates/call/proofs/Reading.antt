@@ -15,6 +15,7 @@ use Rattle.csn1.specs.Promises.{Grounded}
 use Rattle.csn1.specs.Told.{isThere}
 use Rattle.csn1.proofs.Promises.{lawful}
 use Rattle.csn1.proofs.Reading.{Halves, halves, found-lt, num-got, num-short, cuts, row-got, row-short, opt-short, opt-none, opt-some, either-short, either-left, either-right}
+use Rattle.call.proofs.Numbering.{frequencies-numbered, description-numbered}
 use Rattle.call.specs.declared.CallAt.{CallAt}
 use Rattle.call.specs.declared.DescriptionAt.{DescriptionAt}
 use Rattle.call.specs.declared.FrequenciesAt.{FrequenciesAt}
@@ -120,7 +121,7 @@ module _ (c : ℕ) (d : FrequenciesAt) where
   hops-told (ok (inr l) q) g e z = ap (hopping c) e
 
 pub frequencies-grounded : (s : List ℕ) (p : ℕ) → Grounded (format frequencies .read s p)
-frequencies-grounded s p = lawful frequencies (omega arith) .grounds s p
+frequencies-grounded s p = lawful frequencies frequencies-numbered .grounds s p
 
 -- ## A call
 
@@ -184,7 +185,7 @@ module _ (h : ℕ) (d : DescriptionAt) where
   described-told (ok v q) g e z = ap (called h) e ∙ call-told h (some v) q
 
 pub description-grounded : (s : List ℕ) (p : ℕ) → Grounded (format description .read s p)
-description-grounded s p = lawful description (omega arith) .grounds s p
+description-grounded s p = lawful description description-numbered .grounds s p
 
 -- ## A call by one or two fetches
 

@@ -13,7 +13,7 @@ use borrow.Author.Tests.{le-leb, leb-true, eq-eqb, ne-eqb, eqb-true, eqb-false}
 use Rattle.bits.specs.Field.{bit, field, pick}
 use Rattle.bits.proofs.Laws.{field-suc, field-zero, field-lt}
 use Rattle.csn1.specs.declared.Refusal.{Refusal}
-use Rattle.csn1.specs.Format.{Res, ok, bad, _then_, ranOut, ground, Format, numBits, num, total, rowBits, fieldsAt, rowFits, row, _▹_, _⨟_, opt, optBits, optFits, itemsBits, readItems, itemsFit, list, padBit, codedBit, coded, releaseBits, release, checked, eitherBits, eitherFits, either, whenBits, whenFits, when, Holds, Binary}
+use Rattle.csn1.specs.Format.{Res, ok, bad, _then_, ranOut, ground, Format, numBits, num, total, rowBits, fieldsAt, rowFits, row, _▹_, _⨟_, opt, optBits, optFits, itemsBits, readItems, itemsFit, list, padBit, codedBit, coded, releaseBits, release, checked, renumbered, isClip, numberedAs, inRelease, eitherBits, eitherFits, either, whenBits, whenFits, when, Holds, Binary}
 use Rattle.csn1.specs.Promises.{Stands, Grounded, Lawful}
 use Rattle.csn1.proofs.Holding.{holds-join, holds-left, holds-right, binary-join, numBits-binary, length-numBits, holds-field, field-holds}
 
@@ -205,16 +205,16 @@ row-lawful ws =
 field-one : (s : List ℕ) (p : ℕ) → field s p 1 ≡ bit s p
 field-one s p = field-suc s p 0 ∙ omega (arith, field-zero s p, ap (bit s) (add-zero p))
 
-flag-back : (s : List ℕ) (p b : ℕ) → p < length s * 8 → bit s p ≡ b → num 1 .read s p ≡ ok b (p + 1)
+pub flag-back : (s : List ℕ) (p b : ℕ) → p < length s * 8 → bit s p ≡ b → num 1 .read s p ≡ ok b (p + 1)
 flag-back s p b m e = rw (le-leb (p + 1) (length s * 8) (omega arith)) (ap (λ (x : ℕ). ok x (p + 1)) (field-one s p ∙ e))
 
-record Flag (s : List ℕ) (p f q : ℕ) : Type 0 where
-  is : bit s p ≡ f
-  small : f < 2
-  next : q ≡ p + 1
-  within : q ≤ length s * 8
+pub record Flag (s : List ℕ) (p f q : ℕ) : Type 0 where
+  pub is : bit s p ≡ f
+  pub small : f < 2
+  pub next : q ≡ p + 1
+  pub within : q ≤ length s * 8
 
-flag-stands : (s : List ℕ) (p f q : ℕ) → num 1 .read s p ≡ ok f q → Flag s p f q
+pub flag-stands : (s : List ℕ) (p f q : ℕ) → num 1 .read s p ≡ ok f q → Flag s p f q
 unfolding numBits
 flag-stands s p f q e =
     let u = num-stands 1 s p f q e in
@@ -535,6 +535,42 @@ module _ {A : Type 0} (t : A → Bool) (m : ℕ) (o : 0 < m) (F : Format A) (f :
             λ s p.
             then-grounds (F .read s p) (λ a q. pick (t a) (ok a q) (bad (ground m))) (f .grounds s p)
             (λ a q. pick-grounds (t a) (ok a q) (bad (ground m)) tt (test-grounds m o));
+      }
+
+-- ## A part of a later release
+
+-- bits that ran out have a number
+pub clip-not-zero : (m : ℕ) → isClip m ≡ true → 0 < m
+clip-not-zero zero c = absurd (let z : _≡_ {A = ℕ} 0 1 = cc in omega arith)
+clip-not-zero (suc m) c = omega arith
+
+renumbered-grounds : (m : ℕ) (r : Refusal) → 0 < m → 0 < r .number → 0 < renumbered m r .number
+unfolding renumbered
+renumbered-grounds m r o g = go (eqb (r .number) 2)
+  where
+    go : (t : Bool) → 0 < pick t (record { number = m; bit = r .bit }) r .number
+    go true = o
+    go false = g
+
+module _ {A : Type 0} (m : ℕ) (o : 0 < m) (F : Format A) (f : Lawful F) where
+  inside-read : (x : Res A) (a : A) (q : ℕ) → numberedAs m x ≡ ok a q → x ≡ ok a q
+  inside-read (ok b r) a q e = e
+  inside-read (bad r) a q e = absurd (no-ok (renumbered m r) a q e)
+
+  inside-stands : (s : List ℕ) (p : ℕ) (a : A) (q : ℕ) → Stands F s p a q → Stands (inRelease m F) s p a q
+  inside-stands s p a q u = record { fitting = u .fitting; next = u .next; holds = u .holds; within = u .within }
+
+  inside-grounds : (x : Res A) → Grounded x → Grounded (numberedAs m x)
+  inside-grounds (ok a q) g = tt
+  inside-grounds (bad r) g = renumbered-grounds m r o g
+
+  pub inside-lawful : Lawful (inRelease m F)
+  inside-lawful =
+      record {
+        back = λ s p a k l h. rw (f .back s p a k l h);
+        stands = λ s p a q l e. inside-stands s p a q (f .stands s p a q l (inside-read (F .read s p) a q e));
+        binary = f .binary;
+        grounds = λ s p. inside-grounds (F .read s p) (f .grounds s p);
       }
 
 -- ## One of two

@@ -1,5 +1,12 @@
 pub mod Holding
 pub mod Lawful
+pub mod Clips
+pub mod ClipParts
+pub mod Clipped
+pub mod Numbers
+pub mod Messages
+pub mod Cuts
+pub mod Cutting
 pub mod Promises
 pub mod Reading
 pub mod Lists

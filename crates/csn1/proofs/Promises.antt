@@ -5,10 +5,10 @@ use Prim.Native.Nat.{ℕ, _+_, _*_, _≤_}
 use native.Mathlib.Omega.{arith}
 use lib.ListN.{length}
 use Rattle.csn1.specs.Format.{Format, ok, putBits, Holds}
-use Rattle.csn1.specs.Grammar.{Grammar, number, numbers, low-high, _and_, _then-by_, flagged, listed, later, one-of, only-if, refuse, format, Numbered}
+use Rattle.csn1.specs.Grammar.{Grammar, number, numbers, low-high, _and_, _then-by_, flagged, listed, later, one-of, only-if, refuse, inside, format, Numbered}
 use Rattle.csn1.specs.Promises.{Lawful, Every-grammar-is-lawful, What-was-written-is-read}
 use Rattle.csn1.proofs.Holding.{length-put, holds-put}
-use Rattle.csn1.proofs.Lawful.{num-lawful, row-lawful, coded-lawful, after-lawful, seq-lawful, opt-lawful, list-lawful, release-lawful, checked-lawful, either-lawful, when-lawful}
+use Rattle.csn1.proofs.Lawful.{num-lawful, row-lawful, coded-lawful, after-lawful, seq-lawful, opt-lawful, list-lawful, release-lawful, checked-lawful, clip-not-zero, inside-lawful, either-lawful, when-lawful}
 
 pub lawful : {A : Type 0} (f : Grammar A) → Numbered f → Lawful (format f)
 lawful (number w) n = num-lawful w
@@ -21,7 +21,8 @@ lawful (listed f) n = list-lawful (format f) (lawful f n)
 lawful (later f) n = release-lawful (format f) (lawful f n)
 lawful (one-of f g) n = either-lawful (format f) (format g) (lawful f (n .0)) (lawful g (n .1))
 lawful (only-if t f) n = when-lawful (format f) (lawful f n) t
-lawful (refuse m t f) n = checked-lawful t m (n .0) (format f) (lawful f (n .1))
+lawful (refuse m t f) n = checked-lawful t m (n .0) (format f) (lawful f (n .3))
+lawful (inside m f) n = inside-lawful m (clip-not-zero m (n .0)) (format f) (lawful f (n .1))
 
 pub every-grammar-is-lawful : Every-grammar-is-lawful
 every-grammar-is-lawful A g n = lawful g n

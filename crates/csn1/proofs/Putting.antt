@@ -8,7 +8,7 @@ use native.Mathlib.Omega.{arith}
 use lib.ListN.{length, getD, take, drop, length-append}
 use borrow.Author.Tests.{eq-eqb, ne-eqb}
 use Rattle.bits.specs.Field.{afterPut}
-use Rattle.csn1.specs.Format.{Format, numBits, total, rowBits, rowFits, _⨟_, opt, itemsBits, list, padBit, release, putBits}
+use Rattle.csn1.specs.Format.{Format, numBits, total, rowBits, rowFits, _⨟_, opt, itemsBits, list, padBit, release, putBits, inRelease}
 use Rattle.csn1.specs.Inner.{Put, PutLow}
 use Rattle.csn1.specs.Told.{there}
 use Rattle.csn1.proofs.Holding.{put-join, length-numBits}
@@ -66,6 +66,10 @@ pub put-both : {A B : Type 0} {F : Format A} {G : Format B} {n p q r : ℕ} {a :
 put-both {F = F} {G = G} {n = n} {p = p} {r = r} {a = a} {c = c} {b = b} {e = e} f g =
     laid {F = F ⨟ G}
     (rw (← f .next) (laid-then (bits {F = F} f) (bits {F = G} g)))
+
+-- a part of a later release is written as the part
+pub put-inside : {A : Type 0} {F : Format A} {n p q : ℕ} {a : A} {b d : List ℕ} (m : ℕ) → Put F n p a q b d → Put (inRelease m F) n p a q b d
+put-inside m h = record { next = h .next; same = h .same }
 
 -- ## A flag, and an L or H
 

@@ -16,15 +16,23 @@ infixl 30 _then_
 
 -- nothing is refused
 abbrev pub noRefusal : Refusal
-noRefusal = record { number = 0 }
+noRefusal = record { number = 0; bit = 0 }
 
 -- the bits of the field that begins at p ran out
 unfoldable pub ranOut : ℕ → Refusal
-ranOut p = record { number = 2 }
+ranOut p = record { number = 2; bit = p }
 
--- a test was not met
+-- a test was not met: it has no place
 unfoldable pub ground : ℕ → Refusal
-ground m = record { number = m }
+ground m = record { number = m; bit = 0 }
+
+-- the numbers for bits that ran out: 2, and 14 and 15 inside Releases 6 and 7
+abbrev pub isClip : ℕ → Bool
+isClip m = pick (eqb m 2) true (pick (eqb m 14) true (eqb m 15))
+
+-- inside a later release bits that ran out have its number, and their place; every other refusal stays
+unfoldable pub renumbered : ℕ → Refusal → Refusal
+renumbered m r = pick (eqb (r .number) 2) (record { number = m; bit = r .bit }) r
 
 -- a value and the next place, or a refusal
 pub data Res (A : Type 0) : Type 0 where
@@ -191,6 +199,15 @@ checked t m F =
       read = λ s p. F .read s p then λ a q. pick (t a) (ok a q) (bad (ground m));
       fits = λ a. F .fits a × (t a ≡ true);
     }
+
+-- ## A part of a later release: bits that run out in it are refused with its number
+
+abbrev pub numberedAs : {A : Type 0} → ℕ → Res A → Res A
+numberedAs m (ok a q) = ok a q
+numberedAs m (bad r) = bad (renumbered m r)
+
+abbrev pub inRelease : {A : Type 0} → ℕ → Format A → Format A
+inRelease m F = record { bits = F .bits; read = λ s p. numberedAs m (F .read s p); fits = F .fits }
 
 -- ## A bit that says which of two follows
 

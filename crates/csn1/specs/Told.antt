@@ -2,11 +2,12 @@
 use mathlib.Core.List.{List, [], _∷_}
 use mathlib.Core.Bool.{Bool, true, false, not}
 use mathlib.Core.Option.{Option, none, some}
-use Prim.Native.Nat.{ℕ, zero, suc, _*_}
+use Prim.Native.Nat.{ℕ, zero, suc, _+_, _*_, _%_, _^_}
 use lib.ListN.{length}
 use lib.Dec.{leb, eqb}
 use Rattle.bits.specs.Field.{pick}
 use Rattle.csn1.specs.Format.{Res, ok, bad, _then_, ranOut, noRefusal, Format, num, opt, padBit}
+use Rattle.csn1.specs.declared.Refusal.{Refusal}
 use Rattle.csn1.specs.declared.Flagged.{Flagged}
 use Rattle.csn1.specs.declared.Lead.{Lead}
 
@@ -73,3 +74,9 @@ leadOf (ok h q) = record { refusal = noRefusal; high = h; at = q }
 abbrev pub codedOf : Res ℕ → Lead
 codedOf (bad r) = record { refusal = r; high = false; at = 0 }
 codedOf (ok v q) = record { refusal = noRefusal; high = isOne v; at = q }
+
+-- ## What a C function returns
+
+-- the number in the low octet, and above it the bit number
+unfoldable pub codeOf : Refusal → ℕ
+codeOf r = r .number + 256 * (r .bit % 2 ^ 24)

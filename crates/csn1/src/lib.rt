@@ -1,36 +1,57 @@
 // CSN.1: formats of bits. Their meaning stands in specs/, the one theorem over all of them in proofs/; the code is what readers of every format share.
 ghost use mathlib.Core.Path.{_≡_};
-ghost use Rattle.csn1.specs.Format.{bad, ranOut, ground, noRefusal, padBit, coded};
-ghost use Rattle.csn1.specs.Told.{readAt, flaggedAt, leadAt, flaggedOf, leadOf, codedOf};
+ghost use Rattle.csn1.specs.Format.{bad, ranOut, ground, noRefusal, renumbered, padBit, coded};
+ghost use Rattle.csn1.specs.Told.{readAt, flaggedAt, leadAt, flaggedOf, leadOf, codedOf, codeOf};
 use bits::Got;
 
 // The longest message that is read, in octets: ours have at most 255. A longer one is answered as if its bits had run out.
 pub const LONGEST: usize = 4096;
 
-// Why a reading ended: today its number alone, and 0 where nothing was refused. A place goes in here when it is asked for.
+// Why a reading ended: its number, 0 where nothing was refused, and of bits that ran out the place where their field begins.
 pub struct Refusal {
     pub number: u8,
+    pub bit: usize,
 }
 
 // Nothing is refused.
 pub fn no_refusal() -> Refusal
     ensures { λ r. ⌜ r ≡ noRefusal ⌝ }
 {
-    Refusal { number: 0 }
+    Refusal { number: 0, bit: 0 }
 }
 
 // The bits of the field that begins at `at` ran out.
 pub fn ran_out(at: usize) -> Refusal
     ensures { λ r. ⌜ r ≡ ranOut at ⌝ }
 {
-    Refusal { number: 2 }
+    Refusal { number: 2, bit: at }
 }
 
 // A test was not met.
 pub fn ground(number: u8) -> Refusal
     ensures { λ r. ⌜ r ≡ ground number ⌝ }
 {
-    Refusal { number }
+    Refusal { number, bit: 0 }
+}
+
+// Inside a later release, bits that ran out have its number.
+pub fn inside(number: u8, refusal: Refusal) -> Refusal
+    ensures { λ r. ⌜ r ≡ renumbered number refusal ⌝ }
+{
+    if refusal.number == 2 {
+        return Refusal {
+            number,
+            bit: refusal.bit,
+        };
+    }
+    refusal
+}
+
+// A refusal as C functions return it: its number in the low octet, and its bit above it.
+pub fn code(refusal: Refusal) -> u32
+    ensures { λ r. ⌜ r ≡ codeOf refusal ⌝ }
+{
+    refusal.number as u32 + 256 * (refusal.bit % 16777216) as u32
 }
 
 // The padding bit at a place: that of octet 2B hex.

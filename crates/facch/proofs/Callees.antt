@@ -13,7 +13,7 @@ use Rattle.bits.specs.declared.Got.the-variants.{Bits, Short}
 use Rattle.csn1.specs.declared.Refusal.{Refusal}
 use Rattle.csn1.specs.declared.Flagged.{Flagged}
 use Rattle.csn1.specs.declared.Lead.{Lead}
-use Rattle.csn1.specs.Format.{Res, ok, bad, _then_, ranOut, ground, noRefusal, Format, num, opt, coded, release, either, _⨟_}
+use Rattle.csn1.specs.Format.{Res, ok, bad, _then_, ranOut, ground, noRefusal, renumbered, numberedAs, Format, num, opt, coded, release, either, _⨟_}
 use Rattle.csn1.specs.Grammar.{number, _and_, flagged, later, format}
 use Rattle.csn1.specs.Told.{readAt, flaggedAt, flaggedOf, codedOf}
 use Rattle.csn1.proofs.Promises.{lawful}
@@ -31,10 +31,12 @@ use Rattle.facch.specs.Message.{Release6Value, Release7Value, release6, 
 use Rattle.facch.specs.Told.{readingOf}
 use Rattle.facch.specs.Parts.{release6AtOf, release7AtOf}
 use Rattle.facch.specs.Inner.{countAtOf}
+use Rattle.call.proofs.Numbering.{call-numbered}
+use Rattle.facch.proofs.Numbering.{numbered6, numbered7}
 
 -- behind a release's H
-abbrev behind : {A : Type 0} → Res A → Res (Option A)
-behind x = x then λ v q. ok (some v) q
+abbrev behind : {A : Type 0} → ℕ → Res A → Res (Option A)
+behind m x = numberedAs m x then λ v q. ok (some v) q
 
 -- ## Release 6: the counts, then VSTK_RAND
 
@@ -49,29 +51,32 @@ whole6 r c v =
       at = v .at;
     }
 
+abbrev all6 : Format Release6Value
+all6 = opt (num 2 ⨟ num 1) ⨟ opt (num 36)
+
 -- what each call gave, one after the other
 module _ (s : List ℕ) (p : ℕ) (l : length s ≤ 4096) (c : CountAt) (ec : c ≡ countAtOf (opt (num 2 ⨟ num 1) .read s p)) where
-  bad6 : (r : Refusal) → format release6 .read s p ≡ bad r → release6AtOf (bad r) ≡ release6AtOf (behind (format release6 .read s p))
-  bad6 r e = sym (ap (λ (x : Res Release6Value). release6AtOf (behind x)) e)
+  bad6 : (r : Refusal) → all6 .read s p ≡ bad r → release6AtOf (bad (renumbered 14 r)) ≡ release6AtOf (behind 14 (all6 .read s p))
+  bad6 r e = sym (ap (λ (x : Res Release6Value). release6AtOf (behind 14 x)) e)
 
-  pub count-bad : (c .refusal .number ≡ 0 → ⊥) → release6AtOf (bad (c .refusal)) ≡ release6AtOf (behind (format release6 .read s p))
+  pub count-bad : (c .refusal .number ≡ 0 → ⊥) → release6AtOf (bad (renumbered 14 (c .refusal))) ≡ release6AtOf (behind 14 (all6 .read s p))
   count-bad n = bad6 _ (first-bad (opt (num 2 ⨟ num 1)) (opt (num 36)) s p _ (unanswered counts c _ ec n))
 
   module _ (zc : c .refusal .number ≡ 0) (v : Flagged) (ev : v ≡ flaggedOf (flaggedAt s (c .at) 36)) where
     counted : Answer counts c (opt (num 2 ⨟ num 1) .read s p)
     counted = answered counts c (opt (num 2 ⨟ num 1) .read s p) ec (lawful (flagged (number 2 and number 1)) (tt, tt) .grounds s p) zc
 
-    pub rand-bad : (v .refusal .number ≡ 0 → ⊥) → release6AtOf (bad (v .refusal)) ≡ release6AtOf (behind (format release6 .read s p))
+    pub rand-bad : (v .refusal .number ≡ 0 → ⊥) → release6AtOf (bad (renumbered 14 (v .refusal))) ≡ release6AtOf (behind 14 (all6 .read s p))
     rand-bad n =
         bad6 _ (then-bad (opt (num 2 ⨟ num 1)) (opt (num 36)) s p _ _ _ (counted .is) (flagged-refused s (c .at) 36 (omega arith) l v ev n))
 
-    pub parts6-told : v .refusal .number ≡ 0 → (r : Refusal) → r ≡ noRefusal → whole6 r c v ≡ release6AtOf (behind (format release6 .read s p))
+    pub parts6-told : v .refusal .number ≡ 0 → (r : Refusal) → r ≡ noRefusal → whole6 r c v ≡ release6AtOf (behind 14 (all6 .read s p))
     parts6-told zv r e =
         let given = flag-answered s (c .at) 36 (omega arith) l v ev zv in
-        let all : format release6 .read s p ≡ ok (counted .value, given .value) (v .at) =
+        let all : all6 .read s p ≡ ok (counted .value, given .value) (v .at) =
         then-ok (opt (num 2 ⨟ num 1)) (opt (num 36)) s p _ _ _ _ (counted .is) (given .is) in
         ap (λ (x : Refusal). whole6 x c v) e ∙ ap₂ (whole6 noRefusal) (counted .told) (given .told)
-        ∙ sym (ap (λ (x : Res Release6Value). release6AtOf (behind x)) all)
+        ∙ sym (ap (λ (x : Res Release6Value). release6AtOf (behind 14 x)) all)
 
 -- ## Release 7: Priority Uplink Access, Emergency_Ind, Paging Cause
 
@@ -82,18 +87,21 @@ whole7 r u e p = record { refusal = r; release = record { hasRelease = true; upl
 abbrev rest7 : Format (ℕ × Option ℕ)
 rest7 = coded ⨟ opt (num 1)
 
-module _ (s : List ℕ) (p : ℕ) (l : length s ≤ 4096) (u : Lead) (eu : u ≡ codedOf (readAt coded s p)) where
-  bad7 : (r : Refusal) → format release7 .read s p ≡ bad r → release7AtOf (bad r) ≡ release7AtOf (behind (format release7 .read s p))
-  bad7 r e = sym (ap (λ (x : Res Release7Value). release7AtOf (behind x)) e)
+abbrev all7 : Format Release7Value
+all7 = coded ⨟ rest7
 
-  pub uplink-bad : (u .refusal .number ≡ 0 → ⊥) → release7AtOf (bad (u .refusal)) ≡ release7AtOf (behind (format release7 .read s p))
+module _ (s : List ℕ) (p : ℕ) (l : length s ≤ 4096) (u : Lead) (eu : u ≡ codedOf (readAt coded s p)) where
+  bad7 : (r : Refusal) → all7 .read s p ≡ bad r → release7AtOf (bad (renumbered 15 r)) ≡ release7AtOf (behind 15 (all7 .read s p))
+  bad7 r e = sym (ap (λ (x : Res Release7Value). release7AtOf (behind 15 x)) e)
+
+  pub uplink-bad : (u .refusal .number ≡ 0 → ⊥) → release7AtOf (bad (renumbered 15 (u .refusal))) ≡ release7AtOf (behind 15 (all7 .read s p))
   uplink-bad n = bad7 _ (first-bad coded rest7 s p _ (coded-refused s p l u eu n))
 
   module _ (zu : u .refusal .number ≡ 0) (e : Lead) (ee : e ≡ codedOf (readAt coded s (u .at))) where
     linked : Answer codes u (coded .read s p)
     linked = coded-answered s p l u eu zu
 
-    pub emergency-bad : (e .refusal .number ≡ 0 → ⊥) → release7AtOf (bad (e .refusal)) ≡ release7AtOf (behind (format release7 .read s p))
+    pub emergency-bad : (e .refusal .number ≡ 0 → ⊥) → release7AtOf (bad (renumbered 15 (e .refusal))) ≡ release7AtOf (behind 15 (all7 .read s p))
     emergency-bad n =
         bad7 _ (then-bad coded rest7 s p _ _ _ (linked .is) (first-bad coded (opt (num 1)) s (u .at) _ (coded-refused s (u .at) l e ee n)))
 
@@ -101,20 +109,20 @@ module _ (s : List ℕ) (p : ℕ) (l : length s ≤ 4096) (u : Lead) (eu : u ≡
       marked : Answer codes e (coded .read s (u .at))
       marked = coded-answered s (u .at) l e ee ze
 
-      pub cause-bad : (c .refusal .number ≡ 0 → ⊥) → release7AtOf (bad (c .refusal)) ≡ release7AtOf (behind (format release7 .read s p))
+      pub cause-bad : (c .refusal .number ≡ 0 → ⊥) → release7AtOf (bad (renumbered 15 (c .refusal))) ≡ release7AtOf (behind 15 (all7 .read s p))
       cause-bad n =
           bad7 _
           (then-bad coded rest7 s p _ _ _ (linked .is)
           (then-bad coded (opt (num 1)) s (u .at) _ _ _ (marked .is) (flagged-refused s (e .at) 1 (omega arith) l c ec n)))
 
-      pub parts7-told : c .refusal .number ≡ 0 → (r : Refusal) → r ≡ noRefusal → whole7 r u e c ≡ release7AtOf (behind (format release7 .read s p))
+      pub parts7-told : c .refusal .number ≡ 0 → (r : Refusal) → r ≡ noRefusal → whole7 r u e c ≡ release7AtOf (behind 15 (all7 .read s p))
       parts7-told zc r z =
           let caused = flag-answered s (e .at) 1 (omega arith) l c ec zc in
-          let all : format release7 .read s p ≡ ok (linked .value, (marked .value, caused .value)) (c .at) =
+          let all : all7 .read s p ≡ ok (linked .value, (marked .value, caused .value)) (c .at) =
           then-ok coded rest7 s p _ _ _ _ (linked .is) (then-ok coded (opt (num 1)) s (u .at) _ _ _ _ (marked .is) (caused .is)) in
           ap (λ (x : Refusal). whole7 x u e c) z ∙ ap (λ (x : Lead). whole7 noRefusal x e c) (linked .told)
           ∙ ap₂ (whole7 noRefusal (codedOf (ok (linked .value) (u .at)))) (marked .told) (caused .told)
-          ∙ sym (ap (λ (x : Res Release7Value). release7AtOf (behind x)) all)
+          ∙ sym (ap (λ (x : Res Release7Value). release7AtOf (behind 15 x)) all)
 
 -- ## The message
 
@@ -181,7 +189,7 @@ module _ (s : List ℕ) (h : 2 ≤ length s) (l : length s ≤ 23) where
 
       module _ (zc : c .refusal .number ≡ 0) (x : Release6At) (ex : x ≡ release6AtOf (readAt added6 s (c .at))) where
         call : Answer calls c (format callGrammar .read s 9)
-        call = answered calls c (format callGrammar .read s 9) called (lawful callGrammar (omega arith) .grounds s 9) zc
+        call = answered calls c (format callGrammar .read s 9) called (lawful callGrammar call-numbered .grounds s 9) zc
 
         notice : notified .read s 8 ≡ ok (inl (call .value)) (c .at)
         notice = either-left (format callGrammar) (format paging) s 8 b e z ∙ rw (call .is)
@@ -196,7 +204,7 @@ module _ (s : List ℕ) (h : 2 ≤ length s) (l : length s ≤ 23) where
 
         module _ (zx : x .refusal .number ≡ 0) (y : Release7At) (ey : y ≡ release7AtOf (readAt added7 s (x .at))) where
           sixth : Answer sixes x (added6 .read s (c .at))
-          sixth = answered sixes x (added6 .read s (c .at)) six (lawful (later release6) (omega arith) .grounds s (c .at)) zx
+          sixth = answered sixes x (added6 .read s (c .at)) six (lawful (later release6) numbered6 .grounds s (c .at)) zx
 
           seven : y ≡ release7AtOf (added7 .read s (x .at))
           seven = ey ∙ ap release7AtOf (read-at added7 s (x .at) (omega arith))
@@ -209,7 +217,7 @@ module _ (s : List ℕ) (h : 2 ≤ length s) (l : length s ≤ 23) where
 
           pub message-told : y .refusal .number ≡ 0 → (r : Refusal) → r ≡ noRefusal → whole r c x y ≡ readingOf (readOctets s)
           message-told zy r er =
-              let seventh = answered sevens y (added7 .read s (x .at)) seven (lawful (later release7) (omega arith) .grounds s (x .at)) zy in
+              let seventh = answered sevens y (added7 .read s (x .at)) seven (lawful (later release7) numbered7 .grounds s (x .at)) zy in
               let all : readOctets s ≡ ok (field s 0 8, (inl (call .value), (sixth .value, seventh .value))) (y .at) =
               content-ok _ _
               (then-ok notified (added6 ⨟ added7) s 8 _ _ _ _ notice (then-ok added6 added7 s (c .at) _ _ _ _ (sixth .is) (seventh .is))) in

@@ -1,3 +1,5 @@
+pub mod Numbering
 pub mod Callees
+pub mod Clips
 pub mod Promises
 pub mod Back

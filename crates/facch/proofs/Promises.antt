@@ -15,12 +15,13 @@ use Rattle.call.specs.Call.{groupCall}
 use Rattle.facch.specs.Message.{Value, message, notification, readOctets}
 use Rattle.facch.specs.Told.{recordOf, readingOf}
 use Rattle.facch.specs.Back.{valueOf, causeIn}
+use Rattle.facch.proofs.Numbering.{message-numbered}
 use Rattle.facch.proofs.Back.{a-record-tells-its-message}
 use Rattle.facch.specs.Promises.{Stands-there, Every-reading-stands-in-the-octets, What-stands-in-the-octets-is-read, Listed-records}
 
 notification-lawful : Lawful notification
 unfolding notification
-notification-lawful = lawful message (omega arith)
+notification-lawful = lawful message message-numbered
 
 -- what was read stands there
 read-stands : (s : List ℕ) (v : Value) (q : ℕ) → readOctets s ≡ ok v q → notification .read s 0 ≡ ok v q → Stands-there s

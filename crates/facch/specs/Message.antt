@@ -8,12 +8,12 @@ use lib.ListN.{length}
 use lib.Dec.{leb}
 use Rattle.bits.specs.Field.{both, pick}
 use Rattle.csn1.specs.Format.{Res, bad, ground, Format}
-use Rattle.csn1.specs.Grammar.{Grammar, number, numbers, low-high, _and_, flagged, later, one-of, refuse, format}
+use Rattle.csn1.specs.Grammar.{Grammar, number, numbers, low-high, _and_, flagged, later, one-of, refuse, inside, format}
 use Rattle.call.specs.Call.{CallValue, callGrammar}
 
 -- Each part of a value has a name, beside the line of the grammar that reads it and in its order.
 
--- ## The releases
+-- ## The releases, from the bit behind the H on: bits that run out inside Release 6 are 14, and inside Release 7 they are 15
 
 -- <CELL_GLOBAL_COUNT: bit (2)> <B22_COUNT: bit>
 abbrev pub counts : Grammar (ℕ × ℕ)
@@ -30,7 +30,7 @@ Release6Value = Option (ℕ × ℕ) × Option ℕ
 
 -- {0 | 1 <CELL_GLOBAL_COUNT: bit (2)> <B22_COUNT: bit>} {0 | 1 <VSTK_RAND: bit (36)>}
 abbrev pub release6 : Grammar Release6Value
-release6 = flagged counts and flagged (number 36)
+release6 = inside 14 (flagged counts and flagged (number 36))
 
 abbrev pub countPart : Release6Value → Option (ℕ × ℕ)
 countPart v = v .0
@@ -44,7 +44,7 @@ Release7Value = ℕ × (ℕ × Option ℕ)
 -- <Priority Uplink Access: bit == L | bit == H> <Emergency_Ind: bit == L | bit == H> {0 | 1 <Paging Cause: bit (1)>}
 -- (003's braces put Paging Cause outside; document 01 places it inside Release 7)
 abbrev pub release7 : Grammar Release7Value
-release7 = low-high and low-high and flagged (number 1)
+release7 = inside 15 (low-high and low-high and flagged (number 1))
 
 abbrev pub uplinkAccess : Release7Value → ℕ
 uplinkAccess v = v .0

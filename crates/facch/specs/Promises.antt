@@ -1,15 +1,18 @@
--- What is promised of NOTIFICATION/FACCH (demand 2, reading). Assumes nothing.
+-- What is promised of NOTIFICATION/FACCH (demand 2, reading, and where bits ran out). Assumes nothing.
 use mathlib.Core.Path.{_≡_}
-use mathlib.Core.List.{List, [], _∷_}
+use mathlib.Core.List.{List, [], _∷_, map}
 use mathlib.Core.Bool.{Bool, true, false}
-use Prim.Native.Nat.{ℕ, _*_, _≤_}
-use lib.ListN.{length}
-use Rattle.csn1.specs.Format.{ok, noRefusal, Holds}
+use Prim.Native.Nat.{ℕ, _*_, _≤_, _<_}
+use lib.ListN.{length, take}
+use Rattle.csn1.specs.Format.{ok, noRefusal, isClip, Holds}
+use Rattle.csn1.specs.Grammar.{number, _and_, one-of}
+use Rattle.csn1.specs.Clip.{Clipped, Release-of}
 use Rattle.csn1.specs.Promises.{Stands}
-use Rattle.call.specs.Call.{noDescription}
+use Rattle.call.specs.Call.{noDescription, callGrammar}
+use Rattle.facch.specs.declared.Notification.{Notification}
 use Rattle.facch.specs.declared.Reading.{Reading}
-use Rattle.facch.specs.Message.{Value, firstOctet, release7Part, notification}
-use Rattle.facch.specs.Told.{noRelease6, recordOf, readingOf, readOf}
+use Rattle.facch.specs.Message.{release6, release7, paging, Value, message, firstOctet, release7Part, notification}
+use Rattle.facch.specs.Told.{noRelease6, noRelease7, recordOf, readingOf, readOf}
 use Rattle.facch.specs.Back.{valueOf, causeIn}
 
 -- 1. A record tells its message: all of it but the first octet and the Paging Cause bit comes back.
@@ -67,3 +70,82 @@ pub record Listed-records : Type 0 where
   pub uplink : readOf (0x04 ∷ 0x0b ∷ 0xc6 ∷ 0x14 ∷ 0xe8 ∷ 0x2a ∷ 0x8b ∷ []) ≡ withRelease7 true false
   -- and the reverse
   pub emergency : readOf (0x04 ∷ 0x0b ∷ 0xc6 ∷ 0x14 ∷ 0xe8 ∷ 0x2a ∷ 0x4b ∷ []) ≡ withRelease7 false true
+
+-- 5. Refused with 2, 14 or 15: bits ran out in a field that reading came to, which begins at the refusal's bit and ends past the octets; bit numbers count the first
+-- octet. Any other refusal has the bit 0.
+abbrev pub A-clip-is-told-where-it-is : Type 0
+A-clip-is-told-where-it-is =
+    (s : List ℕ)
+    → (isClip (readOf s .refusal .number) ≡ true → ((2 ≤ length s) × (length s ≤ 23)) × Clipped message s 0 (readOf s .refusal))
+    × (isClip (readOf s .refusal .number) ≡ false → readOf s .refusal .bit ≡ 0)
+
+-- 6. 2 is before the releases, 14 from the bit behind Release 6's H to its last bit, and 15 the same in Release 7.
+abbrev pub The-number-says-the-release : Type 0
+The-number-says-the-release =
+    (s : List ℕ) → isClip (readOf s .refusal .number) ≡ true → Release-of (number 8 and one-of callGrammar paging) release6 release7 s 0 (readOf s .refusal)
+
+-- a record without Release 7, and without both
+abbrev pub without7 : Notification → Notification
+without7 m = record { call = m .call; release6 = m .release6; release7 = noRelease7 }
+
+abbrev pub withoutBoth : Notification → Notification
+withoutBoth m = record { call = m .call; release6 = noRelease6; release7 = noRelease7 }
+
+-- an accepted message s cut to its first n octets: refused as bits that ran out, at most at the cut; or the cut fell where Release 7 begins, or where
+-- Release 6 begins, and what is left is read as the same message without it and what follows
+pub data Told-as-a-clip (s : List ℕ) (n : ℕ) : Type 0 where
+  refused : isClip (readOf (take n s) .refusal .number) ≡ true → readOf (take n s) .refusal .bit ≤ n * 8 → Told-as-a-clip s n
+  before-release7 : readOf (take n s) ≡ record { refusal = noRefusal; used = n * 8; «record» = without7 (readOf s .«record») } → Told-as-a-clip s n
+  before-release6 : readOf (take n s) ≡ record { refusal = noRefusal; used = n * 8; «record» = withoutBoth (readOf s .«record») } → Told-as-a-clip s n
+
+-- 7. A clip is told as a clip. Where nothing that was used is cut off, the same is read.
+abbrev pub A-clip-is-told-as-a-clip : Type 0
+A-clip-is-told-as-a-clip =
+    (s : List ℕ)
+    → readOf s .refusal .number ≡ 0
+    → (n : ℕ)
+    → 2 ≤ n
+    → (n * 8 < readOf s .used → Told-as-a-clip s n) × (readOf s .used ≤ n * 8 → readOf (take n s) ≡ readOf s)
+
+-- 8. Listed clips: the number and the bit, worked out from the octets by hand, and what is missing there.
+abbrev pub clips : List ((ℕ × ℕ) × List ℕ)
+clips =
+    -- 7 of the call's 36 bits
+    ((2, 9), 0x04 ∷ 0x2b ∷ [])
+    -- 31 of them
+    ∷ ((2, 9), 0x04 ∷ 0x00 ∷ 0x00 ∷ 0x00 ∷ 0x58 ∷ [])
+    -- 18 of the description's 24 bits
+    ∷ ((2, 46), 0x04 ∷ 0x00 ∷ 0x00 ∷ 0x00 ∷ 0x58 ∷ 0x04 ∷ 0xb2 ∷ 0xbf ∷ [])
+    -- the length octet
+    ∷ ((2, 72), 0x04 ∷ 0x00 ∷ 0x00 ∷ 0x00 ∷ 0x58 ∷ 0x04 ∷ 0x00 ∷ 0x40 ∷ 0x02 ∷ [])
+    -- one of the allocation's two octets
+    ∷ ((2, 80), 0x04 ∷ 0x00 ∷ 0x00 ∷ 0x00 ∷ 0x58 ∷ 0x04 ∷ 0x00 ∷ 0x40 ∷ 0x02 ∷ 0x02 ∷ 0xff ∷ [])
+    -- 56 of the short list's 64 bits
+    ∷ ((2, 72), 0x04 ∷ 0x00 ∷ 0x00 ∷ 0x00 ∷ 0x58 ∷ 0x04 ∷ 0x00 ∷ 0x40 ∷ 0x03 ∷ 0x80 ∷ 0x00 ∷ 0x00 ∷ 0x00 ∷ 0x00 ∷ 0x00 ∷ 0x00 ∷ [])
+    -- H at 46, flag 1, and no CELL_GLOBAL_COUNT
+    ∷ ((14, 48), 0x04 ∷ 0x00 ∷ 0x00 ∷ 0x00 ∷ 0x58 ∷ 0x01 ∷ [])
+    -- flag 0, and no flag of VSTK_RAND
+    ∷ ((14, 48), 0x04 ∷ 0x00 ∷ 0x00 ∷ 0x00 ∷ 0x58 ∷ 0x00 ∷ [])
+    -- 7 of VSTK_RAND's 36 bits
+    ∷ ((14, 49), 0x04 ∷ 0x00 ∷ 0x00 ∷ 0x00 ∷ 0x58 ∷ 0x00 ∷ 0xff ∷ [])
+    -- L at 46, and H in the last bit with nothing behind it
+    ∷ ((15, 48), 0x04 ∷ 0x00 ∷ 0x00 ∷ 0x00 ∷ 0x58 ∷ 0x02 ∷ [])
+    -- H in the last bit: Release 6 with nothing behind it
+    ∷ ((14, 72), 0x04 ∷ 0x00 ∷ 0x00 ∷ 0x04 ∷ 0xd0 ∷ 0x94 ∷ 0xb2 ∷ 0xbf ∷ 0xf8 ∷ [])
+    -- Emergency_Ind
+    ∷ ((15, 112), 0x04 ∷ 0x00 ∷ 0x00 ∷ 0x04 ∷ 0xd0 ∷ 0x94 ∷ 0xb2 ∷ 0xbf ∷ 0xf8 ∷ 0x7f ∷ 0xff ∷ 0xff ∷ 0xff ∷ 0xfd ∷ [])
+    -- the flag of Paging Cause
+    ∷ ((15, 80), 0x04 ∷ 0x00 ∷ 0x00 ∷ 0x04 ∷ 0xd0 ∷ 0x94 ∷ 0xb2 ∷ 0xbf ∷ 0xf8 ∷ 0xd7 ∷ [])
+    -- Paging Cause
+    ∷ ((15, 56), 0x04 ∷ 0x00 ∷ 0x00 ∷ 0x00 ∷ 0x58 ∷ 0x01 ∷ 0x47 ∷ [])
+    ∷ []
+
+-- what a row's octets are refused with, and where
+abbrev pub toldOf : (ℕ × ℕ) × List ℕ → ℕ × ℕ
+toldOf row = (readOf (row .1) .refusal .number, readOf (row .1) .refusal .bit)
+
+abbrev pub rowOf : (ℕ × ℕ) × List ℕ → ℕ × ℕ
+rowOf row = row .0
+
+abbrev pub The-listed-clips-are-told-so : Type 0
+The-listed-clips-are-told-so = map toldOf clips ≡ map rowOf clips

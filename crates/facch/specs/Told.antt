@@ -65,7 +65,7 @@ recordOf v = record { call = notified (callOrPaging v); release6 = release6Of (r
 abbrev pub noRecord : Notification
 noRecord = record { call = noCall; release6 = noRelease6; release7 = noRelease7 }
 
--- a refusal is its number alone
+-- a refusal is its number and its bit alone
 abbrev pub readingOf : Res Value → Reading
 readingOf (bad r) = record { refusal = r; used = 0; «record» = noRecord }
 readingOf (ok v q) = record { refusal = noRefusal; used = q; «record» = recordOf v }

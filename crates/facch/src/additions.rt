@@ -3,7 +3,7 @@ ghost use mathlib.Core.Path.{_≡_};
 ghost use mathlib.Core.Option.{some};
 ghost use Prim.Native.Nat.{_≤_};
 ghost use lib.ListN.{length};
-ghost use Rattle.csn1.specs.Format.{ok, bad, _then_, num, opt, release, _⨟_};
+ghost use Rattle.csn1.specs.Format.{ok, bad, _then_, renumbered, num, opt, release, _⨟_};
 ghost use Rattle.csn1.specs.Grammar.{format};
 ghost use Rattle.csn1.specs.Told.{readAt};
 ghost use Rattle.facch.specs.Message.{release6, release7};
@@ -115,6 +115,13 @@ fn refused_release6(refusal: Refusal) -> Release6At
     }
 }
 
+// Bits that ran out behind Release 6's H are 14.
+fn clipped6(refusal: Refusal) -> Release6At
+    ensures { λ r. ⌜ r ≡ release6AtOf (bad (renumbered 14 refusal)) ⌝ }
+{
+    refused_release6(csn1::inside(14, refusal))
+}
+
 // The parts behind Release 6's H.
 fn read_parts6(s: &[u8], at: usize) -> Release6At
     requires { ⌜ length (now s) ≤ 4096 ⌝ }
@@ -122,11 +129,11 @@ fn read_parts6(s: &[u8], at: usize) -> Release6At
 {
     let c = read_count(s, at);
     if c.refusal.number != 0 {
-        return refused_release6(c.refusal);
+        return clipped6(c.refusal);
     }
     let v = csn1::read_flagged(s, c.at, 36);
     if v.refusal.number != 0 {
-        return refused_release6(v.refusal);
+        return clipped6(v.refusal);
     }
     Release6At {
         refusal: csn1::no_refusal(),
@@ -173,6 +180,13 @@ fn refused_release7(refusal: Refusal) -> Release7At
     }
 }
 
+// Bits that ran out behind Release 7's H are 15.
+fn clipped7(refusal: Refusal) -> Release7At
+    ensures { λ r. ⌜ r ≡ release7AtOf (bad (renumbered 15 refusal)) ⌝ }
+{
+    refused_release7(csn1::inside(15, refusal))
+}
+
 // The parts behind Release 7's H. The two bits are L/H-coded (003), and a call's Paging Cause is read past.
 fn read_parts7(s: &[u8], at: usize) -> Release7At
     requires { ⌜ length (now s) ≤ 4096 ⌝ }
@@ -180,15 +194,15 @@ fn read_parts7(s: &[u8], at: usize) -> Release7At
 {
     let u = csn1::read_coded(s, at);
     if u.refusal.number != 0 {
-        return refused_release7(u.refusal);
+        return clipped7(u.refusal);
     }
     let e = csn1::read_coded(s, u.at);
     if e.refusal.number != 0 {
-        return refused_release7(e.refusal);
+        return clipped7(e.refusal);
     }
     let p = csn1::read_flagged(s, e.at, 1);
     if p.refusal.number != 0 {
-        return refused_release7(p.refusal);
+        return clipped7(p.refusal);
     }
     Release7At {
         refusal: csn1::no_refusal(),

@@ -35,63 +35,63 @@ pub extern "C" fn asternhaken_setup(
 pub extern "C" fn asternhaken_nch(state: &mut [u8], time: u32, octets: &[u8]) -> u32
     ensures { λ r. ⌜ Fed (now (state .entry)) (nch time (now (octets .entry))) (now (state .exit)) r ⌝ }
 {
-    lent::events::nch(state, time, octets) as u32
+    lent::events::nch(state, time, octets)
 }
 
 #[no_mangle]
 pub extern "C" fn asternhaken_facch(state: &mut [u8], time: u32, octets: &[u8]) -> u32
     ensures { λ r. ⌜ Fed (now (state .entry)) (facch time (now (octets .entry))) (now (state .exit)) r ⌝ }
 {
-    lent::events::facch(state, time, octets) as u32
+    lent::events::facch(state, time, octets)
 }
 
 #[no_mangle]
 pub extern "C" fn asternhaken_pch(state: &mut [u8], time: u32, entry: &[u64]) -> u32
     ensures { λ r. ⌜ Fed (now (state .entry)) (pch time (now (entry .entry))) (now (state .exit)) r ⌝ }
 {
-    lent::events::pch(state, time, entry) as u32
+    lent::events::pch(state, time, entry)
 }
 
 #[no_mangle]
 pub extern "C" fn asternhaken_joined(state: &mut [u8], time: u32, key: u32) -> u32
     ensures { λ r. ⌜ Fed (now (state .entry)) (joined time key) (now (state .exit)) r ⌝ }
 {
-    lent::events::joined(state, time, key) as u32
+    lent::events::joined(state, time, key)
 }
 
 #[no_mangle]
 pub extern "C" fn asternhaken_reselected(state: &mut [u8], time: u32) -> u32
     ensures { λ r. ⌜ Fed (now (state .entry)) (reselected time) (now (state .exit)) r ⌝ }
 {
-    lent::events::reselected(state, time) as u32
+    lent::events::reselected(state, time)
 }
 
 #[no_mangle]
 pub extern "C" fn asternhaken_handed_over(state: &mut [u8], time: u32) -> u32
     ensures { λ r. ⌜ Fed (now (state .entry)) (handedOver time) (now (state .exit)) r ⌝ }
 {
-    lent::events::handed_over(state, time) as u32
+    lent::events::handed_over(state, time)
 }
 
 #[no_mangle]
 pub extern "C" fn asternhaken_reconfigured(state: &mut [u8], time: u32) -> u32
     ensures { λ r. ⌜ Fed (now (state .entry)) (reconfigured time) (now (state .exit)) r ⌝ }
 {
-    lent::events::reconfigured(state, time) as u32
+    lent::events::reconfigured(state, time)
 }
 
 #[no_mangle]
 pub extern "C" fn asternhaken_left_idle(state: &mut [u8], time: u32) -> u32
     ensures { λ r. ⌜ Fed (now (state .entry)) (leftIdle time) (now (state .exit)) r ⌝ }
 {
-    lent::events::left_idle(state, time) as u32
+    lent::events::left_idle(state, time)
 }
 
 #[no_mangle]
 pub extern "C" fn asternhaken_tick(state: &mut [u8], time: u32) -> u32
     ensures { λ r. ⌜ Fed (now (state .entry)) (tick time) (now (state .exit)) r ⌝ }
 {
-    lent::events::tick(state, time) as u32
+    lent::events::tick(state, time)
 }
 
 // One number of the answer to the last accepted event; what is not there is 0.

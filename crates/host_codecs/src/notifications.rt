@@ -1,7 +1,7 @@
 // The notifications on arrays of numbers.
 ghost use mathlib.Core.Path.{_≡_};
 ghost use lib.ListN.{length};
-ghost use Rattle.csn1.specs.Told.{padded};
+ghost use Rattle.csn1.specs.Told.{padded, codeOf};
 ghost use Rattle.nch.specs.Told.{readOf as readNch};
 ghost use Rattle.facch.specs.Told.{readOf as readFacch};
 ghost use Rattle.nch.specs.NotificationNumbers.{readNumbers as nchNumbers, writeCode, afterWrite};
@@ -9,10 +9,11 @@ ghost use Rattle.numbers.specs.FacchNumbers.{readNumbers as facchNumbers};
 
 #[no_mangle]
 pub extern "C" fn asternhaken_nch_read(octets: &[u8], numbers: &mut [u64]) -> u32
-    ensures { λ r. ⌜ (r ≡ readNch (now (octets .entry)) .refusal .number)
+    ensures { λ r. ⌜ (r ≡ codeOf (readNch (now (octets .entry)) .refusal))
         × (now (numbers .exit) ≡ padded 0 (length (now (numbers .entry))) (nchNumbers (now (octets .entry)))) ⌝ }
 {
-    numbers::on_nch::read(octets, numbers) as u32
+    let r = numbers::on_nch::read(octets, numbers);
+    csn1::code(r)
 }
 
 #[no_mangle]
@@ -25,8 +26,9 @@ pub extern "C" fn asternhaken_nch_write(numbers: &[u64], octets: &mut [u8]) -> u
 
 #[no_mangle]
 pub extern "C" fn asternhaken_facch_read(octets: &[u8], numbers: &mut [u64]) -> u32
-    ensures { λ r. ⌜ (r ≡ readFacch (now (octets .entry)) .refusal .number)
+    ensures { λ r. ⌜ (r ≡ codeOf (readFacch (now (octets .entry)) .refusal))
         × (now (numbers .exit) ≡ padded 0 (length (now (numbers .entry))) (facchNumbers (now (octets .entry)))) ⌝ }
 {
-    numbers::on_facch::read(octets, numbers) as u32
+    let r = numbers::on_facch::read(octets, numbers);
+    csn1::code(r)
 }

@@ -1,25 +1,21 @@
 -- The number of a refused event is on its ground, in the table's order. Assumes nothing.
-use mathlib.Core.Path.{_≡_, sym, ap, _∙_}
+use mathlib.Core.Path.{_≡_, sym, _∙_}
 use Prim.Native.Nat.{ℕ, _≤_, _<_}
 use lib.Dec.{eqb}
 use borrow.Author.Tests.{eqb-true, le-leb, lt-leb}
-use Rattle.csn1.specs.declared.Refusal.{Refusal}
-use Rattle.csn1.specs.Format.{noRefusal, ground}
+use Rattle.csn1.specs.Format.{ground}
 use Rattle.receiver.specs.declared.Receiver.{Receiver}
 use Rattle.receiver.specs.Model.{wrapSub, lateStep, late, lastKey}
 use Rattle.receiver.specs.Step.{Event, Happening, heardNch, heardFacch, heardPch, joins, moves, passes, groundsOf, refusalOf, stepOf}
 use Rattle.isolation.specs.Promises.{Ground}
 use Rattle.receiver.proofs.Cases.{by-test}
-
--- a refusal is its number alone, so that number 0 is no refusal
-no-number : (w : Refusal) → w .number ≡ 0 → noRefusal ≡ w
-no-number w z = ap (λ (n : ℕ). record { number = n }) (sym z)
+use Rattle.receiver.proofs.Refusals.{refusal-sound}
 
 -- what is refused is what refuses
 pub refused-as : (r : Receiver) (e : Event) → stepOf r e .refusal ≡ refusalOf r e
 unfolding stepOf
 refused-as r e =
-    by-test (eqb (refusalOf r e .number) 0) (λ p. rw p (no-number (refusalOf r e) (eqb-true (refusalOf r e .number) 0 p))) (λ p. rw p)
+    by-test (eqb (refusalOf r e .number) 0) (λ p. rw p (sym (refusal-sound r e .clean (eqb-true (refusalOf r e .number) 0 p)))) (λ p. rw p)
 
 pub late-first : (r : Receiver) (e : Event) → lateStep ≤ wrapSub (e .tick) (r .tick) → refusalOf r e .number ≡ 9
 unfolding refusalOf late ground

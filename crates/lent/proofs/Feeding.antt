@@ -10,7 +10,7 @@ use borrow.Author.Tests.{eqb-true, eq-eqb, ne-eqb, lt-ltb, le-ltb, lt-leb, le-le
 use Rattle.bits.specs.Field.{pick}
 use Rattle.csn1.specs.declared.Refusal.{Refusal}
 use Rattle.csn1.specs.Format.{ground}
-use Rattle.csn1.specs.Told.{padded}
+use Rattle.csn1.specs.Told.{padded, codeOf}
 use Rattle.receiver.specs.declared.Record.{Record}
 use Rattle.receiver.specs.declared.Cell.{Cell}
 use Rattle.receiver.specs.declared.Told.{Told}
@@ -21,10 +21,11 @@ use Rattle.receiver.specs.Model.{noCell, late, expiredOf, droppedOf, sweptSlots
 use Rattle.receiver.specs.Step.{noTold, mostEntries, allAfter, allTold, Event, joins, groundsOf, refusalOf, refusedWith, acceptedAs, stepOf}
 use Rattle.receiver.specs.Step.{Content, contentOf, cellAfter, ruleBy}
 use Rattle.receiver.proofs.Cases.{by-test}
+use Rattle.receiver.proofs.Refusals.{Sound, grounds-sound, refusal-sound}
 use Rattle.layout.specs.Octets.{leAt, tabulate}
 use Rattle.layout.specs.Layout.{stateLength, tickFrom, isState, cellAt, decodeOf, toldNo, putHead, keysIn}
 use Rattle.layout.specs.Sweep.{sweptOctets}
-use Rattle.lent.specs.Events.{codeOf, octetsAfter, Fed}
+use Rattle.lent.specs.Events.{eventCode, octetsAfter, Fed}
 use Rattle.lent.specs.Inner.{AllTold, Accepted, earlyCode}
 use Rattle.layout.proofs.States.{at-state}
 use Rattle.layout.proofs.Decoding.{length-head, decode-head, last-head}
@@ -108,18 +109,18 @@ module _ (l : List ℕ) (now : ℕ) (rule : Rule) (cell : Cell) (ch : ℕ) (es :
       rw (q, at-state told (putHead told now cell x d n) told long, px, pd, pn)
       (accepted told (omega (arith, few, pn)) (omega (arith, xs, px)) (omega (arith, ds, pd)) b)
 
--- ## The number
+-- ## What is returned
 
 early-cases : (b c : Bool) (g : Refusal) (n : ℕ)
     → n ≡ pick b (pick c 9 0) 13
     → (n ≡ 0 → ⊥)
-    → n ≡ pick b (pick c (ground 9) g .number) 13
-unfolding ground
+    → n ≡ pick b (codeOf (pick c (ground 9) g)) 13
+unfolding ground codeOf
 early-cases true true g n q z = q
 early-cases true false g n q z = absurd (z q)
 early-cases false c g n q z = q
 
-none-cases : (b c : Bool) (g : Refusal) (n : ℕ) → n ≡ pick b (pick c 9 0) 13 → n ≡ 0 → (b ≡ true) × (pick b (pick c (ground 9) g .number) 13 ≡ g .number)
+none-cases : (b c : Bool) (g : Refusal) (n : ℕ) → n ≡ pick b (pick c 9 0) 13 → n ≡ 0 → (b ≡ true) × (pick b (codeOf (pick c (ground 9) g)) 13 ≡ codeOf g)
 none-cases true true g n q z = absurd (omega (arith, q, z))
 none-cases true false g n q z = (refl, refl)
 none-cases false c g n q z = absurd (omega (arith, q, z))
@@ -128,38 +129,48 @@ accepted-number : (b : Bool) (n : ℕ) → pick b n 13 ≡ 0 → n ≡ 0
 accepted-number true n q = q
 accepted-number false n q = absurd (omega (arith, q))
 
-accepted-step : (l : List ℕ) (e : Event) → codeOf l e ≡ 0 → stepOf (decodeOf l) e ≡ acceptedAs (decodeOf l) (e .tick) (contentOf (e .happening))
-unfolding codeOf stepOf
+-- what is returned is 0 exactly where the number is
+code-number : (w : Refusal) → codeOf w ≡ 0 → w .number ≡ 0
+unfolding codeOf
+code-number w q = omega arith
+
+number-code : (w : Refusal) → Sound w → w .number ≡ 0 → codeOf w ≡ 0
+unfolding codeOf
+number-code w s z = rw (s .clean z)
+
+accepted-step : (l : List ℕ) (e : Event) → eventCode l e ≡ 0 → stepOf (decodeOf l) e ≡ acceptedAs (decodeOf l) (e .tick) (contentOf (e .happening))
+unfolding eventCode stepOf
 accepted-step l e q =
-    let z : refusalOf (decodeOf l) e .number ≡ 0 = accepted-number (isState l) (refusalOf (decodeOf l) e .number) q in
-    let b : eqb (refusalOf (decodeOf l) e .number) 0 ≡ true = ap (λ n. eqb n 0) z in
+    let w : Refusal = refusalOf (decodeOf l) e in
+    let b : eqb (w .number) 0 ≡ true = ap (λ n. eqb n 0) (code-number w (accepted-number (isState l) (codeOf w) q)) in
     rw b
 
-pub refused-step : (l : List ℕ) (e : Event) → length l ≡ stateLength → (codeOf l e ≡ 0 → ⊥)
+pub refused-step : (l : List ℕ) (e : Event) → length l ≡ stateLength → (eventCode l e ≡ 0 → ⊥)
     → stepOf (decodeOf l) e ≡ refusedWith (decodeOf l) (refusalOf (decodeOf l) e)
-unfolding codeOf stepOf
+unfolding eventCode stepOf
 refused-step l e whole z =
-    let w : isState l ≡ true = eq-eqb (length l) stateLength whole in
-    let b : eqb (refusalOf (decodeOf l) e .number) 0 ≡ false = ne-eqb (refusalOf (decodeOf l) e .number) 0 (λ p. z (rw w p)) in
+    let w : Refusal = refusalOf (decodeOf l) e in
+    let s : isState l ≡ true = eq-eqb (length l) stateLength whole in
+    let b : eqb (w .number) 0 ≡ false = ne-eqb (w .number) 0 (λ p. z (rw s (number-code w (refusal-sound (decodeOf l) e) p))) in
     rw b
 
 -- ## What an event is proved to do
 
-refused-as : (l : List ℕ) (e : Event) (n : ℕ) → n ≡ codeOf l e → (n ≡ 0 → ⊥) → Fed l e l n
+refused-as : (l : List ℕ) (e : Event) (n : ℕ) → n ≡ eventCode l e → (n ≡ 0 → ⊥) → Fed l e l n
 unfolding octetsAfter
 refused-as l e n q z =
-    let b : eqb (codeOf l e) 0 ≡ false = ne-eqb (codeOf l e) 0 (λ p. z (q ∙ p)) in
+    let b : eqb (eventCode l e) 0 ≡ false = ne-eqb (eventCode l e) 0 (λ p. z (q ∙ p)) in
     record { number = q; octets = rw b; receiver = rw b; answer = rw b }
 
 accepted-as : (l : List ℕ) (e : Event) (left : List ℕ)
-    → codeOf l e ≡ 0
+    → eventCode l e ≡ 0
     → (x : Content)
     → x ≡ contentOf (e .happening)
     → Accepted l (e .tick) (ruleBy (decodeOf l) (x .cause)) (cellAfter (decodeOf l .cell) (x .cause)) (numberOf (x .channel)) (x .entries) left
     → Fed l e left 0
 unfolding octetsAfter
 accepted-as l e left q x w a =
-    let b : eqb (codeOf l e) 0 ≡ true = ap (λ n. eqb n 0) q in
+    let b : eqb (eventCode l e) 0 ≡ true = ap (λ n. eqb n 0) q in
     let s = accepted-step l e q in
     record { number = sym q; octets = rw (b, ← w) (a .octets); receiver = rw (b, s, ← w) (a .receiver); answer = rw (b, s, ← w) (a .answer) }
 
@@ -170,24 +181,24 @@ cell-read l whole cell h = h ∙ at-state l (cellAt l) noCell whole
 
 -- n is the number that comes before the event's own
 module _ (l : List ℕ) (e : Event) (n : ℕ) (q : n ≡ earlyCode l (e .tick)) where
-  early-first : (n ≡ 0 → ⊥) → n ≡ codeOf l e
-  unfolding earlyCode codeOf refusalOf
+  early-first : (n ≡ 0 → ⊥) → n ≡ eventCode l e
+  unfolding earlyCode eventCode refusalOf
   early-first z = early-cases (isState l) (late (e .tick) (decodeOf l .tick)) (groundsOf (e .happening)) n q z
 
   pub fed-early : (n ≡ 0 → ⊥) → Fed l e l n
   fed-early z = refused-as l e n (early-first z) z
 
   module _ (z : n ≡ 0) where
-    none-early : (isState l ≡ true) × (codeOf l e ≡ groundsOf (e .happening) .number)
-    unfolding earlyCode codeOf refusalOf
+    none-early : (isState l ≡ true) × (eventCode l e ≡ codeOf (groundsOf (e .happening)))
+    unfolding earlyCode eventCode refusalOf
     none-early = none-cases (isState l) (late (e .tick) (decodeOf l .tick)) (groundsOf (e .happening)) n q z
 
     pub whole-then : length l ≡ stateLength
     whole-then = eqb-true (length l) stateLength (none-early .0)
 
     -- refused for a ground of its own
-    pub fed-refused : (g : ℕ) → g ≡ groundsOf (e .happening) .number → (g ≡ 0 → ⊥) → Fed l e l g
-    fed-refused g h x = refused-as l e g (h ∙ sym (none-early .1)) x
+    pub fed-refused : (w : Refusal) → w ≡ groundsOf (e .happening) → (w .number ≡ 0 → ⊥) → (g : ℕ) → g ≡ codeOf w → Fed l e l g
+    fed-refused w h x g d = refused-as l e g (d ∙ ap codeOf h ∙ sym (none-early .1)) (λ z. x (code-number w (sym d ∙ z)))
 
     pub cell-then : (cell : Cell) → cell ≡ pick (isState l) (cellAt l) noCell → cell ≡ decodeOf l .cell
     cell-then cell h = cell-read l whole-then cell h
@@ -200,20 +211,20 @@ module _ (l : List ℕ) (e : Event) (n : ℕ) (q : n ≡ earlyCode l (e .tick)) 
         → cell ≡ cellAfter (decodeOf l .cell) (x .cause)
         → Accepted l (e .tick) rule cell (numberOf (x .channel)) (x .entries) left
         → Fed l e left 0
-    fed-accepted rule cell left g x w r c a = accepted-as l e left (none-early .1 ∙ g) x w (rw (← r, ← c) a)
+    fed-accepted rule cell left g x w r c a = accepted-as l e left (none-early .1 ∙ number-code (groundsOf (e .happening)) (grounds-sound (e .happening)) g) x w (rw (← r, ← c) a)
 
 -- ## The length
 
 pub length-after : (l : List ℕ) (e : Event) → length (octetsAfter l e) ≡ length l
 unfolding octetsAfter
 length-after l e =
-    by-test (eqb (codeOf l e) 0)
+    by-test (eqb (eventCode l e) 0)
     (λ p. rw p (length-head _ _ _ _ _ _ ∙ length-all _ _ (e .tick) 0 (contentOf (e .happening) .entries) ∙ length-run (e .tick) _ 0 places l))
     (λ p. rw p)
 
-pub refused-stays : (l : List ℕ) (e : Event) → (codeOf l e ≡ 0 → ⊥) → octetsAfter l e ≡ l
+pub refused-stays : (l : List ℕ) (e : Event) → (eventCode l e ≡ 0 → ⊥) → octetsAfter l e ≡ l
 unfolding octetsAfter
-refused-stays l e z = rw (ne-eqb (codeOf l e) 0 z)
+refused-stays l e z = rw (ne-eqb (eventCode l e) 0 z)
 
 -- ## The tests of the code
 
@@ -229,9 +240,12 @@ early-right l time t b c w r q p =
     rw (eq-eqb (length l) stateLength w, ← r ∙ at-state l (leAt 4 l tickFrom) 0 w, ← q, p)
 
 -- a joined key above 199,999,999 is 4
-pub joined-out : (k : ℕ) → 199999999 < k → 4 ≡ groundsOf (joins k) .number
-unfolding ground
+pub joined-out : (k : ℕ) → 199999999 < k → ground 4 ≡ groundsOf (joins k)
 joined-out k h = rw (lt-leb k 199999999 h)
+
+pub four : (ground 4 .number ≡ 0 → ⊥) × (4 ≡ codeOf (ground 4))
+unfolding ground codeOf
+four = (λ z. omega arith, refl)
 
 pub joined-in : (k : ℕ) → k ≤ 199999999 → groundsOf (joins k) .number ≡ 0
 joined-in k h = rw (le-leb k 199999999 h)

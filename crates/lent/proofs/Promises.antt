@@ -8,6 +8,7 @@ use lib.Dec.{eqb}
 use borrow.Author.Tests.{eqb-false, eq-eqb}
 use Rattle.bits.specs.Field.{pick}
 use Rattle.csn1.specs.declared.Refusal.{Refusal}
+use Rattle.csn1.specs.Told.{codeOf}
 use Rattle.receiver.specs.declared.Receiver.{Receiver}
 use Rattle.receiver.specs.declared.Answer.{Answer}
 use Rattle.receiver.specs.Model.{startedOf}
@@ -17,13 +18,14 @@ use Rattle.isolation.specs.One.{hears, Said, fresh}
 use Rattle.isolation.specs.Calls.{timerOf, channelIn, Reply, replyBy}
 use Rattle.isolation.specs.Promises.{under, answersOn, answersEach, after, replyOf}
 use Rattle.receiver.proofs.Cases.{by-test}
+use Rattle.receiver.proofs.Refusals.{refusal-sound}
 use Rattle.isolation.proofs.Grounds.{refused-as}
 use Rattle.isolation.proofs.Isolation.{says-flat}
 use Rattle.isolation.proofs.Promises.{no-call-disturbs-another-at-any-event, the-answer-is-the-calls}
 use Rattle.layout.specs.Layout.{stateLength, decodeOf, lastOf}
-use Rattle.lent.specs.Events.{Fed, Returned, codeOf, answered}
+use Rattle.lent.specs.Events.{Fed, Returned, eventCode, answered}
 use Rattle.lent.specs.Promises.{Run, heard, readUnder, readEach, leftAfter, shown, No-call-disturbs-another-in-octets, No-call-disturbs-another-at-any-event-in-octets}
-use Rattle.lent.specs.Promises.{The-answer-is-the-calls-in-octets, A-refused-event-leaves-the-octets, The-length-stays, Fed-determines}
+use Rattle.lent.specs.Promises.{The-answer-is-the-calls-in-octets, A-refused-event-leaves-the-octets, The-length-stays, Fed-determines, A-result-tells-number-and-bit}
 use Rattle.layout.proofs.Setting.{set-started, set-length}
 use Rattle.lent.proofs.Feeding.{refused-step, length-after, refused-stays}
 
@@ -45,18 +47,18 @@ not-answered key c r w e = either (hears c (channelIn e))
 module _ (l : List ℕ) (whole : length l ≡ stateLength) (e : Event) (a : Returned) (f : Fed l e (a .octets) (a .code)) where
   step-heard : (key : ℕ) (c : Channel) → pick (eqb (a .code) 0) (heard key c e (lastOf (a .octets))) [] ≡ answersOn key c e (stepOf (decodeOf l) e)
   step-heard key c =
-      by-test (eqb (codeOf l e) 0)
+      by-test (eqb (eventCode l e) 0)
       (λ p.
       let b : eqb (a .code) 0 ≡ true = ap (λ n. eqb n 0) (f .number) ∙ p in
       let q : lastOf (a .octets) ≡ answered (stepOf (decodeOf l) e) = f .answer ∙ rw p in
       rw (b, q) (heard-is key c e (stepOf (decodeOf l) e)))
       (λ p.
       let b : eqb (a .code) 0 ≡ false = ap (λ n. eqb n 0) (f .number) ∙ p in
-      rw (b, refused-step l e whole (eqb-false (codeOf l e) 0 p)) (sym (not-answered key c (decodeOf l) (refusalOf (decodeOf l) e) e)))
+      rw (b, refused-step l e whole (eqb-false (eventCode l e) 0 p)) (sym (not-answered key c (decodeOf l) (refusalOf (decodeOf l) e) e)))
 
   step-receiver : decodeOf (a .octets) ≡ stepOf (decodeOf l) e .receiver
   step-receiver =
-      by-test (eqb (codeOf l e) 0) (λ p. f .receiver ∙ rw p) (λ p. f .receiver ∙ rw (p, refused-step l e whole (eqb-false (codeOf l e) 0 p)))
+      by-test (eqb (eventCode l e) 0) (λ p. f .receiver ∙ rw p) (λ p. f .receiver ∙ rw (p, refused-step l e whole (eqb-false (eventCode l e) 0 p)))
 
   step-length : length (a .octets) ≡ stateLength
   step-length = ap length (f .octets) ∙ length-after l e ∙ whole
@@ -88,9 +90,9 @@ run-after l whole (e ∷ es) (a ∷ rest) u =
     let q = run-after (a .octets) (step-length l whole e a (u .0)) es rest (u .1) in
     (q .0, q .1 ∙ ap (λ (r : Receiver). after r es) (step-receiver l whole e a (u .0)))
 
-code-is : (l : List ℕ) (e : Event) → length l ≡ stateLength → codeOf l e ≡ stepOf (decodeOf l) e .refusal .number
-unfolding codeOf
-code-is l e whole = rw (eq-eqb (length l) stateLength whole) (sym (ap (λ (w : Refusal). w .number) (refused-as (decodeOf l) e)))
+code-is : (l : List ℕ) (e : Event) → length l ≡ stateLength → eventCode l e ≡ codeOf (stepOf (decodeOf l) e .refusal)
+unfolding eventCode
+code-is l e whole = rw (eq-eqb (length l) stateLength whole) (sym (ap codeOf (refused-as (decodeOf l) e)))
 
 pub no-call-disturbs-another-at-any-event-in-octets : No-call-disturbs-another-at-any-event-in-octets
 no-call-disturbs-another-at-any-event-in-octets l s keys left set t key h c es run ts u =
@@ -110,8 +112,8 @@ the-answer-is-the-calls-in-octets l s keys left set t es run ts u e k a f =
     let w = run-after left (set-length l s keys left set) es run u in
     let v : replyOf (stepOf (decodeOf (leftAfter left run)) e) ≡ replyBy s es e keys =
     ap (λ (r : Receiver). replyOf (stepOf r e)) (w .1 ∙ ap (λ (r : Receiver). after r es) (set .receiver refl)) ∙ the-answer-is-the-calls s keys t z es ts e k in (
-      f .number ∙ code-is (leftAfter left run) e (w .0) ∙ ap (λ (y : Reply). y .refusal .number) v,
-      λ n. f .answer ∙ rw (eq-eqb (codeOf (leftAfter left run) e) 0 (sym (f .number) ∙ n)) (ap shown v),
+      f .number ∙ code-is (leftAfter left run) e (w .0) ∙ ap (λ (y : Reply). codeOf (y .refusal)) v,
+      λ n. f .answer ∙ rw (eq-eqb (eventCode (leftAfter left run) e) 0 (sym (f .number) ∙ n)) (ap shown v),
     )
 
 pub a-refused-event-leaves-the-octets : A-refused-event-leaves-the-octets
@@ -122,3 +124,9 @@ the-length-stays = length-after
 
 pub fed-determines : Fed-determines
 fed-determines l e a b m n f g = (f .octets ∙ sym (g .octets), f .number ∙ sym (g .number))
+
+pub a-result-tells-number-and-bit : A-result-tells-number-and-bit
+unfolding eventCode
+a-result-tells-number-and-bit l e whole =
+    let s = refusal-sound (decodeOf l) e in
+    rw (eq-eqb (length l) stateLength whole) ((s .number, s .bit))

@@ -5,6 +5,7 @@ use Prim.Native.Nat.{ℕ, suc}
 use lib.ListN.{length}
 use lib.Dec.{ltb, eqb}
 use Rattle.bits.specs.Field.{both, pick}
+use Rattle.csn1.specs.Told.{codeOf}
 use Rattle.receiver.specs.declared.Record.{Record}
 use Rattle.receiver.specs.declared.Receiver.{Receiver}
 use Rattle.receiver.specs.declared.Cell.{Cell}
@@ -54,27 +55,27 @@ abbrev pub answered : Answer → Last
 answered a = record { expired = a .expired; dropped = a .dropped; count = a .count; entries = a .entries }
 
 -- 13 goes before everything else
-unfoldable pub codeOf : List ℕ → Event → ℕ
-codeOf l e = pick (isState l) (refusalOf (decodeOf l) e .number) 13
+unfoldable pub eventCode : List ℕ → Event → ℕ
+eventCode l e = pick (isState l) (codeOf (refusalOf (decodeOf l) e)) 13
 
 unfoldable pub octetsAfter : List ℕ → Event → List ℕ
-octetsAfter l e = pick (eqb (codeOf l e) 0) (acceptedAsOctets l (e .tick) (contentOf (e .happening))) l
+octetsAfter l e = pick (eqb (eventCode l e) 0) (acceptedAsOctets l (e .tick) (contentOf (e .happening))) l
 
 -- the receiver and the answer that must be read afterwards: those of the receiver by value
 abbrev pub receiverAfter : List ℕ → Event → Receiver
-receiverAfter l e = pick (eqb (codeOf l e) 0) (stepOf (decodeOf l) e .receiver) (decodeOf l)
+receiverAfter l e = pick (eqb (eventCode l e) 0) (stepOf (decodeOf l) e .receiver) (decodeOf l)
 
 abbrev pub answerAfter : List ℕ → Event → Last
-answerAfter l e = pick (eqb (codeOf l e) 0) (answered (stepOf (decodeOf l) e)) (lastOf l)
+answerAfter l e = pick (eqb (eventCode l e) 0) (answered (stepOf (decodeOf l) e)) (lastOf l)
 
--- What an exported event is proved to do: its number, the octets at exit exactly, and that they are read as what the receiver by value gives.
+-- What an exported event is proved to do: what it returns, the octets at exit exactly, and that they are read as what the receiver by value gives.
 pub record Fed (l : List ℕ) (e : Event) (left : List ℕ) (code : ℕ) : Type 0 where
-  pub number : code ≡ codeOf l e
+  pub number : code ≡ eventCode l e
   pub octets : left ≡ octetsAfter l e
   pub receiver : decodeOf left ≡ receiverAfter l e
   pub answer : lastOf left ≡ answerAfter l e
 
--- the octets and the number that a call of an exported event left
+-- the octets that a call of an exported event left, and what it returned
 pub record Returned : Type 0 where
   pub octets : List ℕ
   pub code : ℕ

@@ -1,20 +1,21 @@
 -- What is promised of the lent octets: events chain, no call disturbs another (demand 3), and each answer is the calls'. Assumes nothing.
 use mathlib.Core.Path.{_≡_}
 use mathlib.Core.List.{List, [], _∷_, _++_}
-use Prim.Native.Nat.{ℕ, _<_}
+use Prim.Native.Nat.{ℕ, _/_, _%_, _<_}
 use lib.ListN.{length, take}
 use lib.Dec.{eqb}
 use Rattle.bits.specs.Field.{pick}
+use Rattle.csn1.specs.Told.{codeOf}
 use Rattle.receiver.specs.declared.Setup.{Setup}
 use Rattle.receiver.specs.Model.{indexOf}
 use Rattle.receiver.specs.Channels.{Channel}
-use Rattle.receiver.specs.Step.{Event}
+use Rattle.receiver.specs.Step.{Event, refusalOf}
 use Rattle.isolation.specs.One.{hears, Said, runOne, runEach, seen, fresh}
 use Rattle.isolation.specs.Calls.{timerOf, channelIn, Reply, replyBy}
 use Rattle.isolation.specs.Promises.{under, Ticks}
-use Rattle.layout.specs.Layout.{Last, lastOf}
+use Rattle.layout.specs.Layout.{stateLength, decodeOf, Last, lastOf}
 use Rattle.layout.specs.Setup.{SetUp}
-use Rattle.lent.specs.Events.{Fed, Returned, octetsAfter, codeOf}
+use Rattle.lent.specs.Events.{Fed, Returned, octetsAfter, eventCode}
 
 -- ## Events in a row
 
@@ -81,8 +82,8 @@ leftAfter l (a ∷ rest) = leftAfter (a .octets) rest
 abbrev pub shown : Reply → Last
 shown a = record { expired = a .expired; dropped = a .dropped; count = a .count; entries = a .entries }
 
--- For every lent octets that an accepted setup filled, and after every run of events on them: the next call returns the number that the receivers of the single
--- calls give, and where that is 0, what is read then is their whole answer.
+-- For every lent octets that an accepted setup filled, and after every run of events on them: the next call returns the number and the bit that the receivers of the
+-- single calls give, and where that is 0, what is read then is their whole answer.
 abbrev pub The-answer-is-the-calls-in-octets : Type 0
 The-answer-is-the-calls-in-octets =
     (l : List ℕ) (s : Setup) (keys left : List ℕ)
@@ -95,13 +96,13 @@ The-answer-is-the-calls-in-octets =
     → e .tick < 4294967296
     → (a : Returned)
     → Fed (leftAfter left run) e (a .octets) (a .code)
-    → (a .code ≡ replyBy s es e keys .refusal .number) × (a .code ≡ 0 → lastOf (a .octets) ≡ shown (replyBy s es e keys))
+    → (a .code ≡ codeOf (replyBy s es e keys .refusal)) × (a .code ≡ 0 → lastOf (a .octets) ≡ shown (replyBy s es e keys))
 
 -- ## 3. A refused event
 
 -- every octet stays as it was
 abbrev pub A-refused-event-leaves-the-octets : Type 0
-A-refused-event-leaves-the-octets = (l : List ℕ) (e : Event) → (codeOf l e ≡ 0 → ⊥) → octetsAfter l e ≡ l
+A-refused-event-leaves-the-octets = (l : List ℕ) (e : Event) → (eventCode l e ≡ 0 → ⊥) → octetsAfter l e ≡ l
 
 -- ## 4. The length
 
@@ -109,8 +110,17 @@ A-refused-event-leaves-the-octets = (l : List ℕ) (e : Event) → (codeOf l e �
 abbrev pub The-length-stays : Type 0
 The-length-stays = (l : List ℕ) (e : Event) → length (octetsAfter l e) ≡ length l
 
--- ## 4. What a statement determines
+-- ## 5. What a statement determines
 
--- two calls of one event on the same octets leave the same, and answer the same number
+-- two calls of one event on the same octets leave the same, and return the same
 abbrev pub Fed-determines : Type 0
 Fed-determines = (l : List ℕ) (e : Event) (a b : List ℕ) (m n : ℕ) → Fed l e a m → Fed l e b n → (a ≡ b) × (m ≡ n)
+
+-- ## 6. What a call returns
+
+-- the low octet is the number of the refusal, and what is above it the bit: none is cut off
+abbrev pub A-result-tells-number-and-bit : Type 0
+A-result-tells-number-and-bit =
+    (l : List ℕ) (e : Event)
+    → length l ≡ stateLength
+    → (eventCode l e % 256 ≡ refusalOf (decodeOf l) e .number) × (eventCode l e / 256 ≡ refusalOf (decodeOf l) e .bit)

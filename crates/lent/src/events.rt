@@ -1,4 +1,4 @@
-// The events on a lent state: each is refused with its number and changes no octet, or works in place.
+// The events on a lent state: each is refused with its number and its bit and changes no octet, or works in place.
 ghost use mathlib.Core.Path.{_≡_};
 ghost use mathlib.Core.List.{[]};
 ghost use Prim.Native.Nat.{_≤_};
@@ -31,7 +31,7 @@ use receiver::meeting;
 use receiver::store;
 
 // The number that comes before the event's own: 13 for another length, then 9.
-fn early(b: &[u8], time: u32) -> u8
+fn early(b: &[u8], time: u32) -> u32
     ensures { λ r. ⌜ r ≡ earlyCode (now (b .entry)) time ⌝ }
 {
     if b.len() != layout::LENGTH {
@@ -108,7 +108,7 @@ fn accept_pch(b: &mut [u8], time: u32, rule: Rule, p: pch::Entry)
 }
 
 // NT/N Rest Octets.
-pub fn nch(b: &mut [u8], time: u32, octets: &[u8]) -> u8
+pub fn nch(b: &mut [u8], time: u32, octets: &[u8]) -> u32
     ensures { λ r. ⌜ Fed (now (b .entry)) (nch time (now (octets .entry))) (now (b .exit)) r ⌝ }
 {
     let n = early(b, time);
@@ -118,14 +118,14 @@ pub fn nch(b: &mut [u8], time: u32, octets: &[u8]) -> u8
     let mut m = [0u64; places::LENGTH];
     let r = nch::reader::read_into(octets, &mut m);
     if r.number != 0 {
-        return r.number;
+        return csn1::code(r);
     }
     accept_nch(b, time, &m);
     0
 }
 
 // NOTIFICATION/FACCH.
-pub fn facch(b: &mut [u8], time: u32, octets: &[u8]) -> u8
+pub fn facch(b: &mut [u8], time: u32, octets: &[u8]) -> u32
     ensures { λ r. ⌜ Fed (now (b .entry)) (facch time (now (octets .entry))) (now (b .exit)) r ⌝ }
 {
     let n = early(b, time);
@@ -134,7 +134,7 @@ pub fn facch(b: &mut [u8], time: u32, octets: &[u8]) -> u8
     }
     let m = facch::read(octets);
     if m.refusal.number != 0 {
-        return m.refusal.number;
+        return csn1::code(m.refusal);
     }
     let record = m.record;
     accept_facch(b, time, record);
@@ -142,7 +142,7 @@ pub fn facch(b: &mut [u8], time: u32, octets: &[u8]) -> u8
 }
 
 // An entry of the PCH, as numbers.
-pub fn pch(b: &mut [u8], time: u32, numbers: &[u64]) -> u8
+pub fn pch(b: &mut [u8], time: u32, numbers: &[u64]) -> u32
     ensures { λ r. ⌜ Fed (now (b .entry)) (pch time (now (numbers .entry))) (now (b .exit)) r ⌝ }
 {
     let n = early(b, time);
@@ -151,7 +151,7 @@ pub fn pch(b: &mut [u8], time: u32, numbers: &[u64]) -> u8
     }
     let m = pch::read(numbers);
     if m.refusal.number != 0 {
-        return m.refusal.number;
+        return csn1::code(m.refusal);
     }
     let record = m.record;
     let call = record.call;
@@ -161,7 +161,7 @@ pub fn pch(b: &mut [u8], time: u32, numbers: &[u64]) -> u8
 }
 
 // The mobile joined the call of a key: halves under other keys go, on all channels.
-pub fn joined(b: &mut [u8], time: u32, key: u32) -> u8
+pub fn joined(b: &mut [u8], time: u32, key: u32) -> u32
     ensures { λ r. ⌜ Fed (now (b .entry)) (joined time key) (now (b .exit)) r ⌝ }
 {
     let n = early(b, time);
@@ -178,7 +178,7 @@ pub fn joined(b: &mut [u8], time: u32, key: u32) -> u8
 }
 
 // The mobile moved.
-fn move_on(b: &mut [u8], time: u32, m: Move) -> u8
+fn move_on(b: &mut [u8], time: u32, m: Move) -> u32
     ensures { λ r. ⌜ Fed (now (b .entry)) (moved time m) (now (b .exit)) r ⌝ }
 {
     let n = early(b, time);
@@ -191,35 +191,35 @@ fn move_on(b: &mut [u8], time: u32, m: Move) -> u8
 }
 
 // Another cell was selected: NCH and PCH halves go.
-pub fn reselected(b: &mut [u8], time: u32) -> u8
+pub fn reselected(b: &mut [u8], time: u32) -> u32
     ensures { λ r. ⌜ Fed (now (b .entry)) (reselected time) (now (b .exit)) r ⌝ }
 {
     move_on(b, time, Move::Reselection)
 }
 
 // Handed over to another cell: FACCH halves go.
-pub fn handed_over(b: &mut [u8], time: u32) -> u8
+pub fn handed_over(b: &mut [u8], time: u32) -> u32
     ensures { λ r. ⌜ Fed (now (b .entry)) (handedOver time) (now (b .exit)) r ⌝ }
 {
     move_on(b, time, Move::Handover)
 }
 
 // The group call was reconfigured: FACCH halves go.
-pub fn reconfigured(b: &mut [u8], time: u32) -> u8
+pub fn reconfigured(b: &mut [u8], time: u32) -> u32
     ensures { λ r. ⌜ Fed (now (b .entry)) (reconfigured time) (now (b .exit)) r ⌝ }
 {
     move_on(b, time, Move::Reconfiguration)
 }
 
 // The mobile left idle mode: PCH halves go.
-pub fn left_idle(b: &mut [u8], time: u32) -> u8
+pub fn left_idle(b: &mut [u8], time: u32) -> u32
     ensures { λ r. ⌜ Fed (now (b .entry)) (leftIdle time) (now (b .exit)) r ⌝ }
 {
     move_on(b, time, Move::LeftIdle)
 }
 
 // Time passed.
-pub fn tick(b: &mut [u8], time: u32) -> u8
+pub fn tick(b: &mut [u8], time: u32) -> u32
     ensures { λ r. ⌜ Fed (now (b .entry)) (tick time) (now (b .exit)) r ⌝ }
 {
     let n = early(b, time);

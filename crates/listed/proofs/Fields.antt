@@ -107,7 +107,7 @@ ofNotification m =
     ∷ []
 
 abbrev pub ofReading : Reading → Nested 3
-ofReading r = alone (number (r .refusal .number) ∷ number (r .used) ∷ []) ∷ ofNotification (r .«record»)
+ofReading r = alone (number (r .refusal .number) ∷ number (r .refusal .bit) ∷ number (r .used) ∷ []) ∷ ofNotification (r .«record»)
 
 -- ## What an event is answered
 
@@ -150,7 +150,7 @@ ofReceiver r = map ofSlot (r .slots) ∷ numbers (r .keys) ∷ numbers (r .tick 
 
 abbrev pub ofAnswer : Answer → Nested 3
 ofAnswer a =
-    numbers (a .refusal .number ∷ a .expired ∷ a .dropped ∷ a .count ∷ [])
+    numbers (a .refusal .number ∷ a .refusal .bit ∷ a .expired ∷ a .dropped ∷ a .count ∷ [])
     ∷ map ofTold (a .entries)
     ∷ ofReceiver (a .receiver)
 

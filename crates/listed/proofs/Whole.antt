@@ -160,8 +160,8 @@ release7From s =
 abbrev readingFrom : Nested 3 → Reading
 readingFrom w =
     record {
-      refusal = record { number = numberAt 0 (aloneAt 0 w) };
-      used = numberAt 1 (aloneAt 0 w);
+      refusal = record { number = numberAt 0 (aloneAt 0 w); bit = numberAt 1 (aloneAt 0 w) };
+      used = numberAt 2 (aloneAt 0 w);
       «record» =
           record {
             hasNln = flagAt 0 (aloneAt 1 w);
@@ -224,10 +224,10 @@ slots-back = map-back _ _ λ s. refl
 abbrev answerFrom : Nested 3 → Answer
 answerFrom w =
     record {
-      refusal = record { number = numberAt 0 (aloneAt 0 w) };
-      expired = numberAt 1 (aloneAt 0 w);
-      dropped = numberAt 2 (aloneAt 0 w);
-      count = numberAt 3 (aloneAt 0 w);
+      refusal = record { number = numberAt 0 (aloneAt 0 w); bit = numberAt 1 (aloneAt 0 w) };
+      expired = numberAt 2 (aloneAt 0 w);
+      dropped = numberAt 3 (aloneAt 0 w);
+      count = numberAt 4 (aloneAt 0 w);
       entries = map toldFrom (arrayAt 1 w);
       receiver =
           record {

@@ -25,6 +25,7 @@ use Rattle.call.specs.declared.CallAt.{CallAt}
 use Rattle.call.specs.declared.Call.{Call}
 use Rattle.call.specs.Call.{CallValue, callGrammar, groupCall, callOf, noCall}
 use Rattle.call.specs.Told.{callAtOf}
+use Rattle.call.proofs.Numbering.{call-numbered}
 use Rattle.nch.specs.declared.lists.CallsPassed.{CallsPassed}
 use Rattle.nch.specs.Octets.{count, cipheredValue, describedValue}
 use Rattle.nch.specs.Places.{callsAt, firstCall, callLength, mostCalls}
@@ -37,7 +38,7 @@ use Rattle.nch.proofs.Lengths.{length-call}
 
 pub call-lawful : Lawful groupCall
 unfolding groupCall
-call-lawful = lawful callGrammar ((omega arith, tt), ((omega arith, (tt, tt)), λ v. (((omega arith, tt), λ n. tt), tt)))
+call-lawful = lawful callGrammar call-numbered
 
 abbrev pub one : Telling CallValue CallAt
 one = record { of = callAtOf; refusal = λ c. c .refusal; at = λ c. c .at; fine = λ a q. refl; place = λ a q. refl; why = λ r. refl }

@@ -8,7 +8,7 @@ use lib.ListN.{length, set, replicate, length-set}
 use mir.Val.{boolByte}
 use Rattle.csn1.specs.declared.Refusal.{Refusal}
 use Rattle.csn1.specs.declared.Flagged.{Flagged}
-use Rattle.csn1.specs.Format.{Res, ok, bad, _then_, noRefusal, Format, num, opt, list, _⨟_}
+use Rattle.csn1.specs.Format.{Res, ok, bad, _then_, noRefusal, renumbered, numberedAs, Format, num, opt, list, _⨟_}
 use Rattle.csn1.specs.Grammar.{format}
 use Rattle.csn1.specs.Told.{asBit, isThere, orZero, flaggedAt, flaggedOf}
 use Rattle.csn1.proofs.Lists.{length-padded}
@@ -21,7 +21,7 @@ use Rattle.arrays.proofs.Running.{length-run}
 use Rattle.arrays.proofs.Zeroed.{zeros-later, zeros-set, zeros-behind, left-bad, left-ok, left-stored}
 use Rattle.nch.specs.declared.lists.ListPassed.{ListPassed}
 use Rattle.nch.specs.declared.additions.Release6Passed.{Release6Passed}
-use Rattle.nch.specs.Octets.{reduced, random, release6, Release6Value}
+use Rattle.nch.specs.Octets.{reduced, random, Release6Value}
 use Rattle.nch.specs.Told.{reducedOf, noReduced, release6Of}
 use Rattle.nch.specs.Places.{release6At, countedAt, cellcountAt, reducedsAt, reducedLength, mostReduceds, randomsAt}
 use Rattle.nch.specs.Inner.{listPassed, release6Passed, reducedsRun, randomsRun, release6Run}
@@ -39,15 +39,18 @@ no-numbers6 = refl
 
 -- ## The parts behind the H
 
-abbrev parts6 : Res Release6Value → Res (Option Release6Value)
-parts6 x = x then λ v q. ok (some v) q
-
-abbrev Left6 : List ℕ → ℕ → Release6Passed → List ℕ → List ℕ → Type 0
-Left6 s at r before after = Left release6Passed release6Run release6At (parts6 (format release6 .read s at)) r before after
-
 -- the two lists behind the count
 abbrev both-lists : Format (List (List ℕ) × List (ℕ × Option ℕ))
 both-lists = list (format reduced) ⨟ list (format random)
+
+abbrev all6 : Format Release6Value
+all6 = opt (num 2) ⨟ both-lists
+
+abbrev parts6 : Res Release6Value → Res (Option Release6Value)
+parts6 x = numberedAs 14 x then λ v q. ok (some v) q
+
+abbrev Left6 : List ℕ → ℕ → Release6Passed → List ℕ → List ℕ → Type 0
+Left6 s at r before after = Left release6Passed release6Run release6At (parts6 (all6 .read s at)) r before after
 
 -- the first three numbers
 abbrev led6 : List ℕ → Flagged → List ℕ
@@ -63,10 +66,10 @@ stored-led6 l a b v = refl
 -- l, from zeros on: the count c was read
 module _ (s : List ℕ) (at : ℕ) (h : length s ≤ 4096) (l : List ℕ) (y : Zeros l release6At) (c : Flagged) (e : c ≡ flaggedOf (flaggedAt s at 2)) where
   -- a refusal, w, of a part
-  refused6 : (w : Refusal) → format release6 .read s at ≡ bad w → (r : Release6Passed) → r ≡ release6Passed (bad w) → (after : List ℕ) → Left6 s at r l after
-  refused6 w x r f after = left-bad release6Passed release6Run release6At (parts6 (format release6 .read s at)) l after w w r f refl (ap parts6 x)
+  refused6 : (w : Refusal) → all6 .read s at ≡ bad w → (r : Release6Passed) → r ≡ release6Passed (bad (renumbered 14 w)) → (after : List ℕ) → Left6 s at r l after
+  refused6 w x r f after = left-bad release6Passed release6Run release6At (parts6 (all6 .read s at)) l after (renumbered 14 w) (renumbered 14 w) r f refl (ap parts6 x)
 
-  pub count-refused : (c .refusal .number ≡ 0 → ⊥) → (r : Release6Passed) → r ≡ release6Passed (bad (c .refusal)) → (after : List ℕ) → Left6 s at r l after
+  pub count-refused : (c .refusal .number ≡ 0 → ⊥) → (r : Release6Passed) → r ≡ release6Passed (bad (renumbered 14 (c .refusal))) → (after : List ℕ) → Left6 s at r l after
   count-refused n = refused6 (c .refusal) (first-bad (opt (num 2)) both-lists s at _ (flagged-refused s at 2 (omega arith) h c e n))
 
   pub zeros-led6 : Zeros (led6 l c) reducedsAt
@@ -80,7 +83,7 @@ module _ (s : List ℕ) (at : ℕ) (h : length s ≤ 4096) (l : List ℕ) (y : Z
     counted : Flag c (opt (num 2) .read s at)
     counted = flagged-read s at 2 (omega arith) h c e z
 
-    pub reduceds-refused : (d .refusal .number ≡ 0 → ⊥) → (r : Release6Passed) → r ≡ release6Passed (bad (d .refusal)) → (after : List ℕ) → Left6 s at r l after
+    pub reduceds-refused : (d .refusal .number ≡ 0 → ⊥) → (r : Release6Passed) → r ≡ release6Passed (bad (renumbered 14 (d .refusal))) → (after : List ℕ) → Left6 s at r l after
     reduceds-refused n =
         refused6 (d .refusal)
         (then-bad (opt (num 2)) both-lists s at _ _ _ (counted .is) (first-bad (list (format reduced)) (list (format random)) s (c .at) _ (unanswered lists d _ (f .0) n)))
@@ -99,7 +102,7 @@ module _ (s : List ℕ) (at : ℕ) (h : length s ≤ 4096) (l : List ℕ) (y : Z
 
       -- then the random entries, g
       module _ (g : ListPassed) (l2 : List ℕ) (k : Left listPassed randomsRun randomsAt (list (format random) .read s (d .at)) g l1 l2) where
-        pub randoms-refused : (g .refusal .number ≡ 0 → ⊥) → (r : Release6Passed) → r ≡ release6Passed (bad (g .refusal)) → (after : List ℕ) → Left6 s at r l after
+        pub randoms-refused : (g .refusal .number ≡ 0 → ⊥) → (r : Release6Passed) → r ≡ release6Passed (bad (renumbered 14 (g .refusal))) → (after : List ℕ) → Left6 s at r l after
         randoms-refused n =
             refused6 (g .refusal)
             (then-bad (opt (num 2)) both-lists s at _ _ _ (counted .is) (then-bad (list (format reduced)) (list (format random)) s (c .at) _ _ _ (referred .is) (unanswered lists g _ (k .0) n)))
@@ -109,7 +112,7 @@ module _ (s : List ℕ) (at : ℕ) (h : length s ≤ 4096) (l : List ℕ) (y : Z
         parts-filled o r w =
             let b : Answer lists g (list (format random) .read s (d .at)) = answered lists g _ (k .0) (randoms-ground s (d .at)) o in
             let v : Release6Value = (counted .number, (referred .value, b .value)) in
-            left-ok release6Passed release6Run release6At (parts6 (format release6 .read s at)) l l2 (some v) (g .at) (record { refusal = r; reduced = d .count; randoms = g .count; at = g .at })
+            left-ok release6Passed release6Run release6At (parts6 (all6 .read s at)) l l2 (some v) (g .at) (record { refusal = r; reduced = d .count; randoms = g .count; at = g .at })
             (λ i. record { refusal = w i; reduced = referred .told i .count; randoms = b .told i .count; at = g .at })
             (ap parts6 (then-ok (opt (num 2)) both-lists s at _ _ _ _ (counted .is) (then-ok (list (format reduced)) (list (format random)) s (c .at) _ _ _ _ (referred .is) (b .is))))
             (release6-runs (release6Of (some v)) (length-padded noReduced mostReduceds (map reducedOf (referred .value))) l (led6 l c) l1 l2

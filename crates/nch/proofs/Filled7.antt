@@ -9,7 +9,7 @@ use lib.ListN.{length, set, replicate, length-set}
 use mir.Val.{boolByte}
 use Rattle.csn1.specs.declared.Refusal.{Refusal}
 use Rattle.csn1.specs.declared.Flagged.{Flagged}
-use Rattle.csn1.specs.Format.{Res, ok, bad, _then_, noRefusal, Format, num, opt, list, _⨟_}
+use Rattle.csn1.specs.Format.{Res, ok, bad, _then_, noRefusal, renumbered, numberedAs, Format, num, opt, list, _⨟_}
 use Rattle.csn1.specs.Grammar.{number, _and_, flagged, listed, format}
 use Rattle.csn1.specs.Told.{asBit, orZero, isOne, flaggedAt, flaggedOf}
 use Rattle.csn1.proofs.Lists.{length-padded}
@@ -23,7 +23,7 @@ use Rattle.arrays.proofs.Running.{length-run, stored-one}
 use Rattle.arrays.proofs.Zeroed.{zeros-later, zeros-set, zeros-behind, left-bad, left-ok, left-stored}
 use Rattle.nch.specs.declared.lists.ListPassed.{ListPassed}
 use Rattle.nch.specs.declared.additions.PartPassed.{PartPassed}
-use Rattle.nch.specs.Octets.{AmrValue, Release7Value, amr, release7}
+use Rattle.nch.specs.Octets.{AmrValue, Release7Value, amr}
 use Rattle.nch.specs.Told.{orFalse, release7Of}
 use Rattle.nch.specs.Places.{release7At, marksAt, mostMarks, uplinkedAt, uplinkAt, amrAt, fullratedAt, fullrateAt, halfratedAt, halfrateAt, smsAt, confidentialAt, privateAt}
 use Rattle.nch.specs.Inner.{listPassed, partPassed, release7Passed, marksRun, amrRun, smsRun, release7Run}
@@ -70,17 +70,20 @@ uplink-stored l u v q e h = rw (flag-byte (u .hasValue), e, bit-of v h)
 
 -- ## The parts behind the H
 
-abbrev parts7 : Res Release7Value → Res (Option Release7Value)
-parts7 x = x then λ v q. ok (some v) q
-
-abbrev Left7 : List ℕ → ℕ → ListPassed → List ℕ → List ℕ → Type 0
-Left7 s at r before after = Left release7Passed release7Run release7At (parts7 (format release7 .read s at)) r before after
-
 abbrev behind-uplink : Format (Option AmrValue × Option (ℕ × ℕ))
 behind-uplink = opt (format amr) ⨟ opt (num 1 ⨟ num 1)
 
 abbrev behind-marks : Format (Option ℕ × (Option AmrValue × Option (ℕ × ℕ)))
 behind-marks = opt (num 1) ⨟ behind-uplink
+
+abbrev all7 : Format Release7Value
+all7 = list (num 1) ⨟ behind-marks
+
+abbrev parts7 : Res Release7Value → Res (Option Release7Value)
+parts7 x = numberedAs 15 x then λ v q. ok (some v) q
+
+abbrev Left7 : List ℕ → ℕ → ListPassed → List ℕ → List ℕ → Type 0
+Left7 s at r before after = Left release7Passed release7Run release7At (parts7 (all7 .read s at)) r before after
 
 pub zeros-led7 : (l : List ℕ) → Zeros l release7At → Zeros (set l release7At 1) marksAt
 zeros-led7 l y = zeros-set l marksAt release7At 1 (omega arith) (zeros-later l release7At marksAt (omega arith) y)
@@ -89,10 +92,10 @@ zeros-led7 l y = zeros-set l marksAt release7At 1 (omega arith) (zeros-later l r
 module _ (s : List ℕ) (at : ℕ) (h : length s ≤ 4096) (l : List ℕ) (y : Zeros l release7At) (m : ListPassed) (l1 : List ℕ)
     (em : Left listPassed marksRun marksAt (list (num 1) .read s at) m (set l release7At 1) l1) where
   -- a refusal, w, of a part
-  refused7 : (w : Refusal) → format release7 .read s at ≡ bad w → (r : ListPassed) → r ≡ listPassed {A = ℕ} (bad w) → (after : List ℕ) → Left7 s at r l after
-  refused7 w x r f after = left-bad release7Passed release7Run release7At (parts7 (format release7 .read s at)) l after w w r f refl (ap parts7 x)
+  refused7 : (w : Refusal) → all7 .read s at ≡ bad w → (r : ListPassed) → r ≡ listPassed {A = ℕ} (bad (renumbered 15 w)) → (after : List ℕ) → Left7 s at r l after
+  refused7 w x r f after = left-bad release7Passed release7Run release7At (parts7 (all7 .read s at)) l after (renumbered 15 w) (renumbered 15 w) r f refl (ap parts7 x)
 
-  pub marks-refused : (m .refusal .number ≡ 0 → ⊥) → (r : ListPassed) → r ≡ listPassed {A = ℕ} (bad (m .refusal)) → (after : List ℕ) → Left7 s at r l after
+  pub marks-refused : (m .refusal .number ≡ 0 → ⊥) → (r : ListPassed) → r ≡ listPassed {A = ℕ} (bad (renumbered 15 (m .refusal))) → (after : List ℕ) → Left7 s at r l after
   marks-refused n = refused7 (m .refusal) (first-bad (list (num 1)) behind-marks s at _ (unanswered lists m _ (em .0) n))
 
   -- then the uplink, u
@@ -103,10 +106,10 @@ module _ (s : List ℕ) (at : ℕ) (h : length s ≤ 4096) (l : List ℕ) (y : Z
     marks-stored : l1 ≡ stored (set l release7At 1) marksAt (marksRun (marked .value))
     marks-stored = left-stored listPassed marksRun marksAt (list (num 1) .read s at) (set l release7At 1) l1 (marked .value) (m .at) (marked .is) (em .1)
 
-    refused-behind : (w : Refusal) → behind-marks .read s (m .at) ≡ bad w → (r : ListPassed) → r ≡ listPassed {A = ℕ} (bad w) → (after : List ℕ) → Left7 s at r l after
+    refused-behind : (w : Refusal) → behind-marks .read s (m .at) ≡ bad w → (r : ListPassed) → r ≡ listPassed {A = ℕ} (bad (renumbered 15 w)) → (after : List ℕ) → Left7 s at r l after
     refused-behind w x = refused7 w (then-bad (list (num 1)) behind-marks s at _ _ w (marked .is) x)
 
-    pub uplink-refused : (u .refusal .number ≡ 0 → ⊥) → (r : ListPassed) → r ≡ listPassed {A = ℕ} (bad (u .refusal)) → (after : List ℕ) → Left7 s at r l after
+    pub uplink-refused : (u .refusal .number ≡ 0 → ⊥) → (r : ListPassed) → r ≡ listPassed {A = ℕ} (bad (renumbered 15 (u .refusal))) → (after : List ℕ) → Left7 s at r l after
     uplink-refused n = refused-behind (u .refusal) (first-bad (opt (num 1)) behind-uplink s (m .at) _ (flagged-refused s (m .at) 1 (omega arith) h u eu n))
 
     module _ (zu : u .refusal .number ≡ 0) where
@@ -123,7 +126,7 @@ module _ (s : List ℕ) (at : ℕ) (h : length s ≤ 4096) (l : List ℕ) (y : Z
 
       -- then the AMR parts, a
       module _ (a : PartPassed) (l2 : List ℕ) (ea : Left partPassed amrRun amrAt (opt (format amr) .read s (u .at)) a (linked7 l1 u) l2) where
-        pub amr-refused : (a .refusal .number ≡ 0 → ⊥) → (r : ListPassed) → r ≡ listPassed {A = ℕ} (bad (a .refusal)) → (after : List ℕ) → Left7 s at r l after
+        pub amr-refused : (a .refusal .number ≡ 0 → ⊥) → (r : ListPassed) → r ≡ listPassed {A = ℕ} (bad (renumbered 15 (a .refusal))) → (after : List ℕ) → Left7 s at r l after
         amr-refused n =
             refused-behind (a .refusal)
             (then-bad (opt (num 1)) behind-uplink s (m .at) _ _ _ (linked .is) (first-bad (opt (format amr)) (opt (num 1 ⨟ num 1)) s (u .at) _ (unanswered parts a _ (ea .0) n)))
@@ -140,7 +143,7 @@ module _ (s : List ℕ) (at : ℕ) (h : length s ≤ 4096) (l : List ℕ) (y : Z
 
           -- then the SMS bits, t
           module _ (t : PartPassed) (l3 : List ℕ) (et : Left partPassed smsRun smsAt (opt (num 1 ⨟ num 1) .read s (a .at)) t l2 l3) where
-            pub sms-refused : (t .refusal .number ≡ 0 → ⊥) → (r : ListPassed) → r ≡ listPassed {A = ℕ} (bad (t .refusal)) → (after : List ℕ) → Left7 s at r l after
+            pub sms-refused : (t .refusal .number ≡ 0 → ⊥) → (r : ListPassed) → r ≡ listPassed {A = ℕ} (bad (renumbered 15 (t .refusal))) → (after : List ℕ) → Left7 s at r l after
             sms-refused n =
                 refused-behind (t .refusal)
                 (then-bad (opt (num 1)) behind-uplink s (m .at) _ _ _ (linked .is) (then-bad (opt (format amr)) (opt (num 1 ⨟ num 1)) s (u .at) _ _ _ (rated .is) (unanswered parts t _ (et .0) n)))
@@ -151,7 +154,7 @@ module _ (s : List ℕ) (at : ℕ) (h : length s ≤ 4096) (l : List ℕ) (y : Z
                 let sent : Answer parts t (opt (num 1 ⨟ num 1) .read s (a .at)) =
                 answered parts t (opt (num 1 ⨟ num 1) .read s (a .at)) (et .0) (lawful (flagged (number 1 and number 1)) (tt, tt) .grounds s (a .at)) zt in
                 let v : Release7Value = (marked .value, (linked .value, (rated .value, sent .value))) in
-                left-ok release7Passed release7Run release7At (parts7 (format release7 .read s at)) l l3 (some v) (t .at) (record { refusal = r; count = m .count; at = t .at })
+                left-ok release7Passed release7Run release7At (parts7 (all7 .read s at)) l l3 (some v) (t .at) (record { refusal = r; count = m .count; at = t .at })
                 (λ i. record { refusal = er i; count = marked .told i .count; at = t .at })
                 (ap parts7
                 (then-ok (list (num 1)) behind-marks s at _ _ _ _ (marked .is)

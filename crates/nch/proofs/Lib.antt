@@ -1,9 +1,11 @@
+pub mod Numbering
 pub mod Ends
 pub mod Reading6
 pub mod InPlaces
 pub mod Releases
 pub mod Record
 pub mod Round
+pub mod Clips
 pub mod Promises
 pub mod Owners
 pub mod Lengths

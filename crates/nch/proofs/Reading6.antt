@@ -17,6 +17,7 @@ use Rattle.csn1.specs.Promises.{Grounded}
 use Rattle.csn1.proofs.Reading.{num-got, num-short}
 use Rattle.csn1.proofs.Promises.{lawful}
 use Rattle.nch.specs.Octets.{reduced, random}
+use Rattle.nch.proofs.Numbering.{reduced-numbered}
 
 -- ## An entry
 
@@ -71,7 +72,7 @@ module _ (s : List ℕ) (p b q : ℕ) (e : Bits b ≡ fetched s p 1) (n : p + 1 
 
 -- no refusal of a list is numbered 0
 pub reduceds-ground : (s : List ℕ) (p : ℕ) → Grounded (list (format reduced) .read s p)
-reduceds-ground s p = lawful (listed reduced) (omega arith, tt) .grounds s p
+reduceds-ground s p = lawful (listed reduced) reduced-numbered .grounds s p
 
 pub randoms-ground : (s : List ℕ) (p : ℕ) → Grounded (list (format random) .read s p)
 randoms-ground s p = lawful (listed random) (tt, tt) .grounds s p

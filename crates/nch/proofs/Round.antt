@@ -10,7 +10,7 @@ use lib.Dec.{leb, eqb}
 use borrow.Author.Tests.{leb-true, le-leb, eqb-true, eq-eqb}
 use Rattle.bits.specs.Field.{pick, bit}
 use Rattle.csn1.specs.Format.{Res, ok, bad, ground, noRefusal, num, opt, optFits, list, _⨟_, release, padBit, Holds, Binary, itemsFit}
-use Rattle.csn1.specs.Grammar.{format, Numbered}
+use Rattle.csn1.specs.Grammar.{format}
 use Rattle.csn1.specs.Promises.{Lawful, Grounded}
 use Rattle.csn1.proofs.Holding.{length-put, bit-put-above, holds-put}
 use Rattle.csn1.proofs.Lawful.{length-row}
@@ -25,19 +25,14 @@ use Rattle.nch.specs.declared.Reading.{Reading}
 use Rattle.nch.specs.Octets.{Value, Release6Value, restOctets, notification, reduced, random, release6, release7, reducedsIn}
 use Rattle.nch.specs.Told.{recordOf, valueOf, readingOf, readOf, Shaped}
 use Rattle.nch.specs.Write.{recordRefusal, form, formFits, writeNumber, written}
+use Rattle.nch.proofs.Numbering.{octets-numbered}
 use Rattle.nch.proofs.Record.{Right, one-more, right, right-all, record-fits, record-back, Fits, fits, value-said, value-right}
 
 -- ## The grammar keeps the laws
 
-numbered : Numbered restOctets
-numbered = (omega arith, (omega arith, (tt, (call, ((tt, ((omega arith, tt), (tt, tt))), (tt, (tt, ((tt, tt), (tt, tt)))))))))
-  where
-    call : Numbered callGrammar
-    call = ((omega arith, tt), ((omega arith, (tt, tt)), λ v. (((omega arith, tt), λ n. tt), tt)))
-
 pub notification-lawful : Lawful notification
 unfolding notification
-notification-lawful = lawful restOctets numbered
+notification-lawful = lawful restOctets octets-numbered
 
 -- ## What was written
 

@@ -12,7 +12,7 @@ use Rattle.bits.specs.Field.{field, pick}
 use Rattle.csn1.specs.declared.Refusal.{Refusal}
 use Rattle.csn1.specs.declared.Flagged.{Flagged}
 use Rattle.csn1.specs.Format.{Res, ok, bad, _then_, ground, Format, num, opt, list, release, _⨟_}
-use Rattle.csn1.specs.Grammar.{format, later, Numbered}
+use Rattle.csn1.specs.Grammar.{format, later}
 use Rattle.csn1.specs.Promises.{Lawful}
 use Rattle.csn1.specs.Told.{flaggedAt, flaggedOf}
 use Rattle.csn1.proofs.Promises.{lawful}
@@ -25,6 +25,7 @@ use Rattle.nch.specs.declared.lists.ListPassed.{ListPassed}
 use Rattle.nch.specs.declared.additions.Release6Passed.{Release6Passed}
 use Rattle.nch.specs.Octets.{Value, Release6Value, Release7Value, restParts, notification, release6, release7, count, cipheredValue, describedValue, reducedsIn, randomsIn, marksIn, randomsFit, marksFit, readOctets}
 use Rattle.nch.specs.Inner.{callsPassed, release6Passed, release7Passed}
+use Rattle.nch.proofs.Numbering.{numbered6, numbered7, parts-numbered}
 use Rattle.nch.proofs.Passed.{calls, six, seven}
 use Rattle.nch.proofs.InPlaces.{count-le}
 use Rattle.nch.proofs.Round.{four-calls, five-reduced}
@@ -58,14 +59,8 @@ row-is : (s : List ℕ) → format restParts .read s 0 ≡ row .read s 0
 unfolding groupCall
 row-is s = refl
 
-numbered6 : Numbered (later release6)
-numbered6 = (tt, ((omega arith, tt), (tt, tt)))
-
-numbered7 : Numbered (later release7)
-numbered7 = (tt, (tt, ((tt, tt), (tt, tt))))
-
 parts-lawful : Lawful (format restParts)
-parts-lawful = lawful restParts (tt, (((omega arith, tt), ((omega arith, (tt, tt)), λ v. (((omega arith, tt), λ n. tt), tt))), (numbered6, numbered7)))
+parts-lawful = lawful restParts parts-numbered
 
 module _ (s : List ℕ) (t : length s ≡ 20) (n : Flagged) (en : n ≡ flaggedOf (flaggedAt s 0 2)) where
   bad-told : (r : Refusal) → row .read s 0 ≡ bad r → readOctets s ≡ bad r

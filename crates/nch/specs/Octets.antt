@@ -7,13 +7,13 @@ use lib.ListN.{length}
 use lib.Dec.{leb, eqb}
 use Rattle.bits.specs.Field.{pick}
 use Rattle.csn1.specs.Format.{Res, bad, ground, Format}
-use Rattle.csn1.specs.Grammar.{Grammar, number, numbers, _and_, flagged, listed, later, refuse, format}
+use Rattle.csn1.specs.Grammar.{Grammar, number, numbers, _and_, flagged, listed, later, refuse, inside, format}
 use Rattle.csn1.specs.Told.{isThere}
 use Rattle.call.specs.Call.{CallValue, groupCallReference, cipherKeyNumber, groupChannelDescription, callGrammar, lowReference}
 
 -- Each part of a value has a name, beside the line of the grammar that reads it and in its order.
 
--- ## The releases
+-- ## The releases, from the bit behind the H on: bits that run out inside Release 6 are 14, and inside Release 7 they are 15
 
 -- <Reduced GCR: bit (28)>: the reference and the service flag, as in a call's whole reference
 abbrev pub reduced : Grammar (List ℕ)
@@ -34,7 +34,7 @@ Release6Value = Option ℕ × (List (List ℕ) × List (ℕ × Option ℕ))
 
 -- {0 | 1 <CELL_GLOBAL_COUNT: bit (2)>} <List of Reduced GCR> <List of VSTK_RAND information>
 abbrev pub release6 : Grammar Release6Value
-release6 = flagged (number 2) and listed reduced and listed random
+release6 = inside 14 (flagged (number 2) and listed reduced and listed random)
 
 abbrev pub cellGlobalCount : Release6Value → Option ℕ
 cellGlobalCount v = v .0
@@ -76,7 +76,7 @@ Release7Value = List ℕ × (Option ℕ × (Option AmrValue × Option (ℕ × �
 -- {0 | 1 {0|1 <FR AMR Config: bit(4)>} {0|1 <HR AMR Config: bit(4)>}}
 -- {0 | 1 <SMS Data Confidentiality Ind: bit(1)> <SMS Guaranteed Privacy Ind: bit(1)>}
 abbrev pub release7 : Grammar Release7Value
-release7 = listed (number 1) and flagged (number 1) and flagged amr and flagged smsBits
+release7 = inside 15 (listed (number 1) and flagged (number 1) and flagged amr and flagged smsBits)
 
 abbrev pub emergencyMarks : Release7Value → List ℕ
 emergencyMarks v = v .0

@@ -1,18 +1,20 @@
--- What is promised of NT/N Rest Octets (demand 2). Assumes nothing.
+-- What is promised of NT/N Rest Octets (demand 2, and where bits ran out). Assumes nothing.
 use mathlib.Core.Path.{_≡_}
-use mathlib.Core.List.{List}
-use mathlib.Core.Bool.{Bool, true}
+use mathlib.Core.List.{List, [], _∷_, map}
+use mathlib.Core.Bool.{Bool, true, false}
 use mathlib.Core.Option.{some}
 use mathlib.Core.Logic.{_⊎_}
 use Prim.Native.Nat.{ℕ, _+_, _*_, _≤_, _<_}
 use lib.ListN.{length, getD}
 use Rattle.bits.specs.Field.{bit}
-use Rattle.csn1.specs.Format.{noRefusal, padBit}
+use Rattle.csn1.specs.Format.{noRefusal, isClip, padBit}
+use Rattle.csn1.specs.Grammar.{number, _and_, flagged, listed}
+use Rattle.csn1.specs.Clip.{Clipped, Release-of}
 use Rattle.call.specs.declared.Call.{Call}
-use Rattle.call.specs.Call.{ciphered, noCall}
+use Rattle.call.specs.Call.{callGrammar, ciphered, noCall}
 use Rattle.nch.specs.declared.Random.{Random}
 use Rattle.nch.specs.declared.Notification.{Notification}
-use Rattle.nch.specs.Octets.{count}
+use Rattle.nch.specs.Octets.{release6, release7, count, restOctets}
 use Rattle.nch.specs.Told.{readOf, Shaped}
 use Rattle.nch.specs.Write.{callsOf, isDescribed, randomsOwned, marksOwned, writeNumber, written, form}
 use Rattle.nch.specs.Owners.{nth, randomsOf, marksOf, before, randomOfCall, randomOfReduced, emergencyOfCall}
@@ -90,3 +92,41 @@ Every-mark-has-an-owner = (m : Notification) → marksOwned m ≡ true → (k : 
 -- 7. No two calls own the same, and what reduced references own comes behind what calls own.
 abbrev pub No-two-own-the-same : Type 0
 No-two-own-the-same = (t : Call → Bool) (m : Notification) (k : ℕ) (a b : Owner t m k) → (a .call ≡ b .call) × (k < count t (callsOf m))
+
+-- 8. Refused with 2, 14 or 15: bits ran out in a field that reading came to, which begins at the refusal's bit and ends past the 160 bits. Any other refusal has
+-- the bit 0.
+abbrev pub A-clip-is-told-where-it-is : Type 0
+A-clip-is-told-where-it-is =
+    (s : List ℕ)
+    → (isClip (readOf s .refusal .number) ≡ true → (length s ≡ 20) × Clipped restOctets s 0 (readOf s .refusal))
+    × (isClip (readOf s .refusal .number) ≡ false → readOf s .refusal .bit ≡ 0)
+
+-- 9. 2 is before the releases, 14 from the bit behind Release 6's H to its last bit, and 15 the same in Release 7.
+abbrev pub The-number-says-the-release : Type 0
+The-number-says-the-release =
+    (s : List ℕ) → isClip (readOf s .refusal .number) ≡ true → Release-of (flagged (number 2) and listed callGrammar) release6 release7 s 0 (readOf s .refusal)
+
+-- 10. Listed clips: the number and the bit, worked out from the octets by hand, and what is missing there.
+abbrev pub clips : List ((ℕ × ℕ) × List ℕ)
+clips =
+    -- six of a fifth call's 36 bits
+    ((2, 154), 0x40 ∷ 0x00 ∷ 0x00 ∷ 0x00 ∷ 0x01 ∷ 0x00 ∷ 0x00 ∷ 0x00 ∷ 0x20 ∷ 0x04 ∷ 0x00 ∷ 0x00 ∷ 0x01 ∷ 0x00 ∷ 0x10 ∷ 0x00 ∷ 0x00 ∷ 0x06 ∷ 0x00 ∷ 0x6b ∷ [])
+    -- a second call's 36 bits
+    ∷ ((2, 130), 0x40 ∷ 0x00 ∷ 0x00 ∷ 0x38 ∷ 0x96 ∷ 0x00 ∷ 0x20 ∷ 0x01 ∷ 0xf7 ∷ 0xd4 ∷ 0x62 ∷ 0xed ∷ 0x04 ∷ 0x67 ∷ 0xfd ∷ 0xaf ∷ 0x40 ∷ 0x00 ∷ 0x00 ∷ 0x3c ∷ [])
+    -- random entries up to the last bit: of the last one the flag of VSTK_RAND
+    ∷ ((14, 160), 0x04 ∷ 0x92 ∷ 0x49 ∷ 0x24 ∷ 0x92 ∷ 0x49 ∷ 0x24 ∷ 0x92 ∷ 0x49 ∷ 0x24 ∷ 0x92 ∷ 0x49 ∷ 0x24 ∷ 0x92 ∷ 0x49 ∷ 0x24 ∷ 0x92 ∷ 0x49 ∷ 0x24 ∷ 0x92 ∷ [])
+    -- 25 of a reduced reference's 28 bits
+    ∷ ((14, 135), 0x40 ∷ 0x00 ∷ 0x00 ∷ 0x38 ∷ 0x96 ∷ 0x00 ∷ 0x20 ∷ 0x01 ∷ 0xa5 ∷ 0x52 ∷ 0x07 ∷ 0x90 ∷ 0x43 ∷ 0x79 ∷ 0xce ∷ 0x56 ∷ 0x9f ∷ 0x7d ∷ 0x78 ∷ 0x3f ∷ [])
+    -- three of FR AMR Config's four bits
+    ∷ ((15, 157), 0xd0 ∷ 0x00 ∷ 0x00 ∷ 0x0e ∷ 0x25 ∷ 0xa0 ∷ 0xd9 ∷ 0x6d ∷ 0xc0 ∷ 0x97 ∷ 0xf2 ∷ 0xe1 ∷ 0xcd ∷ 0x01 ∷ 0xe2 ∷ 0x52 ∷ 0xe6 ∷ 0xb2 ∷ 0xc8 ∷ 0x79 ∷ [])
+    ∷ []
+
+-- what a row's octets are refused with, and where
+abbrev pub toldOf : (ℕ × ℕ) × List ℕ → ℕ × ℕ
+toldOf row = (readOf (row .1) .refusal .number, readOf (row .1) .refusal .bit)
+
+abbrev pub rowOf : (ℕ × ℕ) × List ℕ → ℕ × ℕ
+rowOf row = row .0
+
+abbrev pub The-listed-clips-are-told-so : Type 0
+The-listed-clips-are-told-so = map toldOf clips ≡ map rowOf clips

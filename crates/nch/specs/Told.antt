@@ -135,7 +135,7 @@ recordOf v =
 abbrev pub noRecord : Notification
 noRecord = record { hasNln = false; nln = 0; callcount = 0; calls = padded noCall mostCalls []; release6 = noRelease6; release7 = noRelease7 }
 
--- a refusal is its number alone
+-- a refusal is its number and its bit alone
 abbrev pub readingOf : Res Value → Reading
 readingOf (bad r) = record { refusal = r; used = 0; «record» = noRecord }
 readingOf (ok v q) = record { refusal = noRefusal; used = q; «record» = recordOf v }

@@ -3,12 +3,12 @@ ghost use mathlib.Core.Path.{_≡_};
 ghost use mathlib.Core.Option.{some};
 ghost use Prim.Native.Nat.{ℕ, _≤_};
 ghost use lib.ListN.{length};
-ghost use Rattle.csn1.specs.Format.{ok, bad, _then_, num, opt, release, _⨟_};
+ghost use Rattle.csn1.specs.Format.{ok, bad, _then_, renumbered, num, opt, release, _⨟_};
 ghost use Rattle.csn1.specs.Grammar.{format};
 ghost use Rattle.arrays.specs.Inner.{Zeros, Left};
 ghost use Rattle.nch.specs.Octets.{amr, release6, release7};
 ghost use Rattle.nch.specs.Places.{release6At, release7At, amrAt, smsAt, allLength};
-ghost use Rattle.nch.specs.Inner.{partPassed, release6Passed, release7Passed, amrRun, smsRun, release6Run, release7Run};
+ghost use Rattle.nch.specs.Inner.{partPassed, listPassed, release6Passed, release7Passed, amrRun, smsRun, release6Run, release7Run};
 use crate::lists::ListPassed;
 use crate::lists::list_marks;
 use crate::lists::list_randoms;
@@ -43,6 +43,20 @@ fn no_release6(refusal: Refusal) -> Release6Passed
     }
 }
 
+// Bits that ran out behind Release 6's H are 14.
+fn clipped6(refusal: Refusal) -> Release6Passed
+    ensures { λ r. ⌜ r ≡ release6Passed (bad (renumbered 14 refusal)) ⌝ }
+{
+    no_release6(csn1::inside(14, refusal))
+}
+
+// Behind Release 7's H they are 15.
+fn clipped7(refusal: Refusal) -> ListPassed
+    ensures { λ r. ⌜ r ≡ listPassed {A = ℕ} (bad (renumbered 15 refusal)) ⌝ }
+{
+    no_list(csn1::inside(15, refusal))
+}
+
 pub(crate) fn no_part(refusal: Refusal) -> PartPassed
     ensures { λ r. ⌜ r ≡ partPassed {A = ℕ} (bad refusal) ⌝ }
 {
@@ -56,18 +70,18 @@ fn fill_parts6(s: &[u8], at: usize, numbers: &mut [u64]) -> Release6Passed
 {
     let c = csn1::read_flagged(s, at, 2);
     if c.refusal.number != 0 {
-        return no_release6(c.refusal);
+        return clipped6(c.refusal);
     }
     numbers[places::RELEASE6] = 1;
     numbers[places::COUNTED] = c.hasValue as u64;
     numbers[places::CELLCOUNT] = c.value;
     let d = list_reduceds(s, c.at, &mut *numbers);
     if d.refusal.number != 0 {
-        return no_release6(d.refusal);
+        return clipped6(d.refusal);
     }
     let e = list_randoms(s, d.at, &mut *numbers);
     if e.refusal.number != 0 {
-        return no_release6(e.refusal);
+        return clipped6(e.refusal);
     }
     Release6Passed {
         refusal: csn1::no_refusal(),
@@ -167,21 +181,21 @@ fn fill_parts7(s: &[u8], at: usize, numbers: &mut [u64]) -> ListPassed
     numbers[places::RELEASE7] = 1;
     let m = list_marks(s, at, &mut *numbers);
     if m.refusal.number != 0 {
-        return no_list(m.refusal);
+        return clipped7(m.refusal);
     }
     let u = csn1::read_flagged(s, m.at, 1);
     if u.refusal.number != 0 {
-        return no_list(u.refusal);
+        return clipped7(u.refusal);
     }
     numbers[places::UPLINKED] = u.hasValue as u64;
     numbers[places::UPLINK] = u.value;
     let a = fill_amr(s, u.at, &mut *numbers);
     if a.refusal.number != 0 {
-        return no_list(a.refusal);
+        return clipped7(a.refusal);
     }
     let t = fill_sms(s, a.at, &mut *numbers);
     if t.refusal.number != 0 {
-        return no_list(t.refusal);
+        return clipped7(t.refusal);
     }
     ListPassed {
         refusal: csn1::no_refusal(),

@@ -56,6 +56,6 @@ all-runs m used l l1 l2 l3 call six seven n p q r e f g =
 
 -- what `read` leaves
 pub read-runs : (s : List ℕ) (r : Reading) (n : ℕ) (all o : List ℕ) → r ≡ readOf s → all ≡ r .used ∷ numbersOf (r .«record») → o ≡ padded 0 n all
-    → (r .refusal .number ≡ readOf s .refusal .number) × (o ≡ padded 0 n (readNumbers s))
+    → (r .refusal ≡ readOf s .refusal) × (o ≡ padded 0 n (readNumbers s))
 unfolding readNumbers
 read-runs s r n all o e f g = (rw e, g ∙ ap (padded 0 n) (f ∙ ap (λ (x : Reading). x .used ∷ numbersOf (x .«record»)) e))

@@ -18,7 +18,9 @@ use Rattle.nch.specs.CallNumbers.{callNumbers, descriptionBy, callBy}
 use Rattle.numbers.specs.FacchNumbers as facch-numbers
 use Rattle.nch.specs.Places.{allLength}
 use Rattle.nch.specs.NotificationNumbers.{fieldsHold, Fits, numbersOf, reducedBy, randomFrom, release6By, release7By, recordBy, recordFrom, readNumbers, writeCode, afterWrite}
-use Rattle.numbers.specs.Promises.{A-record-is-its-numbers, Numbers-are-their-record, Reading-gives-the-numbers-back, Writing-gives-the-octets-back, The-first-number-is-not-looked-at, All-have-their-places, A-refused-reading-is-all-zeros}
+use Rattle.numbers.specs.Promises.{A-record-is-its-numbers, Numbers-are-their-record, Reading-gives-the-numbers-back, Writing-gives-the-octets-back, The-first-number-is-not-looked-at, All-have-their-places, A-refused-reading-is-all-zeros, A-result-tells-number-and-bit}
+use Rattle.nch.proofs.Clips.{told-by-result as nch-told-by-result}
+use Rattle.facch.proofs.Clips.{told-by-result as facch-told-by-result}
 use Rattle.numbers.proofs.FacchRuns as facch
 use Rattle.nch.proofs.NotificationRuns.{length-all, length-read}
 use Rattle.nch.proofs.NotificationBack.{record-back, numbers-back, refused-zeros}
@@ -92,3 +94,6 @@ writing-gives-the-octets-back s b h n =
 pub the-first-number-is-not-looked-at : The-first-number-is-not-looked-at
 unfolding writeCode afterWrite recordBy release6By release7By callBy descriptionBy reducedBy randomFrom
 the-first-number-is-not-looked-at x y n ns b = (refl, refl)
+
+pub a-result-tells-number-and-bit : A-result-tells-number-and-bit
+a-result-tells-number-and-bit = (nch-told-by-result, facch-told-by-result)

@@ -2,9 +2,10 @@
 use mathlib.Core.Path.{_≡_}
 use mathlib.Core.List.{List, [], _∷_, _++_}
 use mathlib.Core.Bool.{true}
-use Prim.Native.Nat.{ℕ, _<_}
+use Prim.Native.Nat.{ℕ, _/_, _%_, _<_}
 use lib.ListN.{length, getD, drop, replicate}
 use Rattle.bits.specs.Field.{bit}
+use Rattle.csn1.specs.Told.{codeOf}
 use Rattle.arrays.specs.Limits.{within}
 use Rattle.facch.specs.declared.Notification as facch
 use Rattle.nch.specs.declared.Notification as nch
@@ -181,3 +182,11 @@ pub record Every-listed-input-gives-its-numbers : Type 0 where
   -- a flag of 2, and the 105 numbers without the first
   pub flagged : writeCode (0 ∷ 2 ∷ replicate 104 0) 20 ≡ 12
   pub few : writeCode firstNumbers 20 ≡ 13
+
+-- 9. What a reader returns tells the number of the refusal, in the low octet, and its bit, above it: none is cut off.
+abbrev pub A-result-tells-number-and-bit : Type 0
+A-result-tells-number-and-bit =
+    ((s : List ℕ) → (codeOf (readOf s .refusal) % 256 ≡ readOf s .refusal .number) × (codeOf (readOf s .refusal) / 256 ≡ readOf s .refusal .bit))
+    × ((s : List ℕ)
+    → (codeOf (facch-told.readOf s .refusal) % 256 ≡ facch-told.readOf s .refusal .number)
+    × (codeOf (facch-told.readOf s .refusal) / 256 ≡ facch-told.readOf s .refusal .bit))

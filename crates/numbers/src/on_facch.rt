@@ -6,6 +6,7 @@ ghost use Rattle.csn1.specs.Told.{padded};
 ghost use Rattle.facch.specs.Told.{readOf};
 ghost use Rattle.numbers.specs.FacchNumbers.{release6Numbers, release7Numbers, numbersOf, readNumbers};
 use arrays::fill;
+use csn1::Refusal;
 use facch::Notification;
 use facch::Release6;
 use facch::Release7;
@@ -68,13 +69,13 @@ fn all_numbers(m: Notification, used: usize) -> [u64; LENGTH]
 }
 
 // Reads any octets, into as many places as there are.
-pub fn read(octets: &[u8], numbers: &mut [u64]) -> u8
-    ensures { λ r. ⌜ (r ≡ readOf (now (octets .entry)) .refusal .number)
+pub fn read(octets: &[u8], numbers: &mut [u64]) -> Refusal
+    ensures { λ r. ⌜ (r ≡ readOf (now (octets .entry)) .refusal)
         × (now (numbers .exit) ≡ padded 0 (length (now (numbers .entry))) (readNumbers (now (octets .entry)))) ⌝ }
 {
     let r = facch::read(octets);
     let m = r.record;
     let all = all_numbers(m, r.used);
     fill::store(&all, &mut *numbers);
-    r.refusal.number
+    r.refusal
 }

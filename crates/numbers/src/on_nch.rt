@@ -5,15 +5,15 @@ ghost use Rattle.csn1.specs.Told.{padded};
 ghost use Rattle.nch.specs.Told.{readOf};
 ghost use Rattle.nch.specs.NotificationNumbers.{readNumbers, writeCode, afterWrite};
 use crate::limits;
+use csn1::Refusal;
 use nch::places;
 
 // Reads any octets, into as many places as there are.
-pub fn read(octets: &[u8], numbers: &mut [u64]) -> u8
-    ensures { λ r. ⌜ (r ≡ readOf (now (octets .entry)) .refusal .number)
+pub fn read(octets: &[u8], numbers: &mut [u64]) -> Refusal
+    ensures { λ r. ⌜ (r ≡ readOf (now (octets .entry)) .refusal)
         × (now (numbers .exit) ≡ padded 0 (length (now (numbers .entry))) (readNumbers (now (octets .entry)))) ⌝ }
 {
-    let r = nch::reader::read_into(octets, &mut *numbers);
-    r.number
+    nch::reader::read_into(octets, numbers)
 }
 
 // Writes the record that the numbers are into twenty octets and says 0, or says the number of the refusal and leaves the octets as they are. The first number, the

@@ -1,3 +1,4 @@
+pub mod Refusals
 pub mod Cases
 pub mod Classes
 pub mod Loops

@@ -89,7 +89,7 @@ pub struct Told {
 // A message has at most this many entries: four calls and five reduced references.
 pub const MOST_ENTRIES: usize = 9;
 
-// What an event is answered. A refusal is its number alone, and the receiver as it stood.
+// What an event is answered. A refusal is its number and its bit alone, and the receiver as it stood.
 pub struct Answer {
     pub refusal: Refusal,
     pub expired: usize,

@@ -21,7 +21,7 @@ use Rattle.layout.specs.Octets.{lowOctets}
 use Rattle.layout.specs.Layout.{markFrom, kindsFrom, recordOctets, kindPlace, sincePlace, recordPlace, slotNo, keysIn, putSlot, putTold}
 use Rattle.layout.proofs.Decoding.{told-elsewhere, head-elsewhere}
 use Rattle.layout.proofs.Sweeps.{run-elsewhere}
-use Rattle.lent.specs.Events.{afterMeet, metOctets, tellAt, tellOctets, allOctets, codeOf, octetsAfter}
+use Rattle.lent.specs.Events.{afterMeet, metOctets, tellAt, tellOctets, allOctets, eventCode, octetsAfter}
 
 -- what holds of both holds of the one that is picked
 by-pick : (P : List ℕ → Type 0) (b : Bool) (x y : List ℕ) → P x → P y → P (pick b x y)
@@ -60,7 +60,7 @@ module _ (j : ℕ) (h : j < kindsFrom) where
 pub mark-stays : (l : List ℕ) (e : Event) (j : ℕ) → j < 4 → getD (octetsAfter l e) (markFrom + j) 0 ≡ getD l (markFrom + j) 0
 unfolding octetsAfter
 mark-stays l e j h =
-    by-test (eqb (codeOf l e) 0)
+    by-test (eqb (eventCode l e) 0)
     (λ p. rw p
     (head-elsewhere _ _ _ _ _ _ (markFrom + j) (omega arith) (λ q. omega arith) (λ q. omega arith)
     ∙ all-stays (markFrom + j) (omega arith) _ _ (e .tick) 0 (contentOf (e .happening) .entries)

@@ -6,7 +6,7 @@ use lib.ListN.{length}
 use borrow.Author.Tests.{not-true, not-false}
 use Rattle.csn1.specs.Format.{num, opt, _⨟_, list}
 use Rattle.csn1.specs.Grammar.{format}
-use Rattle.csn1.proofs.Putting.{put-low, put-high, put-both}
+use Rattle.csn1.proofs.Putting.{put-low, put-high, put-both, put-inside}
 use Rattle.nch.specs.declared.Release6.{Release6}
 use Rattle.nch.specs.Octets.{reduced, random, release6}
 use Rattle.nch.specs.Told.{release6Value}
@@ -109,7 +109,7 @@ returns-2 c =
     put-both {F = opt (num 2)} {G = list (format reduced) ⨟ list (format random)} (f .put-flagged .ensures .0)
     (put-both {F = list (format reduced)} {G = list (format random)} (g .put-reduceds .ensures .0) (w .ensures .0)) in (
       put-high {F = format release6} (now (a .args .buf)) (h .put-high .last .0) (place h) (omega (arith, a .pre .1 .0)) (release h .hasRelease) t (release6Value (release h)) (w .result)
-          (w .last .0) parts (h .put-high .ensures),
+          (w .last .0) (put-inside 14 parts) (h .put-high .ensures),
       omega (arith, f .put-flagged .ensures .1, g .put-reduceds .ensures .1, w .ensures .1),
     )
 

@@ -7,7 +7,7 @@ use borrow.Author.Tests.{not-true, not-false}
 use Rattle.csn1.specs.Format.{num, opt, _⨟_, list}
 use Rattle.csn1.specs.Grammar.{format}
 use Rattle.csn1.proofs.Writing.{flag-lt}
-use Rattle.csn1.proofs.Putting.{put-low, put-high, put-both}
+use Rattle.csn1.proofs.Putting.{put-low, put-high, put-both, put-inside}
 use Rattle.nch.specs.declared.Release7.{Release7}
 use Rattle.nch.specs.Octets.{amr, release7}
 use Rattle.nch.specs.Told.{release7Value}
@@ -122,7 +122,7 @@ returns-2 c =
     (put-both {F = opt (format amr)} {G = opt (num 1 ⨟ num 1)} (c6 .put-amr .ensures .0) (sms .ensures))) in
     let t = not-false (release h .hasRelease) (h .before .before .if1 .left) in
     put-high {F = format release7} buf (h .put-high .last .0) (place h) (omega (arith, h .before .before .before .before .before .pre .1 .0)) (release h .hasRelease) t
-    (release7Value (release h)) (sms .result) (sms .last .0) parts (h .put-high .ensures)
+    (release7Value (release h)) (sms .result) (sms .last .0) (put-inside 15 parts) (h .put-high .ensures)
 
 pub put-release7-spec : {M : Type 1} → statement M
 put-release7-spec =

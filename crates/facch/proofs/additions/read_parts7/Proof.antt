@@ -9,38 +9,38 @@ use Rattle.facch.proofs.additions.read_parts7.Tie as tie
 read-coded-requires : tie.Need-read-coded-requires
 read-coded-requires c κs = search needs
 
-refused-release7-requires : tie.Need-refused-release7-requires
-refused-release7-requires c κs = search needs
+clipped7-requires : tie.Need-clipped7-requires
+clipped7-requires c κs = search needs
 
 returns : tie.Need-returns
 returns c =
     let u = c .before .before .before .read-coded in
-    c .refused-release7 .ensures ∙ uplink-bad (now (c .before .before .before .before .before .args .s)) (c .before .before .before .before .before .args .at) (c .before .before .before .before .before .pre) (u .result) (u .ensures) (c .before .if1 .taken)
+    c .clipped7 .ensures ∙ uplink-bad (now (c .before .before .before .before .before .args .s)) (c .before .before .before .before .before .args .at) (c .before .before .before .before .before .pre) (u .result) (u .ensures) (c .before .if1 .taken)
 
 read-coded-requires-2 : tie.Need-read-coded-requires-2
 read-coded-requires-2 c κs = search needs
 
-refused-release7-requires-2 : tie.Need-refused-release7-requires-2
-refused-release7-requires-2 c κs = search needs
+clipped7-requires-2 : tie.Need-clipped7-requires-2
+clipped7-requires-2 c κs = search needs
 
 returns-2 : tie.Need-returns-2
 returns-2 c =
     let u = c .before .before .before .before .before .before .read-coded in
     let e = c .before .before .before .read-coded2 in
-    c .refused-release72 .ensures ∙ emergency-bad (now (c .before .before .before .before .before .before .before .before .args .s)) (c .before .before .before .before .before .before .before .before .args .at) (c .before .before .before .before .before .before .before .before .pre) (u .result) (u .ensures) (c .before .before .before .before .if1 .left) (e .result) (e .ensures) (c .before .if2 .taken)
+    c .clipped72 .ensures ∙ emergency-bad (now (c .before .before .before .before .before .before .before .before .args .s)) (c .before .before .before .before .before .before .before .before .args .at) (c .before .before .before .before .before .before .before .before .pre) (u .result) (u .ensures) (c .before .before .before .before .if1 .left) (e .result) (e .ensures) (c .before .if2 .taken)
 
 read-flagged-requires : tie.Need-read-flagged-requires
 read-flagged-requires c κs = search needs
 
-refused-release7-requires-3 : tie.Need-refused-release7-requires-3
-refused-release7-requires-3 c κs = search needs
+clipped7-requires-3 : tie.Need-clipped7-requires-3
+clipped7-requires-3 c κs = search needs
 
 returns-3 : tie.Need-returns-3
 returns-3 c =
     let u = c .before .before .before .before .before .before .before .before .before .read-coded in
     let e = c .before .before .before .before .before .before .read-coded2 in
     let p = c .before .before .before .read-flagged in
-    c .refused-release73 .ensures ∙ cause-bad (now (c .before .before .before .before .before .before .before .before .before .before .before .args .s)) (c .before .before .before .before .before .before .before .before .before .before .before .args .at) (c .before .before .before .before .before .before .before .before .before .before .before .pre) (u .result) (u .ensures) (c .before .before .before .before .before .before .before .if1 .left) (e .result) (e .ensures) (c .before .before .before .before .if2 .left) (p .result) (p .ensures) (c .before .if3 .taken)
+    c .clipped73 .ensures ∙ cause-bad (now (c .before .before .before .before .before .before .before .before .before .before .before .args .s)) (c .before .before .before .before .before .before .before .before .before .before .before .args .at) (c .before .before .before .before .before .before .before .before .before .before .before .pre) (u .result) (u .ensures) (c .before .before .before .before .before .before .before .if1 .left) (e .result) (e .ensures) (c .before .before .before .before .if2 .left) (p .result) (p .ensures) (c .before .if3 .taken)
 
 no-refusal-requires : tie.Need-no-refusal-requires
 no-refusal-requires c κs = search needs
@@ -57,13 +57,13 @@ read-parts7-spec =
     tie.close
     (tie.spec
     read-coded-requires
-    refused-release7-requires
+    clipped7-requires
     returns
     read-coded-requires-2
-    refused-release7-requires-2
+    clipped7-requires-2
     returns-2
     read-flagged-requires
-    refused-release7-requires-3
+    clipped7-requires-3
     returns-3
     no-refusal-requires
     returns-4)

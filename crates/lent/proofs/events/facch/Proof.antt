@@ -23,18 +23,22 @@ returns c =
 read-requires : tie.Need-read-requires
 read-requires c κs = tt
 
+code-requires : tie.Need-code-requires
+code-requires c κs = tt
+
 same-length-2 : tie.Need-same-length-2
 same-length-2 c = search needs
 
 returns-2 : tie.Need-returns-2
 returns-2 c =
-    let c2 = c .before .before in
+    let d = c .before in
+    let c2 = d .before .before in
     let c3 = c2 .before in
     let c4 = c3 .before in
     let c8 = c4 .before .before .before .before in
     let a = c8 .args in
-    fed-refused (a .b .now) (facch (a .time) (a .octets .now)) _ (c4 .early .ensures) (c3 .if1 .left) _ (ap (λ (r : Reading). r .refusal .number) (c2 .read .ensures))
-    (c .if2 .taken)
+    fed-refused (a .b .now) (facch (a .time) (a .octets .now)) _ (c4 .early .ensures) (c3 .if1 .left) _ (ap (λ (r : Reading). r .refusal) (c2 .read .ensures))
+    (d .if2 .taken) _ (c .code .ensures)
 
 accept-facch-requires : tie.Need-accept-facch-requires
 accept-facch-requires c κs =
@@ -70,6 +74,7 @@ facch-spec =
     same-length
     returns
     read-requires
+    code-requires
     same-length-2
     returns-2
     accept-facch-requires

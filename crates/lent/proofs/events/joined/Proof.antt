@@ -2,14 +2,14 @@
 use mathlib.Core.Path.{refl, ap, _∙_}
 use mathlib.Core.Bool.{true}
 use Prim.Native.Nat.{ℕ}
-use native.Mathlib.Omega.{arith}
 use borrow.Author.Needs.{needs}
+use Rattle.csn1.specs.Format.{ground}
 use Rattle.receiver.specs.Channels.{keyCount, Channel}
 use Rattle.receiver.specs.Model.{indexOf, ruleFor}
 use Rattle.receiver.specs.Step.{joining, plainly, joined}
 use Rattle.layout.specs.Layout.{keysIn}
 use Rattle.layout.proofs.States.{at-state}
-use Rattle.lent.proofs.Feeding.{fed-early, whole-then, fed-refused, cell-then, fed-accepted, joined-out, joined-in}
+use Rattle.lent.proofs.Feeding.{fed-early, whole-then, fed-refused, cell-then, fed-accepted, joined-out, joined-in, four}
 use Rattle.lent.proofs.events.joined.Statement.{statement}
 use Rattle.lent.proofs.events.joined.Tie as tie
 
@@ -31,7 +31,7 @@ returns-2 c =
     let c2 = c1 .before in
     let c5 = c2 .before .before .before in
     let a = c5 .args in
-    fed-refused (a .b .now) (joined (a .time) (a .key)) _ (c2 .early .ensures) (c1 .if1 .left) 4 (joined-out (a .key) (c .if2 .taken)) (λ z. omega (arith, z))
+    fed-refused (a .b .now) (joined (a .time) (a .key)) _ (c2 .early .ensures) (c1 .if1 .left) (ground 4) (joined-out (a .key) (c .if2 .taken)) (four .0) 4 (four .1)
 
 cell-of-requires : tie.Need-cell-of-requires
 cell-of-requires c κs = tt

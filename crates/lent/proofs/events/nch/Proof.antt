@@ -32,18 +32,22 @@ slice-aggregate-read-into c = search needs
 read-into-requires : tie.Need-read-into-requires
 read-into-requires c κs = tt
 
+code-requires : tie.Need-code-requires
+code-requires c κs = tt
+
 same-length-2 : tie.Need-same-length-2
 same-length-2 c = search needs
 
 returns-2 : tie.Need-returns-2
 returns-2 c =
-    let c3 = c .before .before .before in
+    let d = c .before in
+    let c3 = d .before .before .before in
     let c5 = c3 .before .before in
     let c6 = c5 .before in
     let c10 = c6 .before .before .before .before in
     let a = c10 .args in
-    fed-refused (a .b .now) (nch (a .time) (a .octets .now)) _ (c6 .early .ensures) (c5 .if1 .left) _ (ap (λ (r : Refusal). r .number) (c3 .read-into .ensures .0))
-    (c .if2 .taken)
+    fed-refused (a .b .now) (nch (a .time) (a .octets .now)) _ (c6 .early .ensures) (c5 .if1 .left) _ (c3 .read-into .ensures .0)
+    (d .if2 .taken) _ (c .code .ensures)
 
 slice-aggregate-accept-nch : tie.Need-slice-aggregate-accept-nch
 slice-aggregate-accept-nch c = search needs
@@ -90,6 +94,7 @@ nch-spec =
     returns
     slice-aggregate-read-into
     read-into-requires
+    code-requires
     same-length-2
     returns-2
     slice-aggregate-accept-nch

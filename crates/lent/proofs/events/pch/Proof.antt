@@ -27,18 +27,22 @@ returns c =
 read-requires : tie.Need-read-requires
 read-requires c κs = tt
 
+code-requires : tie.Need-code-requires
+code-requires c κs = tt
+
 same-length-2 : tie.Need-same-length-2
 same-length-2 c = search needs
 
 returns-2 : tie.Need-returns-2
 returns-2 c =
-    let c2 = c .before .before in
+    let d = c .before in
+    let c2 = d .before .before in
     let c3 = c2 .before in
     let c4 = c3 .before in
     let c8 = c4 .before .before .before .before in
     let a = c8 .args in
-    fed-refused (a .b .now) (pch (a .time) (a .numbers .now)) _ (c4 .early .ensures) (c3 .if1 .left) _ (ap (λ (r : Reading). r .refusal .number) (c2 .read .ensures))
-    (c .if2 .taken)
+    fed-refused (a .b .now) (pch (a .time) (a .numbers .now)) _ (c4 .early .ensures) (c3 .if1 .left) _ (ap (λ (r : Reading). r .refusal) (c2 .read .ensures))
+    (d .if2 .taken) _ (c .code .ensures)
 
 key-of-requires : tie.Need-key-of-requires
 key-of-requires c κs = tt
@@ -91,6 +95,7 @@ pch-spec =
     same-length
     returns
     read-requires
+    code-requires
     same-length-2
     returns-2
     key-of-requires

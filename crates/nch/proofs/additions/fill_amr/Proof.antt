@@ -119,7 +119,10 @@ returns-4 c =
     _ refl _ (c .no-part3 .ensures) _
 
 slice-write-numbers : tie.Need-slice-write-numbers
-slice-write-numbers c = omega arith
+slice-write-numbers c =
+    let c6 = c .before .before .before .before .before .before in
+    let c12 = c6 .before .before .before .before .before .before in
+    omega (arith, c12 .before .pre .1 .0)
 
 cast-numbers : tie.Need-cast-numbers
 cast-numbers c = omega arith

@@ -19,8 +19,8 @@ reduceds-length c =
 read-flagged-requires : tie.Need-read-flagged-requires
 read-flagged-requires c κs = omega arith
 
-no-release6-requires : tie.Need-no-release6-requires
-no-release6-requires c κs = omega arith
+clipped6-requires : tie.Need-clipped6-requires
+clipped6-requires c κs = omega arith
 
 returns : tie.Need-returns
 returns c =
@@ -28,7 +28,7 @@ returns c =
     let a = b .args in
     let n = c .before .before .before .read-flagged in
     count-refused (now (a .s)) (a .at) (b .pre .0) (now (a .numbers)) (b .pre .1 .1) (n .result) (n .ensures)
-    (c .before .if1 .taken) _ (c .no-release6 .ensures) _
+    (c .before .if1 .taken) _ (c .clipped6 .ensures) _
 
 slice-write-numbers : tie.Need-slice-write-numbers
 slice-write-numbers c = omega arith
@@ -49,8 +49,8 @@ list-reduceds-requires c κs =
     let n = c .before .before .before .before .read-flagged in
     (b .pre .0, (omega (arith, length-led6 (now (a .numbers)) (n .result), b .pre .1 .0), zeros-led6 (now (a .s)) (a .at) (b .pre .0) (now (a .numbers)) (b .pre .1 .1) (n .result) (n .ensures)))
 
-no-release6-requires-2 : tie.Need-no-release6-requires-2
-no-release6-requires-2 c κs = omega arith
+clipped6-requires-2 : tie.Need-clipped6-requires-2
+clipped6-requires-2 c κs = omega arith
 
 same-length : tie.Need-same-length
 same-length c = reduceds-length (c .before .before)
@@ -62,7 +62,7 @@ returns-2 c =
     let n = c .before .before .before .before .before .before .before .before .before .before .read-flagged in
     let x = c .before .before .before .before .before .list-reduceds in
     reduceds-refused (now (a .s)) (a .at) (b .pre .0) (now (a .numbers)) (b .pre .1 .1) (n .result) (n .ensures)
-    (c .before .before .before .before .before .before .before .before .if1 .left) (x .result) _ (x .ensures) (c .before .if2 .taken) _ (c .no-release62 .ensures) _
+    (c .before .before .before .before .before .before .before .before .if1 .left) (x .result) _ (x .ensures) (c .before .if2 .taken) _ (c .clipped62 .ensures) _
 
 list-randoms-requires : tie.Need-list-randoms-requires
 list-randoms-requires c κs =
@@ -79,8 +79,8 @@ list-randoms-requires c κs =
       ),
     )
 
-no-release6-requires-3 : tie.Need-no-release6-requires-3
-no-release6-requires-3 c κs = omega arith
+clipped6-requires-3 : tie.Need-clipped6-requires-3
+clipped6-requires-3 c κs = omega arith
 
 same-length-2 : tie.Need-same-length-2
 same-length-2 c = c .before .before .before .before .before .list-randoms .kept .1 .1 .0 ∙ reduceds-length (c .before .before .before .before .before .before .before .before)
@@ -95,7 +95,7 @@ returns-3 c =
     let y = c .before .before .before .before .before .list-randoms in
     randoms-refused (now (a .s)) (a .at) (b .pre .0) (now (a .numbers)) (b .pre .1 .1) (n .result) (n .ensures)
     (c .before .before .before .before .before .before .before .before .before .before .before .before .before .before .if1 .left) (x .result) _ (x .ensures)
-    (c .before .before .before .before .before .before .before .if2 .left) (y .result) _ (y .ensures) (c .before .if3 .taken) _ (c .no-release63 .ensures) _
+    (c .before .before .before .before .before .before .before .if2 .left) (y .result) _ (y .ensures) (c .before .if3 .taken) _ (c .clipped63 .ensures) _
 
 no-refusal-requires : tie.Need-no-refusal-requires
 no-refusal-requires c κs = omega arith
@@ -120,18 +120,18 @@ fill-parts6-spec =
     tie.close
     (tie.spec
     read-flagged-requires
-    no-release6-requires
+    clipped6-requires
     returns
     slice-write-numbers
     cast-numbers
     slice-write-numbers-2
     slice-write-numbers-3
     list-reduceds-requires
-    no-release6-requires-2
+    clipped6-requires-2
     same-length
     returns-2
     list-randoms-requires
-    no-release6-requires-3
+    clipped6-requires-3
     same-length-2
     returns-3
     no-refusal-requires

@@ -29,8 +29,8 @@ list-marks-requires c κs =
     let l = now (b .args .numbers) in
     (b .pre .0, (omega (arith, length-set l release7At 1, b .pre .1 .0), zeros-led7 l (b .pre .1 .1)))
 
-no-list-requires : tie.Need-no-list-requires
-no-list-requires c κs = omega arith
+clipped7-requires : tie.Need-clipped7-requires
+clipped7-requires c κs = omega arith
 
 same-length : tie.Need-same-length
 same-length c = marks-length (c .before .before)
@@ -41,13 +41,13 @@ returns c =
     let a = b .args in
     let m = c .before .before .before .before .before .list-marks in
     marks-refused (now (a .s)) (a .at) (b .pre .0) (now (a .numbers)) (b .pre .1 .1) (m .result) _ (m .ensures)
-    (c .before .if1 .taken) _ (c .no-list .ensures) _
+    (c .before .if1 .taken) _ (c .clipped7 .ensures) _
 
 read-flagged-requires : tie.Need-read-flagged-requires
 read-flagged-requires c κs = omega arith
 
-no-list-requires-2 : tie.Need-no-list-requires-2
-no-list-requires-2 c κs = omega arith
+clipped7-requires-2 : tie.Need-clipped7-requires-2
+clipped7-requires-2 c κs = omega arith
 
 same-length-2 : tie.Need-same-length-2
 same-length-2 c = marks-length (c .before .before .before .before .before)
@@ -59,7 +59,7 @@ returns-2 c =
     let m = c .before .before .before .before .before .before .before .before .list-marks in
     let u = c .before .before .before .read-flagged in
     uplink-refused (now (a .s)) (a .at) (b .pre .0) (now (a .numbers)) (b .pre .1 .1) (m .result) _ (m .ensures)
-    (c .before .before .before .before .if1 .left) (u .result) (u .ensures) (c .before .if2 .taken) _ (c .no-list2 .ensures) _
+    (c .before .before .before .before .if1 .left) (u .result) (u .ensures) (c .before .if2 .taken) _ (c .clipped72 .ensures) _
 
 cast-numbers : tie.Need-cast-numbers
 cast-numbers c = omega arith
@@ -92,8 +92,8 @@ fill-amr-requires c κs =
       ),
     )
 
-no-list-requires-3 : tie.Need-no-list-requires-3
-no-list-requires-3 c κs = omega arith
+clipped7-requires-3 : tie.Need-clipped7-requires-3
+clipped7-requires-3 c κs = omega arith
 
 same-length-3 : tie.Need-same-length-3
 same-length-3 c = amr-length (c .before .before)
@@ -109,7 +109,7 @@ returns-3 c =
     amr-refused (now (a .s)) (a .at) (b .pre .0) (now (a .numbers)) (b .pre .1 .1) (m .result) _ (m .ensures)
     (c .before .before .before .before .before .before .before .before .before .before .before .if1 .left) (u .result) (u .ensures)
     (c .before .before .before .before .before .before .before .before .if2 .left)
-    (x .result) _ (x .ensures) (c .before .if3 .taken) _ (c .no-list3 .ensures) _
+    (x .result) _ (x .ensures) (c .before .if3 .taken) _ (c .clipped73 .ensures) _
 
 fill-sms-requires : tie.Need-fill-sms-requires
 fill-sms-requires c κs =
@@ -130,8 +130,8 @@ fill-sms-requires c κs =
       ),
     )
 
-no-list-requires-4 : tie.Need-no-list-requires-4
-no-list-requires-4 c κs = omega arith
+clipped7-requires-4 : tie.Need-clipped7-requires-4
+clipped7-requires-4 c κs = omega arith
 
 same-length-4 : tie.Need-same-length-4
 same-length-4 c = c .before .before .before .before .before .fill-sms .kept .1 .1 .0 ∙ amr-length (c .before .before .before .before .before .before .before .before)
@@ -148,7 +148,7 @@ returns-4 c =
     sms-refused (now (a .s)) (a .at) (b .pre .0) (now (a .numbers)) (b .pre .1 .1) (m .result) _ (m .ensures)
     (d .before .before .before .before .before .if1 .left) (u .result) (u .ensures)
     (c .before .before .before .before .before .before .before .before .before .before .before .before .before .before .if2 .left)
-    (x .result) _ (x .ensures) (c .before .before .before .before .before .before .before .if3 .left) (t .result) _ (t .ensures) (c .before .if4 .taken) _ (c .no-list4 .ensures) _
+    (x .result) _ (x .ensures) (c .before .before .before .before .before .before .before .if3 .left) (t .result) _ (t .ensures) (c .before .if4 .taken) _ (c .clipped74 .ensures) _
 
 no-refusal-requires : tie.Need-no-refusal-requires
 no-refusal-requires c κs = omega arith
@@ -176,22 +176,22 @@ fill-parts7-spec =
     (tie.spec
     slice-write-numbers
     list-marks-requires
-    no-list-requires
+    clipped7-requires
     same-length
     returns
     read-flagged-requires
-    no-list-requires-2
+    clipped7-requires-2
     same-length-2
     returns-2
     cast-numbers
     slice-write-numbers-2
     slice-write-numbers-3
     fill-amr-requires
-    no-list-requires-3
+    clipped7-requires-3
     same-length-3
     returns-3
     fill-sms-requires
-    no-list-requires-4
+    clipped7-requires-4
     same-length-4
     returns-4
     no-refusal-requires

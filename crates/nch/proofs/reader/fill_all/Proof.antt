@@ -77,11 +77,12 @@ fill-release6-requires c κs =
     let a = b .args in
     let n = c .before .before .before .before .before .before .before .before .read-flagged in
     let x = c .before .before .before .before .before .list-calls in
+    let twenty = c .before .before .before .before .before .before .before .before .before .if1 .left in
     let m : allLength ≤ length (x .last .1 .1 .0) = omega (arith, calls-length (c .before .before), b .pre .0) in (
-      omega arith,
+      omega (arith, twenty),
       (
         m,
-        zeros-calls (now (a .s)) (c .before .before .before .before .before .before .before .before .before .if1 .left) (now (a .numbers)) (b .pre .1) (n .result) (n .ensures)
+        zeros-calls (now (a .s)) twenty (now (a .numbers)) (b .pre .1) (n .result) (n .ensures)
             (x .result) _ (x .ensures) (c .before .if2 .left),
       ),
     )

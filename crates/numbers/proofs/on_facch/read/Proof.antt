@@ -23,9 +23,9 @@ same-length c = omega arith
 
 returns : tie.Need-returns
 returns c =
-    let r = c .before .before .before .before .before .before .before .read in
-    let a = c .before .before .before .before .before .before .before .before .before .before .args in
-    read-runs (now (a .octets)) (r .result) (length (now (a .numbers))) _ _ (r .ensures) (c .before .before .before .before .before .all-numbers .ensures) (c .before .before .store .ensures)
+    let r = c .before .before .before .before .before .before .before .before .read in
+    let a = c .before .before .before .before .before .before .before .before .before .before .before .args in
+    read-runs (now (a .octets)) (r .result) (length (now (a .numbers))) _ _ (r .ensures) (c .before .before .before .before .before .before .all-numbers .ensures) (c .before .before .before .store .ensures)
 
 pub read-spec : {M : Type 1} → statement M
 read-spec =
