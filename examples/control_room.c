@@ -1,6 +1,6 @@
 /* A small control room: events come as lines on standard input, and the calls they tell of go to standard output.
  *
- *     setup TICK T3206 T3208 T3210 CALL..   the calls to follow; NAME=CALL gives one a name
+ *     setup TICK T3206 T3208 T3210 CALL..   the calls to follow, in any order; NAME=CALL gives one a name
  *     nch TICK HEX                          NT/N Rest Octets came
  *     facch TICK HEX                        NOTIFICATION/FACCH came
  *     pch TICK CALL PART..                  the paging channel told of the call
@@ -15,6 +15,7 @@
 #include <asternhaken.h>
 
 #include <stdio.h>
+#include <stdlib.h>
 #include <string.h>
 
 enum {
@@ -202,10 +203,22 @@ static int hex(const char *word, uint8_t *octets, size_t *n)
 
 /* ---- Lines: each answers what is wrong with it, or nothing ---- */
 
+/* A call of a setup. */
+struct named {
+    uint32_t key;
+    const char *name;
+};
+
+static int by_key(const void *one, const void *other)
+{
+    uint32_t a = ((const struct named *)one)->key, b = ((const struct named *)other)->key;
+    return (a > b) - (a < b);
+}
+
 static const char *set_up(char **words, size_t n)
 {
+    static struct named named[WORDS];
     static uint32_t keys[WORDS];
-    static const char *names[WORDS];
     uint32_t tick, t3206, t3208, t3210;
     if (n < 5) return "a setup is TICK T3206 T3208 T3210 CALL..";
     if (!number(words[1], UINT32_MAX, &tick)) return "TICK is no number of 32 bits";
@@ -216,10 +229,13 @@ static const char *set_up(char **words, size_t n)
         char *is = strchr(words[i], '=');
         if (is) *is = 0;
         if (is && (size_t)(is - words[i]) > NAME) return "a name is too long";
-        names[i - 5] = is ? words[i] : "";
-        if (!call_key(is ? is + 1 : words[i], &keys[i - 5])) return "CALL is no key, REFERENCE/VBS or REFERENCE/VGCS";
+        named[i - 5].name = is ? words[i] : "";
+        if (!call_key(is ? is + 1 : words[i], &named[i - 5].key)) return "CALL is no key, REFERENCE/VBS or REFERENCE/VGCS";
     }
 
+    /* the library takes keys in rising order, and the names go with them */
+    qsort(named, n - 5, sizeof *named, by_key);
+    for (size_t i = 0; i < n - 5; i++) keys[i] = named[i].key;
     uint32_t result = asternhaken_setup(state, sizeof state, keys, n - 5, tick, t3206, t3208, t3210);
     if (ASTERNHAKEN_REFUSAL(result) != ASTERNHAKEN_ACCEPTED) {
         show_event(tick, "setup");
@@ -237,7 +253,7 @@ static const char *set_up(char **words, size_t n)
     printf("T3206 %lu ms, T3208 %lu ms, T3210 %lu ms", (unsigned long)t3206, (unsigned long)t3208, (unsigned long)t3210);
     for (size_t i = 0; i < n_calls; i++) {
         calls[i].key = keys[i];
-        strcpy(calls[i].name, names[i]);
+        strcpy(calls[i].name, named[i].name);
         next_line();
         show_call(keys[i]);
     }

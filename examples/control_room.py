@@ -1,6 +1,6 @@
 """The small control room of control_room.c in Python: events come as lines on standard input, and the calls they tell of go to standard output.
 
-    setup TICK T3206 T3208 T3210 CALL..   the calls to follow; NAME=CALL gives one a name
+    setup TICK T3206 T3208 T3210 CALL..   the calls to follow, in any order; NAME=CALL gives one a name
     nch TICK HEX                          NT/N Rest Octets came
     facch TICK HEX                        NOTIFICATION/FACCH came
     pch TICK CALL PART..                  the paging channel told of the call
@@ -116,19 +116,19 @@ class ControlRoom:
         if len(words) < 5:
             raise Wrong("a setup is TICK T3206 T3208 T3210 CALL..")
         tick, *timers = (number(word, what) for word, what in zip(words[1:], ("TICK", "T3206", "T3208", "T3210")))
-        names, keys = [], []
+        calls = []
         for word in words[5:]:
             name, _, call = word.partition("=") if "=" in word else ("", "", word)
             if len(name) > NAME:
                 raise Wrong("a name is too long")
-            names.append(name)
-            keys.append(call_key(call))
-        receiver = Receiver(keys, tick, *timers)
+            calls.append((call_key(call), name))
+        calls.sort(key=lambda call: call[0])  # shown in the order that the library has them in, each with its name
+        receiver = Receiver([key for key, _ in calls], tick, *timers)
         if self.receiver:
             self.show_list()
             print()
-        self.receiver, self.names, self.complete = receiver, dict(zip(keys, names)), {}
-        self.show(tick, "setup", ["T3206 %d ms, T3208 %d ms, T3210 %d ms" % tuple(timers)] + [self.call(key) for key in keys])
+        self.receiver, self.names, self.complete = receiver, dict(calls), {}
+        self.show(tick, "setup", ["T3206 %d ms, T3208 %d ms, T3210 %d ms" % tuple(timers)] + [self.call(key) for key, _ in calls])
 
     def answer(self, tick, words):
         if words[0] in ("nch", "facch"):

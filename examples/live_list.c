@@ -1,6 +1,6 @@
 /* A live list: NT/N Rest Octets come as lines of 40 hexadecimal digits, and after each, and whenever a half runs out, the halves that are held are shown with the time they have left.
  *
- *     cc live_list.c $(pkg-config --cflags --libs asternhaken) -o live_list && ./live_list 10000 9422 9423      T3206 in ms, then the keys to follow */
+ *     cc live_list.c $(pkg-config --cflags --libs asternhaken) -o live_list && ./live_list 10000 9422 9423      T3206 in ms, then the keys to follow, in any order */
 #define _POSIX_C_SOURCE 200809L
 #include <asternhaken.h>
 #include <poll.h>
@@ -31,10 +31,17 @@ static void show(uint32_t result)
     fflush(stdout);
 }
 
+static int rising(const void *one, const void *other)
+{
+    uint32_t a = *(const uint32_t *)one, b = *(const uint32_t *)other;
+    return (a > b) - (a < b);
+}
+
 int main(int argc, char **argv)
 {
     uint32_t keys[ASTERNHAKEN_KEYS], n_keys = 0, t3206 = argc > 1 ? (uint32_t)strtoul(argv[1], NULL, 10) : 0;
     for (int i = 2; i < argc && n_keys < ASTERNHAKEN_KEYS; i++) keys[n_keys++] = (uint32_t)strtoul(argv[i], NULL, 10);
+    qsort(keys, n_keys, sizeof *keys, rising); /* the library takes them in rising order */
     uint32_t result = asternhaken_setup(state, sizeof state, keys, n_keys, now(), t3206, ASTERNHAKEN_T3208, ASTERNHAKEN_T3210);
     setvbuf(stdin, NULL, _IONBF, 0); /* or poll would not see what is read ahead */
     for (show(result); asternhaken_is_set_up(state, sizeof state); show(result)) {

@@ -3,7 +3,7 @@
  * One lent state of ASTERNHAKEN_STATE_LENGTH octets is a receiver. Fill it with asternhaken_setup, then hand it each event as it comes:
  *
  *     uint8_t state[ASTERNHAKEN_STATE_LENGTH];
- *     uint32_t keys[2] = { ASTERNHAKEN_KEY(1234, 1), ASTERNHAKEN_KEY(1234, 0) };
+ *     uint32_t keys[2] = { ASTERNHAKEN_KEY(1234, 0), ASTERNHAKEN_KEY(1234, 1) }; // in rising order
  *     uint32_t result = asternhaken_setup(state, sizeof state, keys, 2, tick, ASTERNHAKEN_T3206, ASTERNHAKEN_T3208, ASTERNHAKEN_T3210);
  *     ...
  *     result = asternhaken_nch(state, sizeof state, tick, octets, 20);
@@ -75,6 +75,7 @@ uint32_t asternhaken_version(void);
 /* Sizes and limits. */
 #define ASTERNHAKEN_STATE_LENGTH 10040 /* octets of the lent state */
 #define ASTERNHAKEN_KEYS 50            /* subscriptions at most */
+#define ASTERNHAKEN_LOOKS 6            /* keys that a key is compared with at most, where there are so many */
 #define ASTERNHAKEN_ENTRIES 9          /* entries of one message at most */
 #define ASTERNHAKEN_PARTS 35           /* parts for asternhaken_read, from 0 */
 #define ASTERNHAKEN_LONGEST 60000      /* ms: the longest timer; the shortest is 1 */
@@ -109,7 +110,7 @@ enum asternhaken_refusal {
     ASTERNHAKEN_REFUSED_EMERGENCY_MARKS = 7,   /* NCH: more emergency marks than described calls */
     ASTERNHAKEN_REFUSED_PAGING = 8,            /* FACCH: the paging branch */
     ASTERNHAKEN_REFUSED_CLOCK = 9,             /* a clock step of 2^31 ms or more: after such a pause, set up anew */
-    ASTERNHAKEN_REFUSED_SETUP = 10,            /* over 50 keys, a key above 199,999,999, a repeat, a timer outside 1 to 60,000 */
+    ASTERNHAKEN_REFUSED_SETUP = 10,            /* over 50 keys, a key above 199,999,999, keys that do not strictly rise, a timer outside 1 to 60,000 */
     ASTERNHAKEN_REFUSED_FORM_SIZE = 11,        /* a written form over 160 bits, or a write buffer not of the form's exact size */
     ASTERNHAKEN_REFUSED_RANGE = 12,            /* a field out of its range; to write, anything but zero in an absent part or an unused place; PCH: parts that do not fit each other */
     ASTERNHAKEN_REFUSED_LENGTH = 13,           /* an element, an array to write, a PCH entry or the lent state of a wrong length; a cause that never ends */
@@ -239,7 +240,8 @@ ASTERNHAKEN_SIZE_(asternhaken_held, ASTERNHAKEN_HELD_NUMBERS);
 
 /* ---- The receiver ---- */
 
-/* Makes the lent octets a receiver that holds nothing, whatever they held. The place of a subscription is its place among the keys. */
+/* Makes the lent octets a receiver that holds nothing, whatever they held. The keys are lent in strictly rising order, so none twice. The place of a
+ * subscription is its place among the keys. */
 ASTERNHAKEN_MUST_USE uint32_t asternhaken_setup(uint8_t *state, size_t state_length, const uint32_t *keys, size_t n_keys, uint32_t tick, uint32_t t3206, uint32_t t3208, uint32_t t3210);
 
 /* 1 where the lent octets have the mark of an accepted setup of this layout, which events leave; else 0, as for another length. It is no ground of refusal: events answer octets
@@ -304,6 +306,11 @@ static inline uint32_t asternhaken_held_get(const uint8_t *state, size_t state_l
 {
     return asternhaken_held_numbers(state, state_length, i, ASTERNHAKEN_AS_(uint64_t, into), ASTERNHAKEN_HELD_NUMBERS);
 }
+
+/* Looks a key up among lent keys by halving, as an event looks up the key of a call: place is where it stands, from 0, and ASTERNHAKEN_KEYS where it is not there; looks is how
+ * many keys it was compared with, ASTERNHAKEN_LOOKS at most and 0 for no keys. The keys are lent in rising order, as for a setup; in another order, it may pass a key by.
+ * More than 50 keys are ASTERNHAKEN_REFUSED_SETUP, and both numbers are then 0; nothing else is refused. */
+ASTERNHAKEN_MUST_USE uint32_t asternhaken_find(const uint32_t *keys, size_t n_keys, uint32_t key, uint64_t *place, uint64_t *looks);
 
 /* ---- The codecs, for test rigs ----
  *

@@ -13,8 +13,9 @@ One file over the shared library of the C interface, with nothing to install bes
         for entry in answer.entries:
             print(entry.reference, entry.vgcs, entry.told_word, entry.record and entry.record.channel)
 
-Setup. Receiver(keys, tick, t3206, t3208, t3210) sets a receiver up, and receiver.setup(..) does so anew; its state is a bytearray of its own, and receivers are
-independent of each other. Calls on one receiver must not run at the same time.
+Setup. Receiver(keys, tick, t3206, t3208, t3210) sets a receiver up, and receiver.setup(..) does so anew. The keys may come in any order: the library takes them in
+rising order only, and this module sorts them; a key twice is refused (10). The state is a bytearray of the receiver's own, and receivers are independent of each
+other. Calls on one receiver must not run at the same time.
 
 Events. nch, facch, pch, joined, reselected, handed_over, reconfigured, left_idle and tick each take the tick (a millisecond counter of 32 bits that wraps) and what
 belongs to the event, and answer with an Answer: how many halves ran out, how many the event dropped, and its entries. receiver.answer is the answer to the last
@@ -240,8 +241,8 @@ class Receiver:
         return _library.asternhaken_is_set_up(self._lent, STATE_LENGTH) == 1
 
     def setup(self, keys, tick, t3206=T3206, t3208=T3208, t3210=T3210):
-        """Makes this a receiver that holds nothing, with these subscriptions; refused (10), it stays as it was."""
-        keys = [_u32(k, "a key") for k in keys]
+        """Makes this a receiver that holds nothing, with these subscriptions, in any order; refused (10), it stays as it was."""
+        keys = sorted(_u32(k, "a key") for k in keys)
         lent = (_U32 * max(1, len(keys)))(*keys)  # no pointer may be null
         self._call(_library.asternhaken_setup, lent, len(keys), _u32(tick, "the tick"), _u32(t3206, "T3206"), _u32(t3208, "T3208"), _u32(t3210, "T3210"))
 
@@ -319,7 +320,7 @@ class Receiver:
 
     @property
     def held(self):
-        """The halves that are held, by the subscriptions' places, and for each on the NCH, the FACCH, the PCH."""
+        """The halves that are held, by their keys in rising order, and for each on the NCH, the FACCH, the PCH."""
         return tuple(self._held(i) for i in range(self._number(_library.asternhaken_held_count)))
 
     @property

@@ -18,7 +18,7 @@ enum {
     SETUP, NCH, FACCH, PCH, JOINED, RESELECTED, HANDED_OVER, RECONFIGURED, LEFT_IDLE, TICK, READ, ENTRY_NUMBERS, HELD_NUMBERS, HELD_COUNT, NEXT_EXPIRY, IS_SET_UP,
     NCH_READ, NCH_WRITE, FACCH_READ, MESSAGE_TYPE_READ, MESSAGE_TYPE_WRITE, CALL_REFERENCE_READ, CALL_REFERENCE_WRITE, CALL_STATE_READ, CALL_STATE_WRITE,
     CAUSE_READ, CAUSE_WRITE, ORIGINATOR_READ, ORIGINATOR_WRITE, STATE_ATTRIBUTES_READ, STATE_ATTRIBUTES_WRITE, SMS_READ, SMS_WRITE, TALKER_READ, TALKER_WRITE,
-    DIGITS_READ, DIGITS_WRITE, FUNCTIONS
+    DIGITS_READ, DIGITS_WRITE, FIND, FUNCTIONS
 };
 
 static const char *const names[FUNCTIONS] = {
@@ -26,7 +26,7 @@ static const char *const names[FUNCTIONS] = {
     "next_expiry", "is_set_up", "nch_read", "nch_write", "facch_read",
     "message_type_read", "message_type_write", "call_reference_read", "call_reference_write", "call_state_read", "call_state_write",
     "cause_read", "cause_write", "originator_read", "originator_write", "state_attributes_read", "state_attributes_write", "sms_read",
-    "sms_write", "talker_read", "talker_write", "digits_read", "digits_write"
+    "sms_write", "talker_read", "talker_write", "digits_read", "digits_write", "find"
 };
 
 static unsigned long calls[FUNCTIONS], passed, failed;
@@ -204,6 +204,15 @@ static void octet_writer(unsigned function, uint32_t (*writer)(const uint64_t *,
     give_back(&numbers), give_back(&octet);
 }
 
+/* Where a key stands, then how many it was compared with. */
+static void find_call(unsigned function)
+{
+    struct lent keys = lend_record(small()), found = lend(2 * sizeof(uint64_t));
+    uint32_t key = small(), refusal = asternhaken_find((const uint32_t *)(const void *)keys.at, keys.size / 4, key, numbers_of(&found), numbers_of(&found) + 1);
+    compare(function, refusal, &found, untouched(&keys));
+    give_back(&keys), give_back(&found);
+}
+
 static void codec_call(unsigned f)
 {
     switch (f) {
@@ -228,6 +237,7 @@ static void codec_call(unsigned f)
     case TALKER_WRITE: octet_writer(f, asternhaken_talker_write); break;
     case DIGITS_READ: octets_reader(f, asternhaken_digits_read); break;
     case DIGITS_WRITE: octets_writer(f, asternhaken_digits_write); break;
+    case FIND: find_call(f); break;
     default: printf("there is no function %u\n0 passed, 1 failed\n", f); exit(1);
     }
 }

@@ -47,6 +47,17 @@ uint32_t __wrap_asternhaken_left_idle(uint8_t *state, size_t state_length, uint3
     return __real_asternhaken_left_idle(state, state_length, tick);
 }
 
+uint32_t __real_asternhaken_find(const uint32_t *keys, size_t n_keys, uint32_t key, uint64_t *place, uint64_t *looks);
+uint32_t __wrap_asternhaken_find(const uint32_t *keys, size_t n_keys, uint32_t key, uint64_t *place, uint64_t *looks)
+{
+    uint32_t result = __real_asternhaken_find(keys, n_keys, key, place, looks);
+    if (seeded("a place is another")) ++*place;
+    if (n_keys == ASTERNHAKEN_KEYS && seeded("a seventh look")) *looks = 7;
+    if (n_keys == 1 && seeded("a second look at one key")) *looks = 2;
+    if (!n_keys && seeded("a look at no keys")) *looks = 1;
+    return result;
+}
+
 uint32_t __real_asternhaken_read(const uint8_t *state, size_t state_length, uint32_t entry, uint32_t part, uint64_t *value);
 uint32_t __wrap_asternhaken_read(const uint8_t *state, size_t state_length, uint32_t entry, uint32_t part, uint64_t *value)
 {

@@ -553,6 +553,22 @@ static void setup(void)
     say_number(WATCHED(asternhaken_setup(state, LENGTH, keys, n, tick, t3206, t3208, t3210), state, LEAVES));
 }
 
+/* Where a key stands. How many keys it was compared with is not in the line, but is at most 1 + log2 of their number, and 0 for none. */
+static void find(void)
+{
+    size_t n, most = 0;
+    uint32_t key = take_u32();
+    uint64_t *found = lend_numbers(2);
+    take_slash();
+    uint32_t *keys = take_keys(&n);
+    if (!understood()) return;
+    while (most < ASTERNHAKEN_LOOKS && n >> most) most++;
+    if (WATCHED(asternhaken_find(keys, n, key, found, found + 1), found, CLEARS) != ASTERNHAKEN_ACCEPTED) fault("asternhaken_find refuses", "keys", 0);
+    count_of(found[1], most, "looks");
+    if (found[0] == ASTERNHAKEN_KEYS) say("-");
+    else say_number(found[0]);
+}
+
 /* A part that the library does not have by itself. */
 enum { CIPHERED = ASTERNHAKEN_PARTS };
 
@@ -680,6 +696,7 @@ static const struct command commands[] = {
     { "wnch", wnch },
     { "setup", setup },
     { "ev", ev },
+    { "find", find },
     { "message_type", message_type },
     { "call_reference", call_reference },
     { "call_state", call_state },

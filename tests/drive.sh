@@ -108,6 +108,10 @@ a reading is another:must answer: 0 0 4
 a bit number is another:must answer: 2 [1-9]
 Release 6 is not told apart:must answer: 14 [1-9]
 a part is another:must answer: 0 0 
+a place is another:must answer: [0-9-]*$
+a seventh look:^FAULT .*there are more than places for them: looks
+a second look at one key:^FAULT .*there are more than places for them: looks
+a look at no keys:^FAULT .*there are more than places for them: looks
 END
 
 # ---- Faults of the driver, and of the file ----

@@ -62,7 +62,7 @@ static int all_zero(const uint64_t *numbers, size_t n)
 /* ---- One receiver, in octets that held anything before ---- */
 
 /* docs/STATE.md: where the blocks begin; places of a subscription, three for each. */
-enum { NLN = 16, MARK = 20, KEYS = 24, KINDS = 224, TICKS = 376, RECORDS = 976, EXPIRED = 9376, COUNT = 9384, ENTRIES = 9392, RECORD = 56, ENTRY = 72 };
+enum { NLN = 16, N_KEYS = 19, MARK = 20, KEYS = 24, KINDS = 224, TICKS = 376, RECORDS = 976, EXPIRED = 9376, COUNT = 9384, ENTRIES = 9392, RECORD = 56, ENTRY = 72 };
 enum { ON_NCH, ON_FACCH, ON_PCH, CHANNELS };
 #define PLACE(subscription, channel) (CHANNELS * (subscription) + (channel))
 #define KIND(subscription, channel) state[KINDS + PLACE(subscription, channel)]
@@ -201,7 +201,7 @@ static const uint64_t pch_parts[35] = {
 static void setups(void)
 {
     uint32_t keys[ASTERNHAKEN_KEYS + 1];
-    for (uint32_t i = 0; i <= ASTERNHAKEN_KEYS; i++) keys[i] = ASTERNHAKEN_LAST_KEY - i;
+    for (uint32_t i = 0; i <= ASTERNHAKEN_KEYS; i++) keys[i] = ASTERNHAKEN_LAST_KEY - ASTERNHAKEN_KEYS + i;
     CHECK(ASTERNHAKEN_KEY(99999999, 1) == ASTERNHAKEN_LAST_KEY);
     CHECK(ASTERNHAKEN_KEY(4711, 0) == YARD && ASTERNHAKEN_KEY(4711, 1) == DISPATCHER);
     CHECK(ASTERNHAKEN_T3206 == 10000 && ASTERNHAKEN_T3208 == 5000 && ASTERNHAKEN_T3210 == 5000);
@@ -214,15 +214,55 @@ static void setups(void)
     REFUSED(set_up(two_keys, 2, 5, 5000, ASTERNHAKEN_LONGEST + 1, 5000), ASTERNHAKEN_REFUSED_SETUP);
     REFUSED(set_up(two_keys, 2, 5, 5000, 5000, 0), ASTERNHAKEN_REFUSED_SETUP);
     REFUSED(set_up(two_keys, 2, 5, 5000, 5000, ASTERNHAKEN_LONGEST + 1), ASTERNHAKEN_REFUSED_SETUP);
-    keys[49] = keys[0];
+    keys[49] = keys[48];
+    REFUSED(set_up(keys, 50, 5, 5000, 5000, 5000), ASTERNHAKEN_REFUSED_SETUP);
+    keys[49] = 0; /* not in rising order */
     REFUSED(set_up(keys, 50, 5, 5000, 5000, 5000), ASTERNHAKEN_REFUSED_SETUP);
     keys[49] = ASTERNHAKEN_LAST_KEY + 1;
     REFUSED(set_up(keys, 50, 5, 5000, 5000, 5000), ASTERNHAKEN_REFUSED_SETUP);
-    keys[49] = 0;
+    keys[49] = ASTERNHAKEN_LAST_KEY;
     ACCEPTED(set_up(keys, ASTERNHAKEN_KEYS, 5, 1, ASTERNHAKEN_LONGEST, 1));
     ACCEPTED(set_up(keys, ASTERNHAKEN_KEYS, 5, ASTERNHAKEN_LONGEST, 1, ASTERNHAKEN_LONGEST));
     ACCEPTED(set_up(keys, 0, 5, 5000, 5000, 5000));
     CHECK(ASTERNHAKEN_KEYS == 50 && ASTERNHAKEN_LONGEST == 60000);
+}
+
+/* ---- Looking a key up: the key in the middle of what may hold it, of two the later, until it is found or nothing is left ---- */
+
+static void found(const uint32_t *keys, size_t n, uint32_t key, uint32_t result, uint64_t place, uint64_t looks)
+{
+    uint32_t *copy = (uint32_t *)lent(n * sizeof *keys);
+    uint64_t *at = (uint64_t *)lent(sizeof *at), *took = (uint64_t *)lent(sizeof *took);
+    memcpy(copy, keys, n * sizeof *keys);
+    *at = *took = UINT64_MAX;
+    CHECK(asternhaken_find(copy, n, key, at, took) == result && *at == place && *took == looks);
+    CHECK(!memcmp(copy, keys, n * sizeof *keys));
+    free(copy), free(at), free(took);
+}
+
+static void lookups(void)
+{
+    uint32_t keys[ASTERNHAKEN_KEYS + 1];
+    for (uint32_t i = 0; i <= ASTERNHAKEN_KEYS; i++) keys[i] = 10 * i + 10;
+    found(keys, 0, 10, ASTERNHAKEN_ACCEPTED, ASTERNHAKEN_KEYS, 0);
+    found(keys, 1, 10, ASTERNHAKEN_ACCEPTED, 0, 1);
+    found(keys, 1, 11, ASTERNHAKEN_ACCEPTED, ASTERNHAKEN_KEYS, 1);
+    found(keys, 2, 20, ASTERNHAKEN_ACCEPTED, 1, 1);
+    found(keys, 2, 10, ASTERNHAKEN_ACCEPTED, 0, 2);
+    found(keys, 2, 21, ASTERNHAKEN_ACCEPTED, ASTERNHAKEN_KEYS, 1);
+    /* of 50: 25, 12, 6, 3, 1, 0; 25, 38, 44, 47, 49, 48 */
+    found(keys, 50, 260, ASTERNHAKEN_ACCEPTED, 25, 1);
+    found(keys, 50, 10, ASTERNHAKEN_ACCEPTED, 0, ASTERNHAKEN_LOOKS);
+    found(keys, 50, 490, ASTERNHAKEN_ACCEPTED, 48, ASTERNHAKEN_LOOKS);
+    found(keys, 50, 500, ASTERNHAKEN_ACCEPTED, 49, 5);
+    found(keys, 50, 0, ASTERNHAKEN_ACCEPTED, ASTERNHAKEN_KEYS, ASTERNHAKEN_LOOKS);
+    found(keys, 50, UINT32_MAX, ASTERNHAKEN_ACCEPTED, ASTERNHAKEN_KEYS, 5);
+    found(keys, 51, 10, ASTERNHAKEN_REFUSED_SETUP, 0, 0);
+    /* keys that fall: the one in the middle alone is found */
+    const uint32_t falling[3] = { 30, 20, 10 };
+    found(falling, 3, 20, ASTERNHAKEN_ACCEPTED, 1, 1);
+    found(falling, 3, 30, ASTERNHAKEN_ACCEPTED, ASTERNHAKEN_KEYS, 2);
+    CHECK(ASTERNHAKEN_LOOKS == 6);
 }
 
 /* A state of a wrong length is refused before anything else is looked at, and not touched. */
@@ -624,12 +664,14 @@ static void octets(void)
     put(8, 4, 4000);
     put(12, 4, 3000);
     layout[NLN] = 4;
+    layout[N_KEYS] = 3;
     for (size_t i = 0; i < 50; i++) put(KEYS + 4 * i, 4, i < 3 ? keys[i] : UINT32_MAX);
     memcpy(layout + MARK, state + MARK, KEYS - MARK); /* tests/views.c has the mark */
     LAID_OUT();
 
     /* what no event looks at stays as it is: the unused octets, the mark, the answer's entries from the second on */
-    leave(NLN + 1, KEYS - NLN - 1, 0xa1);
+    leave(NLN + 1, N_KEYS - NLN - 1, 0xa1);
+    leave(MARK, KEYS - MARK, 0xa1);
     leave(KINDS + 150, TICKS - KINDS - 150, 0xa2);
     leave(COUNT + 4, ENTRIES - COUNT - 4, 0xa3);
     leave(ENTRIES + 9, 7, 0xa4);
@@ -740,15 +782,29 @@ static void made_by_hand(void)
     CHECK(part(0, ASTERNHAKEN_PART_ENTRY_COUNT) == 200);
     CHECK(tells(ASTERNHAKEN_ENTRIES - 1, 0xeeeeeeeeeeeeeeee, 0xee) && no_parts(ASTERNHAKEN_ENTRIES, 3));
 
-    /* the key stands at the places 0 and 1, of which the first counts; a kind of 9 is a second half, which 0a4123's first half joins */
+    /* the key stands at the places 0 and 1, of which the halving finds the second; a kind of 9 is a second half, which 0a4123's first half joins */
     memset(state, 0, LENGTH);
     state[4] = state[8] = state[12] = 100;
     state[NLN] = 4;
+    state[N_KEYS] = 2;
     for (size_t i = 0; i < 2; i++) state[KEYS + 4 * i] = YARD % 256, state[KEYS + 1 + 4 * i] = YARD / 256;
     KIND(0, ON_NCH) = KIND(1, ON_NCH) = 9;
-    state[RECORDS + 16] = 0x55;
+    state[RECORDS + RECORD * PLACE(1, ON_NCH) + 16] = 0x55;
     ACCEPTED(nch(99, YARD_FIRST));
-    CHECK(answers(0, 0, 1) && tells(0, YARD, ASTERNHAKEN_TOLD_JOINED) && part(0, ASTERNHAKEN_PART_VSTK_RAND) == 0x55 && KIND(0, ON_NCH) == 0 && KIND(1, ON_NCH) == 9);
+    CHECK(answers(0, 0, 1) && tells(0, YARD, ASTERNHAKEN_TOLD_JOINED) && part(0, ASTERNHAKEN_PART_VSTK_RAND) == 0x55 && KIND(0, ON_NCH) == 9 && KIND(1, ON_NCH) == 0);
+
+    /* what stands behind so many keys is none; a number above 50 is 50 */
+    state[N_KEYS] = 0;
+    ACCEPTED(nch(99, YARD_FIRST));
+    CHECK(answers(0, 0, 1) && tells(0, YARD, ASTERNHAKEN_TOLD_NOT_OURS));
+    memset(state + KEYS, 0, 4 * ASTERNHAKEN_KEYS);
+    state[KEYS + 4 * 49] = YARD % 256, state[KEYS + 1 + 4 * 49] = YARD / 256;
+    state[N_KEYS] = 49;
+    ACCEPTED(nch(99, YARD_FIRST));
+    CHECK(tells(0, YARD, ASTERNHAKEN_TOLD_NOT_OURS));
+    state[N_KEYS] = 255;
+    ACCEPTED(nch(99, YARD_FIRST));
+    CHECK(tells(0, YARD, ASTERNHAKEN_TOLD_HALF_STORED) && KIND(49, ON_NCH) == 1);
 }
 
 /* ---- The codecs ---- */
@@ -1229,6 +1285,7 @@ int main(void)
 {
     state = (uint8_t *)lent(LENGTH), before = (uint8_t *)lent(LENGTH), layout = (uint8_t *)lent(LENGTH);
     setups();
+    lookups();
     lengths();
     told();
     drops();

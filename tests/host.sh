@@ -86,7 +86,7 @@ ignored() {
 must_use() {
     set -- "$1" "$tmp/ignored.$2" 'asternhaken_setup(s, 1, k, 1, 0, 1, 1, 1)' 'asternhaken_nch(s, 1, 0, s, 1)' 'asternhaken_facch(s, 1, 0, s, 1)' 'asternhaken_pch(s, 1, 0, v, 1)' \
         'asternhaken_joined(s, 1, 0, 1)' 'asternhaken_reselected(s, 1, 0)' 'asternhaken_handed_over(s, 1, 0)' 'asternhaken_reconfigured(s, 1, 0)' 'asternhaken_left_idle(s, 1, 0)' \
-        'asternhaken_tick(s, 1, 0)' 'asternhaken_nch_read(s, 1, v, 1)' 'asternhaken_nch_write(v, 1, s, 1)' 'asternhaken_facch_read(s, 1, v, 1)' 'asternhaken_cause_decode(s, 1, c)' \
+        'asternhaken_tick(s, 1, 0)' 'asternhaken_find(k, 1, 1, v, v + 1)' 'asternhaken_nch_read(s, 1, v, 1)' 'asternhaken_nch_write(v, 1, s, 1)' 'asternhaken_facch_read(s, 1, v, 1)' 'asternhaken_cause_decode(s, 1, c)' \
         'asternhaken_cause_encode(c, s, 1)'
     by=$1 file=$2
     shift 2

@@ -159,10 +159,10 @@ class TheReceiver(unittest.TestCase):
         self.assertTrue(self.receiver.is_set_up)
         self.assertFalse(Receiver.from_state(bytes(asternhaken.STATE_LENGTH)).is_set_up)
         state = bytearray(self.receiver.state)
-        self.assertEqual(state[20:24], b"AHK\1")
+        self.assertEqual(state[20:24], b"AHK\2")
         self.receiver.nch(2000, FIRST)
         self.assertTrue(Receiver.from_state(self.receiver.state).is_set_up)
-        state[23] = 2  # another layout
+        state[23] = 1  # another layout
         self.assertFalse(Receiver.from_state(state).is_set_up)
 
     def test_refusals(self):
@@ -174,6 +174,7 @@ class TheReceiver(unittest.TestCase):
         self.refused(9, self.receiver.tick, 999)
         self.refused(9, self.receiver.nch, 999, b"")
         self.refused(10, self.receiver.setup, [YARD, YARD], 0)
+        self.refused(10, self.receiver.setup, [YARD, DISPATCHER, YARD], 0)
         self.refused(10, self.receiver.setup, range(51), 0)
         self.refused(10, self.receiver.setup, [], 0, 0, 1, 1)
         self.refused(10, self.receiver.setup, [], 0, 1, 0, 1)
@@ -185,6 +186,12 @@ class TheReceiver(unittest.TestCase):
     def test_setups(self):
         self.receiver.setup([], 5)
         self.receiver.setup(range(50), 5, 1, 60000, 60000)
+        in_order = self.receiver.state
+        self.receiver.setup(reversed(range(50)), 5, 1, 60000, 60000)  # the module sorts
+        self.assertEqual(self.receiver.state, in_order)
+        self.receiver.setup({YARD: "yard", 7: "seven"}, 5)
+        self.assertEqual(self.receiver.nch(5, FIRST).entries, ((YARD, asternhaken.TOLD_HALF_STORED, None),))
+        self.receiver.setup(range(50), 5)
         self.assertEqual(self.receiver.nch(5, bearer(FIRST)).entries, ((YARD, asternhaken.TOLD_NOT_OURS, None),))
 
     def test_numbers_that_c_would_cut(self):

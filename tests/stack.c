@@ -32,6 +32,7 @@ static uint32_t handed_over(void) { return asternhaken_handed_over(state, sizeof
 static uint32_t reconfigured(void) { return asternhaken_reconfigured(state, sizeof state, tick); }
 static uint32_t left_idle(void) { return asternhaken_left_idle(state, sizeof state, tick); }
 static uint32_t ticked(void) { return asternhaken_tick(state, sizeof state, tick); }
+static uint32_t find(void) { return asternhaken_find(keys, ASTERNHAKEN_KEYS, keys[0], &value, numbers); }
 static uint32_t read_part(void) { return asternhaken_read(state, sizeof state, 0, ASTERNHAKEN_PART_CHANNEL, &value); }
 static uint32_t is_set_up(void) { return asternhaken_is_set_up(state, sizeof state); }
 static uint32_t entry_numbers(void) { return asternhaken_entry_numbers(state, sizeof state, 0, numbers, ASTERNHAKEN_ENTRY_NUMBERS); }
@@ -151,10 +152,11 @@ static void page(const char *name, uint64_t key, uint64_t described, uint64_t fu
 
 static void receiver(void)
 {
-    for (uint32_t i = 0; i < ASTERNHAKEN_KEYS; i++) keys[i] = i < 2 ? 9422 + i : i;
+    for (uint32_t i = 0; i < ASTERNHAKEN_KEYS; i++) keys[i] = i < 47 ? i : 9422 + i - 47;
     keys[49] = ASTERNHAKEN_LAST_KEY;
     measure(setup, 0, "setup, 50 keys");
     measure(is_set_up, 1, "is_set_up");
+    measure(find, 0, "find, six looks");
     message(nch, "nch, two first halves stored", "4000933a8e1482468001267aa56e1158922b2b2b", 0);
     measure(held_count, 0, "held_count");
     measure(held_numbers, 0, "held_numbers");

@@ -181,7 +181,7 @@ static void whole_entries(void)
 
 static void mark(void)
 {
-    static const uint8_t mark_of_1[4] = { 'A', 'H', 'K', 1 };
+    static const uint8_t mark_of_2[4] = { 'A', 'H', 'K', 2 };
     const uint32_t none = UINT32_MAX;
     memset(state, 0, LENGTH);
     CHECK(!is_set_up());
@@ -189,13 +189,16 @@ static void mark(void)
     ACCEPTED(asternhaken_tick(state, LENGTH, 5)); /* events answer all the same, and set nothing up */
     CHECK(!is_set_up());
     set_up(1000);
-    CHECK(is_set_up() && !memcmp(state + MARK, mark_of_1, 4) && !state[MARK - 1] && !state[MARK - 2] && !state[MARK - 3]);
+    CHECK(is_set_up() && !memcmp(state + MARK, mark_of_2, 4) && state[MARK - 1] == 3 && !state[MARK - 2] && !state[MARK - 3]); /* before it the number of keys */
     for (size_t i = 0; i < 4; i++)
         for (unsigned bit = 0; bit < 8; bit++) {
             state[MARK + i] ^= (uint8_t)(1u << bit);
             CHECK(!is_set_up());
             state[MARK + i] ^= (uint8_t)(1u << bit);
         }
+    state[MARK + 3] = 1; /* the layout before this one */
+    CHECK(!is_set_up());
+    state[MARK + 3] = 2;
     for (size_t i = 0; i < LENGTH; i++) /* nothing else counts */
         if (i < MARK || i >= KEYS) state[i] ^= 0xff;
     CHECK(is_set_up());
@@ -212,7 +215,7 @@ static void mark(void)
     ACCEPTED(asternhaken_left_idle(state, LENGTH, 1000));
     ACCEPTED(asternhaken_tick(state, LENGTH, 99000));
     CHECK(asternhaken_tick(state, LENGTH, 0) == ASTERNHAKEN_REFUSED_CLOCK);
-    CHECK(!memcmp(state + MARK, mark_of_1, 4) && is_set_up());
+    CHECK(!memcmp(state + MARK, mark_of_2, 4) && is_set_up());
 }
 
 /* ---- Another length, fewer places, more places ---- */

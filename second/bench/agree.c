@@ -128,13 +128,20 @@ static struct event random_event(struct dice *d, uint32_t tick, const uint32_t *
     return e;
 }
 
+static int rising(const void *one, const void *other)
+{
+    uint32_t a = *(const uint32_t *)one, b = *(const uint32_t *)other;
+    return (a > b) - (a < b);
+}
+
 static int sequence_alike(const struct side *const *sides, uint8_t *const *states, uint8_t *before, unsigned n_sides, struct dice *d, unsigned events)
 {
     static const uint32_t all[6] = { 2468, 2469, 199999998, 0, 77777777, 1 };
     uint32_t n_keys = 1 + below(d, 5), mine[50], tick = one_in(d, 3) ? (uint32_t)-below(d, 500) : (uint32_t)roll(d);
     uint32_t n_mine = one_in(d, 8) ? 50 : n_keys, t3206 = 1 + below(d, 1000), t3208 = 1 + below(d, 1000), t3210 = 1 + below(d, 1000);
-    for (uint32_t i = 0; i < n_mine; i++) /* with 50 keys, those in use stand last */
+    for (uint32_t i = 0; i < n_mine; i++) /* with 50 keys, most are not in use */
         mine[i] = i < n_mine - n_keys ? 5000 + i : all[i - (n_mine - n_keys)];
+    qsort(mine, n_mine, sizeof *mine, rising);
     char where[80] = "setup";
     for (unsigned k = 0; k < n_sides; k++) {
         memset(states[k], 0xA5, sides[k]->state_length);

@@ -487,10 +487,15 @@ struct receiver {
 /* The place of a key, or KEYS where it is not subscribed. */
 static unsigned find(const struct receiver *r, uint32_t key)
 {
-    for (unsigned i = 0; i < r->n_keys; i++)
-        if (r->keys[i] == key)
-            return i;
-    return KEYS;
+    unsigned start = 0, n = r->n_keys;
+    while (n) { /* by halving */
+        unsigned half = n / 2;
+        if (r->keys[start + half] < key)
+            start += half + 1, n -= half + 1;
+        else
+            n = half;
+    }
+    return start < r->n_keys && r->keys[start] == key ? start : KEYS;
 }
 
 static uint32_t clock_refusal(const struct receiver *r, size_t state_length, uint32_t tick)
@@ -858,11 +863,8 @@ static uint32_t setup(uint8_t *state, size_t state_length, const uint32_t *keys,
     if (n_keys > KEYS || t3206 < 1 || t3206 > LONGEST || t3208 < 1 || t3208 > LONGEST || t3210 < 1 || t3210 > LONGEST)
         return SETUP;
     for (size_t i = 0; i < n_keys; i++) {
-        if (keys[i] > LAST_KEY)
+        if (keys[i] > LAST_KEY || (i && keys[i] <= keys[i - 1]))
             return SETUP;
-        for (size_t j = 0; j < i; j++)
-            if (keys[j] == keys[i])
-                return SETUP;
     }
     memset(r, 0, sizeof *r);
     r->tick = tick;

@@ -31,6 +31,8 @@ pub enum Met {
     Disagreed(Channel),
     /// An NCH half outlived the first NLN of a new cell, which is unlike the last of the cell before.
     Spared,
+    /// A lookup among rising keys found the key, or did not, after so many looks.
+    Found(bool, u64),
     /// An event of this channel was refused with this number, from a setup on or not.
     Refused(Channel, Refusal),
 }
@@ -40,7 +42,7 @@ use Met::*;
 
 /// How often each is met at least in 10,000 event steps: about a third to a half of what the usual seed gives. 7 on the FACCH is
 /// always a disagreement; 8 is told there alone.
-const LEAST: [(Met, u64); 57] = [
+const LEAST: [(Met, u64); 70] = [
     (Told(Nch, 0), 270),
     (Told(Nch, 1), 80),
     (Told(Nch, 2), 25),
@@ -86,6 +88,19 @@ const LEAST: [(Met, u64); 57] = [
     (Disagreed(Facch), 12),
     (Disagreed(Pch), 7),
     (Spared, 15),
+    (Found(true, 1), 20),
+    (Found(true, 2), 20),
+    (Found(true, 3), 20),
+    (Found(true, 4), 20),
+    (Found(true, 5), 20),
+    (Found(true, 6), 10),
+    (Found(false, 0), 10),
+    (Found(false, 1), 10),
+    (Found(false, 2), 10),
+    (Found(false, 3), 10),
+    (Found(false, 4), 10),
+    (Found(false, 5), 10),
+    (Found(false, 6), 10),
     (Refused(Nch, 2), 100),
     (Refused(Nch, 14), 45),
     (Refused(Nch, 15), 90),

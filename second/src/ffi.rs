@@ -52,6 +52,7 @@ pub mod archive {
         fn asternhaken_talker_write(numbers: *const u64, n_numbers: usize, half: *mut u8);
         fn asternhaken_digits_read(octets: *const u8, n: usize, numbers: *mut u64, n_numbers: usize);
         fn asternhaken_digits_write(numbers: *const u64, n_numbers: usize, octets: *mut u8, n: usize);
+        fn asternhaken_find(keys: *const u32, n_keys: usize, key: u32, place: *mut u64, looks: *mut u64);
     }
 }
 
@@ -189,6 +190,25 @@ pub fn write_octet(function: OctetWriter, numbers: &[u64], before: u8) -> (u32, 
         record.plain(octet.content());
     });
     (refusal, octet.content()[0])
+}
+
+/// The refusal, the place where a key is found, and how many keys it was compared with.
+pub fn find(keys: &[u32], key: u32) -> (u32, u64, u64) {
+    let lent = Lent::new(keys, 0xA5A5_A5A5, 0);
+    let mut place = Lent::new(&[STALE], NUMBER_GUARD, 0);
+    let mut looks = Lent::new(&[STALE], NUMBER_GUARD, 0);
+    let refusal = unsafe { archive::asternhaken_find(lent.pointer(), keys.len(), key, place.pointer_mut(), looks.pointer_mut()) };
+    lent.check_all(keys);
+    place.check_guards();
+    looks.check_guards();
+    let (place, looks) = (place.content()[0], looks.content()[0]);
+    record::with(|record| {
+        record.function(archive::number_of(archive::asternhaken_find as *const ()));
+        record.octets(&keys.iter().flat_map(|key| key.to_le_bytes()).collect::<Vec<u8>>());
+        record.small(&[key, refusal]);
+        record.large(&[place, looks]);
+    });
+    (refusal, place, looks)
 }
 
 /// A lent state. Its length may be a wrong one.

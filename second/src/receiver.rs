@@ -1,11 +1,12 @@
 //! The receiver (document 01, "Setup, clock and store" and "What each notified call is told"; document 02, §8, the paging channel,
-//! and §3, what a new cell forgets).
+//! and §3, what a new cell forgets; §11, keys in rising order).
 
 use crate::bits::*;
 use crate::call::{Call, Frequencies};
 use crate::facch::{self, Facch};
 use crate::nch::{self, Nch};
 use crate::pch::{self, Pch};
+use std::cmp::Ordering;
 use std::collections::BTreeMap;
 
 pub const LAST_KEY: u32 = 199_999_999;
@@ -316,22 +317,41 @@ fn read(event: &Event) -> Result<Read, Refusal> {
     })
 }
 
+/// The place of a key among rising ones, and how many it was compared with, by halving: what may hold the key is first all of them; the one
+/// in its middle (of two, the later) is looked at, and unless it is the key, only those before it, or only those behind it, may hold it.
+pub fn find(keys: &[u32], key: u64) -> (Option<usize>, u64) {
+    let (mut start, mut end, mut looks) = (0, keys.len(), 0);
+    while start < end {
+        let middle = start + (end - start) / 2;
+        looks += 1;
+        match key.cmp(&u64::from(keys[middle])) {
+            Ordering::Equal => return (Some(middle), looks),
+            Ordering::Less => end = middle,
+            Ordering::Greater => start = middle + 1,
+        }
+    }
+    (None, looks)
+}
+
 impl Receiver {
     pub fn setup(keys: &[u32], tick: u32, timers: Timers) -> Result<Receiver, Refusal> {
-        let mut sorted = keys.to_vec();
-        sorted.sort_unstable();
-        let repeated = sorted.windows(2).any(|pair| pair[0] == pair[1]);
+        let rising = keys.windows(2).all(|pair| pair[0] < pair[1]);
         let in_range = timers.iter().all(|timer| (1..=LONGEST_TIMER).contains(timer));
-        if keys.len() > MOST_KEYS || keys.iter().any(|&key| key > LAST_KEY) || repeated || !in_range {
+        if keys.len() > MOST_KEYS || keys.iter().any(|&key| key > LAST_KEY) || !rising || !in_range {
             return Err(SETUP);
         }
         Ok(Receiver { tick, timers, nln: None, keys: keys.to_vec(), halves: BTreeMap::new(), touched: Vec::new() })
     }
 
-    /// A setup's keys are all different. In octets that no setup left a key may stand twice: its first place counts, and what is held at a
-    /// later one is under another key.
+    /// A setup's keys rise. In octets that no setup left they may stand in any order, and twice: the place that the halving finds counts, and
+    /// what is held at any other is under another key.
     fn place_of(&self, key: u64) -> Option<usize> {
-        self.keys.iter().position(|&subscribed| u64::from(subscribed) == key)
+        find(&self.keys, key).0
+    }
+
+    /// The key of a place, for what is made up at random: the highest number where no subscription uses it.
+    pub fn key_at(&self, subscription: usize) -> u32 {
+        self.keys.get(subscription).copied().unwrap_or(u32::MAX)
     }
 
     pub fn timer(&self, channel: Channel) -> u32 {

@@ -5,8 +5,9 @@ use crate::bits::{bit_of, number_of, Refusal};
 use crate::listed::{folder, octets_of};
 use crate::messages::{compare_facch, compare_nch, second_facch, second_nch};
 use crate::pair::{Pair, Spoken};
-use crate::receiver::{Event, CHANNELS};
+use crate::receiver::{find, Event, CHANNELS};
 use crate::state::{FIRST_RECORD_PART, RECORD_NUMBERS, STATE_LENGTH};
+use crate::steps::lookup;
 use crate::tally::Tally;
 use crate::{facch, nch};
 
@@ -129,6 +130,13 @@ pub fn run(tally: &mut Tally) {
                 };
                 expected = expected.splitn(4, ' ').take(3).collect::<Vec<&str>>().join(" ");
                 (line(reading.0, reading.1[0]), second)
+            }
+            "find" => {
+                let keys: Vec<u32> = words[3..].iter().map(|key| key.parse().unwrap()).collect();
+                let (_, place, _) = lookup(tally, &keys, words[1].parse().unwrap());
+                let second = find(&keys, words[1].parse().unwrap()).0;
+                let line = |place: Option<usize>| place.map_or("-".to_string(), |place| place.to_string());
+                (line(Some(place as usize).filter(|&place| place < keys.len())), line(second))
             }
             _ => continue,
         };

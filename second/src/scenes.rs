@@ -1,5 +1,5 @@
 //! Hand-written scenes: each sentence of document 01's "Setup, clock and store" and "What each notified call is told", and of document 02's §8,
-//! §3, §4 and §1, with the outcome that it asks for. The outcome is asked of both sides.
+//! §3, §4, §1 and §11, with the outcome that it asks for. The outcome is asked of both sides.
 
 use crate::bits::missing;
 use crate::draft::{CallDraft, FacchDraft, Hops, NchDraft, PchDraft, SevenDraft, SixDraft};
@@ -8,6 +8,7 @@ use crate::listed::octets_of;
 use crate::pair::{Pair, Said};
 use crate::receiver::{Channel, Event, Timers, DEFAULT_TIMERS};
 use crate::state::*;
+use crate::steps::lookup;
 use crate::tally::Tally;
 
 /// Reference 4711 as VBS and as VGCS, another call, the last key, and one that nobody subscribed.
@@ -265,11 +266,11 @@ fn ran_out(tally: &mut Tally) {
 }
 
 fn setups(tally: &mut Tally) {
-    let fifty: Vec<u32> = (0..50).map(|i| LAST - 3 * i).collect();
+    let fifty: Vec<u32> = (0..50).rev().map(|i| LAST - 3 * i).collect();
     let setups: &[(&str, Vec<u32>, Timers, u32)] = &[
         ("no key at all", vec![], [5_000, 5_000, 5_000], 0),
         ("fifty keys", fifty.clone(), [5_000, 5_000, 5_000], 0),
-        ("fifty-one keys", [fifty.clone(), vec![5]].concat(), [5_000, 5_000, 5_000], 10),
+        ("fifty-one keys", [vec![5], fifty.clone()].concat(), [5_000, 5_000, 5_000], 10),
         ("65,541 keys", (0..65_541).collect(), [5_000, 5_000, 5_000], 10),
         ("the lowest and the highest key", vec![0, LAST], [5_000, 5_000, 5_000], 0),
         ("a key above the highest", vec![0, LAST + 1], [5_000, 5_000, 5_000], 10),
@@ -277,6 +278,10 @@ fn setups(tally: &mut Tally) {
         ("both services of one reference", vec![VBS, VGCS], [5_000, 5_000, 5_000], 0),
         ("a repeat side by side", vec![VBS, VBS], [5_000, 5_000, 5_000], 10),
         ("a repeat from first to last", [fifty[..49].to_vec(), vec![fifty[0]]].concat(), [5_000, 5_000, 5_000], 10),
+        ("a repeat in the last two", [fifty[..49].to_vec(), vec![fifty[48]]].concat(), [5_000, 5_000, 5_000], 10),
+        ("two keys that fall", vec![VGCS, VBS], [5_000, 5_000, 5_000], 10),
+        ("the last two exchanged", [fifty[..48].to_vec(), vec![fifty[49], fifty[48]]].concat(), [5_000, 5_000, 5_000], 10),
+        ("the first two exchanged", [vec![fifty[1], fifty[0]], fifty[2..].to_vec()].concat(), [5_000, 5_000, 5_000], 10),
         ("shortest timers", vec![VBS], [1, 1, 1], 0),
         ("longest timers", vec![VBS], [60_000, 60_000, 60_000], 0),
         ("T3206 of 0", vec![VBS], [0, 5_000, 5_000], 10),
@@ -296,6 +301,27 @@ fn setups(tally: &mut Tally) {
             tally.same("scene: setup (archive, document)", || name.to_string(), &refusal, expected);
         }
     }
+    // Six looks for fifty keys, none for none.
+    for (keys, key, expected) in [
+        (&fifty[..0], 5, (0, 50, 0)),
+        (&fifty[..1], fifty[0], (0, 0, 1)),
+        (&fifty[..1], fifty[0] - 1, (0, 50, 1)),
+        (&fifty[..2], fifty[1], (0, 1, 1)),
+        (&fifty[..2], fifty[0], (0, 0, 2)),
+        (&fifty, fifty[25], (0, 25, 1)),
+        (&fifty, fifty[12], (0, 12, 2)),
+        (&fifty, fifty[38], (0, 38, 2)),
+        (&fifty, fifty[0], (0, 0, 6)),
+        (&fifty, fifty[49], (0, 49, 5)),
+        (&fifty, u32::MAX, (0, 50, 5)),
+        (&fifty, 0, (0, 50, 6)),
+    ] {
+        let archive = lookup(tally, keys, key);
+        tally.same("scene: find (archive, by hand)", || format!("{key} in {} keys", keys.len()), &archive, &expected);
+    }
+    let fifty_one: Vec<u32> = (0..51).collect();
+    let archive = lookup(tally, &fifty_one, 7);
+    tally.same("scene: find in fifty-one keys (archive, by hand)", String::new, &archive, &(10, 0, 0));
     // The state's length goes before all else of a setup and of every event, 9 included.
     for length in [0, STATE_LENGTH - 1, STATE_LENGTH + 1] {
         let mut state = ffi::State::new(&vec![0x5A; length], 3);
@@ -863,15 +889,33 @@ fn strange_octets(tally: &mut Tally) {
         s.nch(1_001, with_nln(nln, empty())).says(0, dropped, &[]);
     }
 
-    let mut s = Scene::new(tally, "a key that stands twice counts at its first place");
+    let mut s = Scene::new(tally, "a key that stands twice counts where the halving finds it");
     let key = VGCS.to_le_bytes();
     let octets: Vec<(usize, u8)> = (0..4).map(|i| (KEYS + 4 * 3 + i, key[i])).collect();
     s.nch(1_000, first(LAST)).told(&[4]).with_octets(&octets);
     s.nch(1_001, second(VGCS, 7)).told(&[4]);
     s.nch(1_002, first(LAST)).told(&[0]);
-    // What is held at the later place is under another key.
+    // What is held at the other place is under another key.
     s.event(1_003, Event::Joined(VGCS)).says(0, 1, &[]);
     s.nch(1_004, first(VGCS)).told(&[3]);
+
+    let mut s = Scene::new(tally, "a key that the halving passes by is not subscribed");
+    let octets: Vec<(usize, u8)> = (0..4).map(|i| (KEYS + i, (OTHER + 2).to_le_bytes()[i])).collect();
+    s.nch(1_000, first(OTHER)).told(&[4]).with_octets(&octets);
+    s.nch(1_001, first(OTHER + 2)).told(&[0]);
+    s.nch(1_002, second(OTHER, 7)).told(&[3]);
+
+    // What a first half of the first key, a second of the second and a first of the last are told, and how many halves then go.
+    for (count, told, dropped) in
+        [(0, [0, 0, 0], 1), (1, [4, 0, 0], 2), (3, [4, 3, 0], 1), (50, [4, 3, 4], 2), (51, [4, 3, 4], 2), (255, [4, 3, 4], 2)]
+    {
+        let mut s = Scene::new(tally, "so many keys are looked at, and fifty where the number is larger");
+        s.nch(1_000, first(VGCS)).told(&[4]).with_octets(&[(N_KEYS, count)]);
+        s.nch(1_001, first(VBS)).told(&told[..1]);
+        s.nch(1_001, second(VGCS, 7)).told(&told[1..2]);
+        s.nch(1_001, first(LAST)).told(&told[2..]);
+        s.event(1_002, Event::Reselected).says(0, dropped, &[]);
+    }
 
     let mut s = Scene::new(tally, "any count is read as it stands, of nine entries at most; a record only where 1 to 3 was told");
     s.nch(1_000, nch(vec![clear(VGCS).on(HERE)], &[])).told(&[1]);
@@ -893,7 +937,8 @@ fn strange_octets(tally: &mut Tally) {
     s.event(1_000, Event::Tick).says(1, 0, &[]);
 
     let mut s = Scene::new(tally, "unused octets are not looked at and stay");
-    let unused = (NLN + 1..KEYS).chain(KINDS + PLACES..TICKS).chain(COUNT + 4..ENTRIES).chain(ENTRIES + 9..ENTRIES + 16);
+    let unused =
+        (NLN + 1..N_KEYS).chain(MARK..KEYS).chain(KINDS + PLACES..TICKS).chain(COUNT + 4..ENTRIES).chain(ENTRIES + 9..ENTRIES + 16);
     let octets: Vec<(usize, u8)> = unused.map(|place| (place, 0xEE)).collect();
     s.with_octets(&octets);
     s.nch(1_000, first(VGCS)).told(&[4]);

@@ -18,6 +18,8 @@ const fn behind(end: usize) -> usize {
 /// Where everything stands: the tick, the timers, then one block behind the other.
 pub const TIMERS: usize = 4;
 pub const NLN: usize = TIMERS + 4 * CHANNELS.len();
+/// How many keys there are, the last octet before the mark; between it and the NLN, octets that are not used.
+pub const N_KEYS: usize = MARK - 1;
 pub const MARK: usize = behind(NLN + 1) - SET_UP.len();
 pub const KEYS: usize = behind(MARK + SET_UP.len());
 pub const KINDS: usize = behind(KEYS + 4 * MOST_KEYS);
@@ -30,11 +32,11 @@ pub const ENTRIES: usize = behind(COUNT + 4);
 pub const STATE_LENGTH: usize = ENTRIES + ENTRY_OCTETS * MOST_ENTRIES;
 
 /// These are the numbers of docs/STATE.md.
-const _: () = assert!(NLN == 16 && MARK == 20 && KEYS == 24 && KINDS == 224 && TICKS == 376 && RECORDS == 976);
+const _: () = assert!(NLN == 16 && N_KEYS == 19 && MARK == 20 && KEYS == 24 && KINDS == 224 && TICKS == 376 && RECORDS == 976);
 const _: () = assert!(EXPIRED == 9_376 && COUNT == 9_384 && ENTRIES == 9_392 && STATE_LENGTH == 10_040);
 
 /// The mark that an accepted setup leaves: three letters and the number of this layout. Nothing but `is_set_up` looks at it.
-pub const SET_UP: [u8; 4] = *b"AHK\x01";
+pub const SET_UP: [u8; 4] = *b"AHK\x02";
 
 const UNUSED_KEY: u32 = u32::MAX;
 const NO_NLN: u8 = 4;
@@ -200,7 +202,7 @@ pub fn decode(octets: &[u8]) -> Receiver {
         tick: get_u32(octets, 0),
         timers: CHANNELS.map(|channel| get_u32(octets, TIMERS + 4 * channel as usize)),
         nln: Some(octets[NLN]).filter(|&nln| nln != NO_NLN),
-        keys: (0..MOST_KEYS).map(|i| get_u32(octets, KEYS + 4 * i)).collect(),
+        keys: (0..MOST_KEYS.min(octets[N_KEYS] as usize)).map(|i| get_u32(octets, KEYS + 4 * i)).collect(),
         halves,
         touched: Vec::new(),
     }
@@ -226,6 +228,7 @@ impl Mirror {
             put(&mut self.octets, TIMERS + 4 * i, 4, u64::from(timer));
         }
         self.octets[NLN] = NO_NLN;
+        self.octets[N_KEYS] = keys.len() as u8;
         self.octets[MARK..KEYS].copy_from_slice(&SET_UP);
         for i in 0..MOST_KEYS {
             let key = keys.get(i).copied().unwrap_or(UNUSED_KEY);
@@ -287,7 +290,7 @@ impl Mirror {
             let age = receiver.tick.wrapping_sub(half.tick);
             let left = receiver.timers[place.1 as usize].saturating_sub(age);
             let which = u64::from(self.octets[KINDS + place_number(place)]);
-            let leading = [u64::from(receiver.keys[place.0]), place.1 as u64, which, u64::from(left)];
+            let leading = [get(&self.octets, KEYS + 4 * place.0, 4), place.1 as u64, which, u64::from(left)];
             [&leading[..], &numbers_of(&half.record)].concat()
         };
         receiver.halves.iter().map(each).collect()

@@ -1,5 +1,7 @@
 //! Event sequences at random: few keys, so that halves meet; ticks near expiry and around the wrap; states that no setup left.
 
+use crate::bits::SETUP;
+use crate::cover::Met;
 use crate::draft::{CallDraft, FacchDraft, NchDraft, PchDraft, Pool, SevenDraft, SixDraft};
 use crate::ffi::{self, archive};
 use crate::pair::{event_line, feed, Pair};
@@ -35,14 +37,14 @@ fn small_pool(rng: &mut Rng) -> Pool {
     Pool { references }
 }
 
-/// Keys of the pool, in any order; sometimes filled up to as many as there may be.
+/// Keys of the pool, in rising order; sometimes filled up to as many as there may be.
 fn keys(rng: &mut Rng, pool: &Pool) -> Vec<u32> {
     let mut keys: Vec<u32> = Vec::new();
     for reference in &pool.references {
         for service in 0..2 {
             let key = 2 * *reference as u32 + service;
             if !rng.one_in(6) && !keys.contains(&key) {
-                keys.insert(rng.below(keys.len() as u64 + 1) as usize, key);
+                keys.push(key);
             }
         }
     }
@@ -51,11 +53,51 @@ fn keys(rng: &mut Rng, pool: &Pool) -> Vec<u32> {
         while keys.len() < most {
             let key = rng.below(200_000_000) as u32;
             if !keys.contains(&key) {
-                keys.insert(rng.below(keys.len() as u64 + 1) as usize, key);
+                keys.push(key);
             }
         }
     }
+    keys.sort_unstable();
     keys
+}
+
+/// Lookups among keys of any number, mostly rising, of keys that stand there and of their neighbours.
+fn lookups(tally: &mut Tally, rng: &mut Rng) {
+    let most = rng.pick(&[1, 2, 4, 8, 16, 32, 50, 50, 50, 51, 52]);
+    let count = if rng.one_in(2) { most } else { rng.below(most + 1) };
+    let mut keys: Vec<u32> = (0..count).map(|_| rng.below(200_000_000) as u32).collect();
+    if rng.one_in(4) {
+        keys.iter_mut().for_each(|key| *key %= 60);
+    }
+    keys.sort_unstable();
+    keys.dedup();
+    if rng.one_in(8) {
+        keys.iter_mut().for_each(|key| *key = key.wrapping_mul(0x9E37_79B1));
+    }
+    for _ in 0..4 {
+        let near = if keys.is_empty() { rng.next() as u32 } else { rng.pick(&keys) };
+        let key = near.wrapping_add(rng.pick(&[0, 0, 0, 1, u32::MAX, 1 << 31]));
+        lookup(tally, &keys, key);
+    }
+}
+
+/// One lookup on both sides. Where the keys rise it finds what a search from the front finds, and compares six at most.
+pub fn lookup(tally: &mut Tally, keys: &[u32], key: u32) -> (u32, u64, u64) {
+    let archive = ffi::find(keys, key);
+    let second = match find(keys, u64::from(key)) {
+        _ if keys.len() > MOST_KEYS => (SETUP, 0, 0),
+        (place, looks) => (0, place.unwrap_or(MOST_KEYS) as u64, looks),
+    };
+    tally.count_refusal(archive.0);
+    tally.same("find (refusal, place, looks)", || format!("{key} in {keys:?}"), &archive, &second);
+    if archive.0 == 0 && keys.is_sorted() {
+        let there = keys.iter().position(|&each| each == key);
+        tally.cover.count(Met::Found(there.is_some(), archive.2), 1);
+        let most = if keys.is_empty() { 0 } else { 1 + u64::from(keys.len().ilog2()) };
+        let right = archive.1 == there.unwrap_or(MOST_KEYS) as u64 && archive.2 <= most && most <= 6;
+        tally.check(right, || format!("  find {key} in {keys:?}: {archive:?}, where it stands is {there:?}"));
+    }
+    archive
 }
 
 const TIMES: [u32; 9] = [1, 2, 3, 10, 100, 5_000, 10_000, 59_999, 60_000];
@@ -73,8 +115,14 @@ fn first_tick(rng: &mut Rng) -> u32 {
 fn doubtful_setup(tally: &mut Tally, rng: &mut Rng, pair: &mut Pair, good: &[u32]) {
     let mut keys = good.to_vec();
     let mut timers = [5_000; CHANNELS.len()];
-    match rng.below(7) {
+    // What is put in at any place mostly breaks the order, which is a ground of its own.
+    let sorted = rng.one_in(2);
+    match rng.below(8) {
         0 | 1 => timers[rng.below(3) as usize] = rng.pick(&[0, 60_001, u32::MAX]),
+        7 if keys.len() > 1 => {
+            let place = rng.below(keys.len() as u64 - 1) as usize;
+            keys.swap(place, place + 1);
+        }
         2 => {
             let key = rng.pick(&[200_000_000, 200_000_001, 199_999_999, u32::MAX, u32::MAX - 1]);
             keys.insert(rng.below(keys.len() as u64 + 1) as usize, key);
@@ -86,6 +134,9 @@ fn doubtful_setup(tally: &mut Tally, rng: &mut Rng, pair: &mut Pair, good: &[u32
         4 => keys = (0..49 + rng.below(4) as u32).map(|i| 7 * i).collect(),
         5 => keys = (0..rng.pick(&[51, 100, 255, 256, 257, 306])).collect(),
         _ => timers = timers.map(|_| rng.pick(&[1, 60_000])),
+    }
+    if sorted {
+        keys.sort_unstable();
     }
     let tick = rng.next() as u32;
     pair.setup(tally, &keys, tick, timers);
@@ -99,6 +150,7 @@ fn from_setup(tally: &mut Tally, rng: &mut Rng) -> u64 {
     for _ in 0..rng.below(3) {
         doubtful_setup(tally, rng, &mut pair, &keys);
     }
+    lookups(tally, rng);
     let timers = CHANNELS.map(|_| rng.pick(&TIMES));
     pair.setup(tally, &keys, first_tick(rng), timers);
     events(tally, rng, &mut pair, &pool, STEPS_OF_A_SEQUENCE);
@@ -287,7 +339,7 @@ fn doubtful_pch(rng: &mut Rng, mut n: Vec<u64>) -> Vec<u64> {
 fn meeting(rng: &mut Rng, receiver: &Receiver) -> Event {
     let which = rng.below(receiver.halves.len() as u64) as usize;
     let ((subscription, channel), held) = receiver.halves.iter().nth(which).unwrap();
-    let key = receiver.keys[*subscription] % 200_000_000;
+    let key = receiver.key_at(*subscription) % 200_000_000;
     let mut call = CallDraft::plain(key, 3);
     (call.acknowledged, call.priority) = (0, 5);
     if held.record.full && held.record.cipher_key_number != 0 {
@@ -364,7 +416,7 @@ fn new_cell(rng: &mut Rng, receiver: &Receiver, pool: &Pool) -> Vec<Event> {
 fn losing(rng: &mut Rng, receiver: &Receiver) -> Event {
     let which = rng.below(receiver.halves.len() as u64) as usize;
     let (subscription, channel) = receiver.halves.keys().nth(which).unwrap();
-    let other = receiver.keys[*subscription] ^ 1;
+    let other = receiver.key_at(*subscription) ^ 1;
     match (channel, rng.below(if *channel == Channel::Pch { 4 } else { 3 })) {
         (_, 0) => Event::Joined(other),
         (Channel::Nch | Channel::Pch, 1) => Event::Reselected,
@@ -408,7 +460,7 @@ fn from_any_octets(tally: &mut Tally, rng: &mut Rng) -> u64 {
     count
 }
 
-/// Keys of the pool, twice or in any place; halves of any kind with flags of any number; an answer of any length.
+/// Keys of the pool, twice or in any place, and any number of them; halves of any kind with flags of any number; an answer of any length.
 fn strange_state(rng: &mut Rng, pool: &Pool, octets: &mut [u8]) {
     let tick = first_tick(rng);
     put(octets, 0, tick);
@@ -416,16 +468,22 @@ fn strange_state(rng: &mut Rng, pool: &Pool, octets: &mut [u8]) {
         put(octets, TIMERS + 4 * channel, rng.pick(&[0, 1, 100, 5_000, 100_000, 1 << 31, u32::MAX]));
     }
     octets[NLN] = rng.pick(&[0, 1, 2, 3, 4, 4, 5, 6, 255]);
-    for place in 0..PLACES {
-        let subscription = place / CHANNELS.len();
-        let key = match rng.below(4) {
+    let mut keys: Vec<u32> = Vec::new();
+    for _ in 0..MOST_KEYS {
+        keys.push(match rng.below(4) {
             0 => u32::MAX,
             1 => rng.next() as u32,
             _ => (2 * pool.reference(rng) + rng.below(2)) as u32,
-        };
-        if place % CHANNELS.len() == 0 {
-            put(octets, KEYS + 4 * subscription, key);
-        }
+        });
+    }
+    // Mostly in order, though with repeats, so that keys are found.
+    if !rng.one_in(4) {
+        keys.sort_unstable();
+    }
+    keys.iter().enumerate().for_each(|(subscription, &key)| put(octets, KEYS + 4 * subscription, key));
+    octets[N_KEYS] = rng.pick(&[0, 1, 5, 20, 49, 50, 50, 50, 51, 64, 128, 255]);
+    for place in 0..PLACES {
+        let subscription = place / CHANNELS.len();
         octets[KINDS + place] = rng.pick(&[0, 0, 1, 1, 2, 2, 3, 255]);
         let age = rng.pick(&[0, 1, 50, 4_999, 1 << 31, u32::MAX]);
         put(octets, TICKS + 4 * place, tick.wrapping_sub(age));

@@ -14,7 +14,8 @@ use Rattle.bits.proofs.Answers.{both-true}
 use Rattle.receiver.specs.declared.Receiver.{Receiver}
 use Rattle.receiver.specs.declared.Setup.{Setup}
 use Rattle.receiver.specs.Channels.{keyCount, places, Channel}
-use Rattle.receiver.specs.Model.{emptySlot, indexOf, newReceiver, keyPlaces, longestTimer, isTimer, keysRight, setupRight, startedOf}
+use Rattle.receiver.specs.Halving.{firstOf, rises}
+use Rattle.receiver.specs.Model.{emptySlot, keysOf, indexOf, newReceiver, keyPlaces, longestTimer, isTimer, allLow, keysRight, setupRight, startedOf}
 use Rattle.isolation.specs.One.{showsNln, fresh}
 use Rattle.isolation.specs.Calls.{timerOf}
 use Rattle.isolation.proofs.Meets.{empty-sound}
@@ -22,7 +23,7 @@ use Rattle.receiver.proofs.Cases.{by-test}
 use Rattle.isolation.proofs.Standing.{placeAt}
 use Rattle.isolation.proofs.Places.{for-each, place-lt}
 use Rattle.receiver.proofs.Keys.{lent-index}
-use Rattle.receiver.proofs.KeyPlaces.{length-keys}
+use Rattle.receiver.proofs.KeyPlaces.{keys-there}
 use Rattle.isolation.proofs.Isolation.{view, Good}
 
 -- ## What is asked of a setup
@@ -32,7 +33,7 @@ pub record Right (s : Setup) (keys : List ℕ) : Type 0 where
   first : (1 ≤ s .t3206) × (s .t3206 ≤ longestTimer)
   second : (1 ≤ s .t3208) × (s .t3208 ≤ longestTimer)
   third : (1 ≤ s .t3210) × (s .t3210 ≤ longestTimer)
-  pub keyed : keysRight keys ≡ true
+  pub rising : rises keys ≡ true
 
 timer-right : (t : ℕ) → isTimer t ≡ true → (1 ≤ t) × (t ≤ longestTimer)
 timer-right t e = let b = both-true (leb 1 t) (leb t longestTimer) e in (leb-true 1 t (b .0), leb-true t longestTimer (b .1))
@@ -49,7 +50,7 @@ right s keys e =
       first = timer-right (s .t3206) (b .0);
       second = timer-right (s .t3208) (c .0);
       third = timer-right (s .t3210) (d .0);
-      keyed = d .1;
+      rising = both-true (allLow keys) (rises keys) (d .1) .1;
     }
 
 -- one that is not refused passes
@@ -60,7 +61,7 @@ passes s keys z = by-test (setupRight s keys) (λ p. p) (λ p. absurd (omega (ar
 -- ## What it makes
 
 abbrev pub started : Setup → List ℕ → Receiver
-started s keys = newReceiver s (keyPlaces keyCount keys)
+started s keys = newReceiver s (keyPlaces keyCount keys) (length keys)
 
 pub starts : (s : Setup) (keys : List ℕ) → startedOf s keys .refusal .number ≡ 0 → startedOf s keys .receiver ≡ started s keys
 unfolding startedOf
@@ -69,12 +70,17 @@ starts s keys z = rw (passes s keys z)
 pub made : (s : Setup) (keys : List ℕ) → startedOf s keys .refusal .number ≡ 0 → Right s keys
 made s keys z = right s keys (passes s keys z)
 
-module _ (s : Setup) (keys : List ℕ) (t : s .tick < 4294967296) (z : startedOf s keys .refusal .number ≡ 0) (key : ℕ) (h : indexOf keys key < length keys) (c : Channel) where
-  subscribed : indexOf (keyPlaces keyCount keys) key < keyCount
-  subscribed = rw (lent-index keyCount keys (made s keys z .few) (made s keys z .keyed) key h) (omega (arith, made s keys z .few))
+-- its keys are those that were lent
+pub started-keys : (s : Setup) (keys : List ℕ) → length keys ≤ keyCount → keysOf (started s keys) ≡ keys
+started-keys s keys h = keys-there keyCount keys h
 
-  slot-empty : getD (replicate places emptySlot) (placeAt (keyPlaces keyCount keys) key c) emptySlot ≡ emptySlot
-  slot-empty = getD-replicate places (placeAt (keyPlaces keyCount keys) key c) emptySlot emptySlot (place-lt (indexOf (keyPlaces keyCount keys) key) c subscribed)
+module _ (s : Setup) (keys : List ℕ) (t : s .tick < 4294967296) (z : startedOf s keys .refusal .number ≡ 0) (key : ℕ) (h : firstOf keys key < length keys) (c : Channel) where
+  subscribed : indexOf (keysOf (started s keys)) key < keyCount
+  subscribed = rw (started-keys s keys (made s keys z .few), lent-index keys (made s keys z .rising) key h) (omega (arith, made s keys z .few))
+
+  slot-empty : getD (replicate places emptySlot) (placeAt (keysOf (started s keys)) key c) emptySlot ≡ emptySlot
+  slot-empty =
+      getD-replicate places (placeAt (keysOf (started s keys)) key c) emptySlot emptySlot (place-lt (indexOf (keysOf (started s keys)) key) c subscribed)
 
   timers : (1 ≤ timerOf c s) × (timerOf c s ≤ longestTimer)
   timers = for-each (λ (t : ℕ). (1 ≤ t) × (t ≤ longestTimer)) c _ _ _ (made s keys z .first) (made s keys z .second) (made s keys z .third)
@@ -83,7 +89,6 @@ module _ (s : Setup) (keys : List ℕ) (t : s .tick < 4294967296) (z : startedOf
   started-good =
       record {
         places = length-replicate places emptySlot;
-        keyed = length-keys keyCount keys;
         subscribed = subscribed;
         ticking = t;
         long = timers .0;

@@ -9,7 +9,8 @@ use Rattle.csn1.specs.declared.Refusal.{Refusal}
 use Rattle.receiver.specs.declared.Receiver.{Receiver}
 use Rattle.receiver.specs.declared.Setup.{Setup}
 use Rattle.receiver.specs.Channels.{Channel}
-use Rattle.receiver.specs.Model.{indexOf, startedOf}
+use Rattle.receiver.specs.Halving.{firstOf}
+use Rattle.receiver.specs.Model.{startedOf}
 use Rattle.receiver.specs.Step.{Event, refusalOf, stepOf}
 use Rattle.isolation.specs.One.{One, sightOf, stepBetween, accepts, seen, spared, passed, stepSaid, sees, oneAfter}
 use Rattle.isolation.specs.Calls.{timerOf, lastTick, callAfter, leftBy}
@@ -30,7 +31,7 @@ module _ (s : Setup) (keys : List ℕ) (t : s .tick < 4294967296) (z : startedOf
   pub clock-is : state .tick ≡ lastTick s es
   clock-is = tick-after (started s keys) es
 
-  module _ (key : ℕ) (h : indexOf keys key < length keys) (c : Channel) where
+  module _ (key : ℕ) (h : firstOf keys key < length keys) (c : Channel) where
     pub good : Good key c state
     good = after-keeps (Good key c) (λ r e k a g. step-good key c r g e k a) (started s keys) (started-good s keys t z key h c) es ts
 

@@ -18,7 +18,7 @@ use Rattle.receiver.specs.declared.Cell.{Cell}
 use Rattle.receiver.specs.declared.Answer.{Answer}
 use Rattle.receiver.specs.declared.Rule.{Rule}
 use Rattle.receiver.specs.Channels.{keyCount, places, Channel, numberOf, hasPages}
-use Rattle.receiver.specs.Model.{emptySlot, noNln, longestTimer, wrapSub, lateStep, late, indexOf, spares, timerAt, keptOf, sweptSlots}
+use Rattle.receiver.specs.Model.{emptySlot, noNln, longestTimer, wrapSub, lateStep, late, keysOf, indexOf, spares, timerAt, keptOf, sweptSlots}
 use Rattle.receiver.specs.Step.{Event, Cause, nothing, joining, paged, moving, numbered, Content, contentOf, changes, cellAfter, taking, sparing}
 use Rattle.receiver.specs.Step.{ruleBy, ruleOf, groundsOf, refusalOf, refusedWith, acceptedAs, stepOf}
 use Rattle.isolation.specs.One.{showsNln, hears, goneBy, forgottenBy, Half, Known, One, Said, Sight, sightOf, stepBetween, accepts, sees, seen, aged, knownAfter}
@@ -47,8 +47,7 @@ view key c r = record { held = heldOf (r .tick) (slotIn key c r); cell = known c
 -- what setup and events keep
 pub record Good (key : ℕ) (c : Channel) (r : Receiver) : Type 0 where
   pub places : length (r .slots) ≡ places
-  pub keyed : length (r .keys) ≡ keyCount
-  pub subscribed : indexOf (r .keys) key < keyCount
+  pub subscribed : indexOf (keysOf r) key < keyCount
   pub ticking : r .tick < 2 ^ 32
   pub long : 1 ≤ timerIn c r
   pub short : timerIn c r ≤ longestTimer
@@ -57,14 +56,14 @@ pub record Good (key : ℕ) (c : Channel) (r : Receiver) : Type 0 where
 -- ## What an event drops
 
 pub swept-slot : (key : ℕ) (c : Channel) (r : Receiver) → Good key c r → (now : ℕ) (rule : Rule)
-    → getD (sweptSlots r now rule) (placeAt (r .keys) key c) emptySlot ≡ keptOf now (timerIn c r) rule (placeAt (r .keys) key c) (slotIn key c r)
+    → getD (sweptSlots r now rule) (placeAt (keysOf r) key c) emptySlot ≡ keptOf now (timerIn c r) rule (placeAt (keysOf r) key c) (slotIn key c r)
 unfolding sweptSlots
 swept-slot key c r g now rule =
-    getD-mapAt (λ i s. keptOf now (timerAt r i) rule i s) 0 (r .slots) (placeAt (r .keys) key c) emptySlot emptySlot
-    (rw (g .places) (place-lt (indexOf (r .keys) key) c (g .subscribed)))
-    ∙ rw (zero-add, timer-at r (indexOf (r .keys) key) c)
+    getD-mapAt (λ i s. keptOf now (timerAt r i) rule i s) 0 (r .slots) (placeAt (keysOf r) key c) emptySlot emptySlot
+    (rw (g .places) (place-lt (indexOf (keysOf r) key) c (g .subscribed)))
+    ∙ rw (zero-add, timer-at r (indexOf (keysOf r) key) c)
 
-join-same : (keys : List ℕ) (key k : ℕ) → indexOf keys key < length keys → eqb (indexOf keys key) (indexOf keys k) ≡ eqb k key
+join-same : (keys : List ℕ) (key k : ℕ) → indexOf keys key < keyCount → eqb (indexOf keys key) (indexOf keys k) ≡ eqb k key
 join-same keys key k h =
     by-test (eqb k key)
     (λ p. rw p (eq-eqb (indexOf keys key) (indexOf keys k) (ap (indexOf keys) (sym (eqb-true k key p)))))
@@ -88,19 +87,19 @@ paged-away : (key : ℕ) (c : Channel) (l : Known) (b : Bool) (k : ℕ) (h : Opt
 paged-away key c l true k h = refl
 paged-away key c l false k h = refl
 
-spared-same : (key : ℕ) (r : Receiver) → length (r .keys) ≡ keyCount → indexOf (r .keys) key < keyCount → (c : Channel) (x : Cause) (h : Option Half)
-    → sparedBy key c (known c (r .cell)) (shown c x) h ≡ pick (spares (ruleBy r x) (placeAt (r .keys) key c)) h none
-spared-same key r keyed subscribed c x h = by-cause x ∙ ap (λ (b : Bool). pick b h none) (sym (spares-at (indexOf (r .keys) key) c (taking (r .cell) x) (sparing (r .keys) x)))
+spared-same : (key : ℕ) (r : Receiver) → indexOf (keysOf r) key < keyCount → (c : Channel) (x : Cause) (h : Option Half)
+    → sparedBy key c (known c (r .cell)) (shown c x) h ≡ pick (spares (ruleBy r x) (placeAt (keysOf r) key c)) h none
+spared-same key r subscribed c x h = by-cause x ∙ ap (λ (b : Bool). pick b h none) (sym (spares-at (indexOf (keysOf r) key) c (taking (r .cell) x) (sparing (keysOf r) x)))
   where
-    by-cause : (x : Cause) → sparedBy key c (known c (r .cell)) (shown c x) h ≡ pick (pick (taking (r .cell) x c) (eqb (indexOf (r .keys) key) (sparing (r .keys) x)) true) h none
+    by-cause : (x : Cause) → sparedBy key c (known c (r .cell)) (shown c x) h ≡ pick (pick (taking (r .cell) x c) (eqb (indexOf (keysOf r) key) (sparing (keysOf r) x)) true) h none
     by-cause nothing = refl
-    by-cause (joining k) = rw (join-same (r .keys) key k (omega arith))
-    by-cause (paged k) = rw (join-same (r .keys) key k (omega arith)) (paged-away key c (known c (r .cell)) (hasPages c) k h)
-    by-cause (moving m) = rw (drops-same c m) (all-gone (goneBy c m) (indexOf (r .keys) key) h subscribed)
+    by-cause (joining k) = rw (join-same (keysOf r) key k subscribed)
+    by-cause (paged k) = rw (join-same (keysOf r) key k subscribed) (paged-away key c (known c (r .cell)) (hasPages c) k h)
+    by-cause (moving m) = rw (drops-same c m) (all-gone (goneBy c m) (indexOf (keysOf r) key) h subscribed)
     by-cause (numbered n) =
         rw (shows-same c)
         (renumbered key c (showsNln c) (eqb (r .cell .nln) noNln) (r .cell .nln) n h
-        ∙ all-gone (both (showsNln c) (changes (r .cell) n)) (indexOf (r .keys) key) h subscribed)
+        ∙ all-gone (both (showsNln c) (changes (r .cell) n)) (indexOf (keysOf r) key) h subscribed)
 
 -- ## What is known of the cell
 
@@ -145,7 +144,7 @@ abbrev pub sweptBy : Receiver → Event → List Slot
 sweptBy r e = sweptSlots r (e .tick) (ruleOf r e)
 
 abbrev pub leftIn : ℕ → Channel → Receiver → Event → Slot
-leftIn key c r e = getD (sweptBy r e) (placeAt (r .keys) key c) emptySlot
+leftIn key c r e = getD (sweptBy r e) (placeAt (keysOf r) key c) emptySlot
 
 -- what they do at the place of a call, beside what they do at its own receiver
 record Acts (key : ℕ) (c : Channel) (r : Receiver) (e : Event) : Type 0 where
@@ -162,7 +161,7 @@ module _ (key : ℕ) (c : Channel) (r : Receiver) (g : Good key c r) (e : Event)
   acts-other : same c (contentIn e .channel) ≡ false → Acts key c r e
   unfolding answersOn heldAfter saidOf
   acts-other n =
-      let o = other-channel (r .keys) (e .tick) key c (contentIn e .channel) (eqb-false (numberOf c) (numberOf (contentIn e .channel)) n) (sweptBy r e) (contentIn e .entries) in
+      let o = other-channel (keysOf r) (e .tick) key c (contentIn e .channel) (eqb-false (numberOf c) (numberOf (contentIn e .channel)) n) (sweptBy r e) (contentIn e .entries) in
       record { held = rw (same-seen key c e, n, o); said = rw (heard-same c (e .happening), same-seen key c e, n); sound = rw o p }
 
   -- entries on its own channel
@@ -170,12 +169,12 @@ module _ (key : ℕ) (c : Channel) (r : Receiver) (g : Good key c r) (e : Event)
   unfolding answersOn
   acts-own z n =
       let a : numberOf (contentIn e .channel) ≡ numberOf c = sym (eqb-true (numberOf c) (numberOf (contentIn e .channel)) n) in
-      let x = entries (r .keys) (e .tick) key c (g .keyed) (g .subscribed) (timerIn c r) k (g .long) (sweptBy r e) (contentIn e .entries) (length-swept r (e .tick) (ruleOf r e) (g .places)) p in
+      let x = entries (keysOf r) (e .tick) key c (g .subscribed) (timerIn c r) k (g .long) (sweptBy r e) (contentIn e .entries) (length-swept r (e .tick) (ruleOf r e) (g .places)) p in
       record {
         held = rw (same-seen key c e, n, a) (x .held);
         said =
             rw (heard-same c (e .happening), same-seen key c e, n)
-            (ap (under key) (told-back (r .keys) (numberOf (contentIn e .channel)) (e .tick) (sweptBy r e) (contentIn e .entries) (few (e .happening) z)) ∙ rw a (x .said));
+            (ap (under key) (told-back (keysOf r) (numberOf (contentIn e .channel)) (e .tick) (sweptBy r e) (contentIn e .entries) (few (e .happening) z)) ∙ rw a (x .said));
         sound = rw a (x .sound);
       }
 
@@ -219,14 +218,14 @@ module _ (key : ℕ) (c : Channel) (r : Receiver) (g : Good key c r) (e : Event)
   pub left-sound : Sound (e .tick) (timerIn c r) (leftIn key c r e)
   left-sound =
       rw (swept-slot key c r g (e .tick) (ruleOf r e))
-      (kept-sound (r .tick) (e .tick) (timerIn c r) (slotIn key c r) (g .sound) (g .ticking) k (g .short) (a .short) (ruleOf r e) (placeAt (r .keys) key c))
+      (kept-sound (r .tick) (e .tick) (timerIn c r) (slotIn key c r) (g .sound) (g .ticking) k (g .short) (a .short) (ruleOf r e) (placeAt (keysOf r) key c))
 
   -- what is left before the entries
   pub left-same : heldOf (e .tick) (leftIn key c r e) ≡ spared key c (passed (timerIn c r) (view key c r) (stepBetween (r .tick) (e .tick))) (seenIn key c e)
   left-same =
       ap (heldOf (e .tick)) (swept-slot key c r g (e .tick) (ruleOf r e))
-      ∙ kept-held (r .tick) (e .tick) (timerIn c r) (slotIn key c r) (g .sound) (g .ticking) k (g .short) (a .short) (ruleOf r e) (placeAt (r .keys) key c)
-      ∙ sym (rw (same-seen key c e) (spared-same key r (g .keyed) (g .subscribed) c (contentIn e .cause) (aged (timerIn c r) (wrapSub (e .tick) (r .tick)) (heldOf (r .tick) (slotIn key c r)))))
+      ∙ kept-held (r .tick) (e .tick) (timerIn c r) (slotIn key c r) (g .sound) (g .ticking) k (g .short) (a .short) (ruleOf r e) (placeAt (keysOf r) key c)
+      ∙ sym (rw (same-seen key c e) (spared-same key r (g .subscribed) c (contentIn e .cause) (aged (timerIn c r) (wrapSub (e .tick) (r .tick)) (heldOf (r .tick) (slotIn key c r)))))
 
   acted : Acts key c r e
   acted = acts key c r g e k left-sound (a .allowed)
@@ -247,8 +246,7 @@ module _ (key : ℕ) (c : Channel) (r : Receiver) (g : Good key c r) (e : Event)
   pub step-good : Good key c (acceptedOf r e .receiver)
   step-good =
       record {
-        places = length-all (r .keys) (e .tick) (numberOf (contentIn e .channel)) (sweptBy r e) (contentIn e .entries) ∙ length-swept r (e .tick) (ruleOf r e) (g .places);
-        keyed = g .keyed;
+        places = length-all (keysOf r) (e .tick) (numberOf (contentIn e .channel)) (sweptBy r e) (contentIn e .entries) ∙ length-swept r (e .tick) (ruleOf r e) (g .places);
         subscribed = g .subscribed;
         ticking = k;
         long = g .long;

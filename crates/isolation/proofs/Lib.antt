@@ -6,7 +6,6 @@ pub mod Dropping
 pub mod Standing
 pub mod Isolation
 pub mod Beginning
-pub mod LowKeys
 pub mod Totals
 pub mod Calls
 pub mod Replies

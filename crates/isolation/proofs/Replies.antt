@@ -1,5 +1,5 @@
 -- The whole answer to an event, from what the receivers of the calls hold. Assumes nothing.
-use mathlib.Core.Path.{_≡_, refl, sym, ap, ap₂, subst, _∙_}
+use mathlib.Core.Path.{_≡_, refl, sym, ap, ap₂, _∙_}
 use mathlib.Core.Bool.{Bool, true, false}
 use mathlib.Core.List.{List, [], _∷_, _++_, append-assoc}
 use mathlib.Core.Option.{Option}
@@ -20,49 +20,47 @@ use Rattle.receiver.specs.declared.Receiver.{Receiver}
 use Rattle.receiver.specs.declared.Rule.{Rule}
 use Rattle.receiver.specs.declared.Setup.{Setup}
 use Rattle.receiver.specs.Channels.{channels, keyCount, places, placeOn, Channel, numberOf}
-use Rattle.receiver.specs.Model.{emptySlot, wrapSub, lateStep, late, lastKey, keyOf, indexOf, timerAt}
-use Rattle.receiver.specs.Model.{ranOutOf, takenOf, keptOf, mapAt, sweptSlots, expiredOf, droppedOf, keyPlaces, keysRight, startedOf}
+use Rattle.receiver.specs.Halving.{firstOf, rises}
+use Rattle.receiver.specs.Model.{emptySlot, wrapSub, lateStep, late, keyOf, keysOf, indexOf, timerAt}
+use Rattle.receiver.specs.Model.{ranOutOf, takenOf, keptOf, mapAt, sweptSlots, expiredOf, droppedOf, startedOf}
 use Rattle.receiver.specs.Step.{Event, groundsOf, refusalOf, ruleOf, ours, slotsAfter, toldOf, allAfter, allTold, stepOf}
 use Rattle.isolation.specs.One.{Half, One, Listed, listedIn, accepts, aged, mine, meetOne, heldAfter}
 use Rattle.isolation.specs.Calls.{lastTick, eventEntries, channelIn, callAfter, callAt, leftBy, lost, totalOver, subscribed, named, notOurs, toldTo, laidOut, refusedBy, acceptedBy, groundBy, replyBy}
 use Rattle.isolation.specs.Promises.{Ticks, heldOf, slotIn, replyOf}
 use Rattle.isolation.proofs.Tables.{listed-same}
 use Rattle.isolation.proofs.Places.{number-lt, timerIn, timer-at}
-use Rattle.receiver.proofs.Keys.{no-later, own-index, lent-index, low-index}
+use Rattle.receiver.proofs.Halving.{no-later}
+use Rattle.receiver.proofs.Keys.{found, own-index, low-index}
 use Rattle.isolation.proofs.Dropping.{kept-what, expired-half, dropped-half}
 use Rattle.receiver.proofs.Cases.{by-test}
 use Rattle.isolation.proofs.Standing.{placeAt, length-all, missed, told-key, our-said, entries}
 use Rattle.receiver.proofs.Loops.{getD-mapAt}
 use Rattle.receiver.proofs.Entering.{after-snoc}
 use Rattle.isolation.proofs.Isolation.{Good, swept-slot, contentIn, acceptedOf, sweptBy, length-swept, Accepted, accepted, stepped, not-stepped, left-sound, after-keeps}
-use Rattle.isolation.proofs.Beginning.{made, started}
-use Rattle.isolation.proofs.LowKeys.{Low, low-keys}
+use Rattle.isolation.proofs.Beginning.{made, started, started-keys}
 use Rattle.isolation.proofs.Totals.{counted}
 use Rattle.isolation.proofs.Calls.{state, clock-is, good, timer-is, call-is, left-is}
 
 -- ## The places of no subscription stay free
 
 pub record Spare (keys : List ℕ) (r : Receiver) : Type 0 where
-  pub keyed : r .keys ≡ keyPlaces keyCount keys
+  pub keyed : keysOf r ≡ keys
   pub whole : length (r .slots) ≡ places
   pub free : (i : ℕ) → channels * length keys ≤ i → i < places → getD (r .slots) i emptySlot .half ≡ 0
 
-module _ (keys : List ℕ) (few : length keys ≤ keyCount) (right : keysRight keys ≡ true) where
-  unused : (key : ℕ) → key ≤ lastKey → (c : Channel) (i : ℕ) → channels * length keys ≤ i → i < places → i ≡ placeAt (keyPlaces keyCount keys) key c → ⊥
-  unused key k c i a b q =
-      by-test (ltb (indexOf (keyPlaces keyCount keys) key) keyCount)
-      (λ p.
-      let h : indexOf keys key < length keys = ltb-true (indexOf keys key) (length keys) (sym (low-index keyCount keys key few k) ∙ p) in
-      omega (arith, lent-index keyCount keys few right key h, number-lt c))
-      (λ p. omega (arith, ltb-false (indexOf (keyPlaces keyCount keys) key) keyCount p))
+module _ (keys : List ℕ) where
+  -- what is found stands among the keys
+  unused : (key : ℕ) (c : Channel) (i : ℕ) → channels * length keys ≤ i → i < places → i ≡ placeAt keys key c → ⊥
+  unused key c i a b q =
+      by-test (ltb (indexOf keys key) keyCount) (λ p. omega (arith, found keys key (ltb-true (indexOf keys key) keyCount p) .0, number-lt c))
+      (λ p. omega (arith, ltb-false (indexOf keys key) keyCount p))
 
-  free-entries : (now : ℕ) (c : Channel) (i : ℕ) → channels * length keys ≤ i → i < places → (l : List Slot) (xs : List Record) → Low xs
-      → getD (allAfter (keyPlaces keyCount keys) (numberOf c) now l xs) i emptySlot ≡ getD l i emptySlot
+  free-entries : (now : ℕ) (c : Channel) (i : ℕ) → channels * length keys ≤ i → i < places → (l : List Slot) (xs : List Record)
+      → getD (allAfter keys (numberOf c) now l xs) i emptySlot ≡ getD l i emptySlot
   unfolding allAfter
-  free-entries now c i a b l [] w = refl
-  free-entries now c i a b l (x ∷ xs) w =
-      free-entries now c i a b (slotsAfter (keyPlaces keyCount keys) (numberOf c) now l x) xs (w .1)
-      ∙ missed (keyPlaces keyCount keys) now (numberOf c) i l x (unused (keyOf (x .call)) (w .0) c i a b)
+  free-entries now c i a b l [] = refl
+  free-entries now c i a b l (x ∷ xs) =
+      free-entries now c i a b (slotsAfter keys (numberOf c) now l x) xs ∙ missed keys now (numberOf c) i l x (unused (keyOf (x .call)) c i a b)
 
   free-swept : (r : Receiver) (now : ℕ) (rule : Rule) (i : ℕ) → i < length (r .slots) → getD (r .slots) i emptySlot .half ≡ 0
       → getD (sweptSlots r now rule) i emptySlot .half ≡ 0
@@ -75,12 +73,12 @@ module _ (keys : List ℕ) (few : length keys ≤ keyCount) (right : keysRight k
   spare-step r e k a p =
       record {
         keyed = p .keyed;
-        whole = length-all (r .keys) (e .tick) (numberOf (contentIn e .channel)) (sweptBy r e) (contentIn e .entries) ∙ length-swept r (e .tick) (ruleOf r e) (p .whole);
+        whole = length-all (keysOf r) (e .tick) (numberOf (contentIn e .channel)) (sweptBy r e) (contentIn e .entries) ∙ length-swept r (e .tick) (ruleOf r e) (p .whole);
         free =
             λ i x y.
             ap (λ (s : Slot). s .half)
             (ap (λ (ks : List ℕ). getD (allAfter ks (numberOf (contentIn e .channel)) (e .tick) (sweptBy r e) (contentIn e .entries)) i emptySlot) (p .keyed)
-            ∙ free-entries (e .tick) (contentIn e .channel) i x y (sweptBy r e) (contentIn e .entries) (low-keys (e .happening) (a .allowed)))
+            ∙ free-entries (e .tick) (contentIn e .channel) i x y (sweptBy r e) (contentIn e .entries))
             ∙ free-swept r (e .tick) (ruleOf r e) i (rw (p .whole) y) (p .free i x y);
       }
 
@@ -106,13 +104,13 @@ module _ (s : Setup) (keys : List ℕ) (t : s .tick < 4294967296) (z : startedOf
   few : length keys ≤ keyCount
   few = made s keys z .few
 
-  right : keysRight keys ≡ true
-  right = made s keys z .keyed
+  right : rises keys ≡ true
+  right = made s keys z .rising
 
   spare : Spare keys r
   spare =
-      after-keeps (Spare keys) (spare-step keys few right) (started s keys)
-      (record { keyed = refl; whole = length-replicate places emptySlot; free = λ i x y. ap (λ (u : Slot). u .half) (getD-replicate places i emptySlot emptySlot y) })
+      after-keeps (Spare keys) (spare-step keys) (started s keys)
+      (record { keyed = started-keys s keys few; whole = length-replicate places emptySlot; free = λ i x y. ap (λ (u : Slot). u .half) (getD-replicate places i emptySlot emptySlot y) })
       es ts
 
   module _ (e : Event) (k : e .tick < 2 ^ 32) (p : accepts (r .tick) e ≡ true) where
@@ -124,7 +122,7 @@ module _ (s : Setup) (keys : List ℕ) (t : s .tick < 4294967296) (z : startedOf
 
     -- ### Counts
 
-    module _ (key : ℕ) (h : indexOf keys key < length keys) (c : Channel) where
+    module _ (key : ℕ) (h : firstOf keys key < length keys) (c : Channel) where
       g : Good key c r
       g = good s keys t z es ts key h c
 
@@ -133,29 +131,29 @@ module _ (s : Setup) (keys : List ℕ) (t : s .tick < 4294967296) (z : startedOf
           ap (λ (o : One). aged (timerIn c r) (wrapSub now (r .tick)) (o .held)) (call-is s keys t z es ts key h c)
           ∙ ap₂ (λ (n m : ℕ). aged n (wrapSub now m) (callAfter s es key c .held)) (timer-is s keys t z es ts key h c) (clock-is s keys t z es ts)
 
-      expired-at : asBit (ranOutOf now (timerAt r (placeAt (r .keys) key c)) (slotIn key c r)) ≡ lost (callAfter s es key c .held) (callAt s es e key c .held)
+      expired-at : asBit (ranOutOf now (timerAt r (placeAt (keysOf r) key c)) (slotIn key c r)) ≡ lost (callAfter s es key c .held) (callAt s es e key c .held)
       expired-at =
-          rw (timer-at r (indexOf (r .keys) key) c)
+          rw (timer-at r (indexOf (keysOf r) key) c)
           (expired-half (r .tick) now (timerIn c r) (slotIn key c r) (g .sound) (g .ticking) k (g .short) (a .short))
           ∙ ap₂ lost (ap (λ (o : One). o .held) (call-is s keys t z es ts key h c)) passed-is
 
-      dropped-at : asBit (takenOf now (timerAt r (placeAt (r .keys) key c)) (ruleOf r e) (placeAt (r .keys) key c) (slotIn key c r))
+      dropped-at : asBit (takenOf now (timerAt r (placeAt (keysOf r) key c)) (ruleOf r e) (placeAt (keysOf r) key c) (slotIn key c r))
           ≡ lost (callAt s es e key c .held) (leftBy s es e key c)
       dropped-at =
-          rw (timer-at r (indexOf (r .keys) key) c)
-          (dropped-half (r .tick) now (timerIn c r) (slotIn key c r) (g .sound) (g .ticking) k (g .short) (a .short) (ruleOf r e) (placeAt (r .keys) key c))
+          rw (timer-at r (indexOf (keysOf r) key) c)
+          (dropped-half (r .tick) now (timerIn c r) (slotIn key c r) (g .sound) (g .ticking) k (g .short) (a .short) (ruleOf r e) (placeAt (keysOf r) key c))
           ∙ ap₂ lost passed-is (ap (heldOf now) (sym (swept-slot key c r g now (ruleOf r e))) ∙ left-is s keys t z es ts key h c e k p)
 
     -- the j-th key on a channel
     module _ (j : ℕ) (w : j < length keys) where
-      in-keys : indexOf keys (getD keys j 0) < length keys
+      in-keys : firstOf keys (getD keys j 0) < length keys
       in-keys = omega (arith, no-later keys j 0 w)
 
-      place-is : (q : ℕ) (c : Channel) → q ≡ placeOn j (numberOf c) → q ≡ placeAt (r .keys) (getD keys j 0) c
+      place-is : (q : ℕ) (c : Channel) → q ≡ placeOn j (numberOf c) → q ≡ placeAt (keysOf r) (getD keys j 0) c
       place-is q c u =
           u
           ∙ ap (λ (n : ℕ). placeOn n (numberOf c))
-          (sym (ap (λ (ks : List ℕ). indexOf ks (getD keys j 0)) (spare .keyed) ∙ own-index keyCount keys few right j 0 w))
+          (sym (ap (λ (ks : List ℕ). indexOf ks (getD keys j 0)) (spare .keyed) ∙ own-index keys right j w))
 
     enough : channels * length keys ≤ length (r .slots)
     enough = omega (arith, few, spare .whole)
@@ -184,54 +182,51 @@ module _ (s : Setup) (keys : List ℕ) (t : s .tick < 4294967296) (z : startedOf
     c = channelIn e
 
     abbrev slotsThen : List Record → List Slot
-    slotsThen earlier = allAfter (r .keys) (numberOf c) now (sweptBy r e) earlier
+    slotsThen earlier = allAfter (keysOf r) (numberOf c) now (sweptBy r e) earlier
 
-    told-ours : (earlier : List Record) (x : Record) → indexOf keys (keyOf (x .call)) < length keys
-        → toldOf (r .keys) (numberOf c) now (slotsThen earlier) x
+    told-ours : (earlier : List Record) (x : Record) → firstOf keys (keyOf (x .call)) < length keys
+        → toldOf (keysOf r) (numberOf c) now (slotsThen earlier) x
         ≡ named (keyOf (x .call)) (meetOne c (heldAfter c (leftBy s es e (keyOf (x .call)) c) (mine (keyOf (x .call)) earlier)) x .said)
     told-ours earlier x h =
         let key : ℕ = keyOf (x .call) in
         let y = g key h c in
-        let m = entries (r .keys) now key c (y .keyed) (y .subscribed) (timerIn c r) k (y .long) (sweptBy r e) earlier (length-swept r now (ruleOf r e) (y .places)) (left-sound key c r y e k a) in
-        ap₂ named (told-key (r .keys) now key c (y .keyed) (y .subscribed) (slotsThen earlier) x)
-        (our-said (r .keys) now key c (y .keyed) (y .subscribed) (slotsThen earlier) x (m .sound .half) refl
+        let m = entries (keysOf r) now key c (y .subscribed) (timerIn c r) k (y .long) (sweptBy r e) earlier (length-swept r now (ruleOf r e) (y .places)) (left-sound key c r y e k a) in
+        ap₂ named (told-key (keysOf r) now key c (y .subscribed) (slotsThen earlier) x)
+        (our-said (keysOf r) now key c (y .subscribed) (slotsThen earlier) x (m .sound .half) refl
         ∙ ap (λ (o : Option Half). meetOne c o x .said)
         (m .held ∙ ap (λ (o : Option Half). heldAfter c o (mine key earlier)) (left-is s keys t z es ts key h c e k p)))
 
-    told-one : (earlier : List Record) (x : Record) → keyOf (x .call) ≤ lastKey
-        → toldOf (r .keys) (numberOf c) now (slotsThen earlier) x ≡ toldTo s es e keys earlier x
-    told-one earlier x l =
+    told-one : (earlier : List Record) (x : Record)
+        → toldOf (keysOf r) (numberOf c) now (slotsThen earlier) x ≡ toldTo s es e keys earlier x
+    told-one earlier x =
         by-test (subscribed keys (keyOf (x .call)))
-        (λ q. rw q (told-ours earlier x (ltb-true (indexOf keys (keyOf (x .call))) (length keys) q)))
+        (λ q. rw q (told-ours earlier x (ltb-true (firstOf keys (keyOf (x .call))) (length keys) q)))
         (λ q.
-        rw q (not-ours (r .keys) (numberOf c) now (slotsThen earlier) x
-        (ap (λ (ks : List ℕ). ltb (indexOf ks (keyOf (x .call))) keyCount) (spare .keyed) ∙ low-index keyCount keys (keyOf (x .call)) few l ∙ q)))
+        rw q (not-ours (keysOf r) (numberOf c) now (slotsThen earlier) x
+        (ap (λ (ks : List ℕ). ltb (indexOf ks (keyOf (x .call))) keyCount) (spare .keyed) ∙ low-index keys right (keyOf (x .call)) few ∙ q)))
 
-    told-all : (earlier xs all : List Record) → Low xs → earlier ++ xs ≡ all
-        → allTold (r .keys) (numberOf c) now (slotsThen earlier) xs ≡ mapAt (λ i x. toldTo s es e keys (take i all) x) (length earlier) xs
+    told-all : (earlier xs all : List Record) → earlier ++ xs ≡ all
+        → allTold (keysOf r) (numberOf c) now (slotsThen earlier) xs ≡ mapAt (λ i x. toldTo s es e keys (take i all) x) (length earlier) xs
     unfolding allTold
-    told-all earlier [] all w q = refl
-    told-all earlier (x ∷ xs) all w q =
+    told-all earlier [] all q = refl
+    told-all earlier (x ∷ xs) all q =
         ap₂ (λ (y : Told) (ys : List Told). y ∷ ys)
-        (told-one earlier x (w .0)
+        (told-one earlier x
         ∙ ap (λ (l : List Record). toldTo s es e keys l x) (sym (ap (take (length earlier)) (sym q) ∙ take-append-seam earlier (x ∷ xs))))
-        (ap (λ (l : List Slot). allTold (r .keys) (numberOf c) now l xs) (sym (after-snoc (r .keys) (numberOf c) now (sweptBy r e) earlier x))
-        ∙ told-all (earlier ++ (x ∷ [])) xs all (w .1) (append-assoc earlier (x ∷ []) xs ∙ q)
+        (ap (λ (l : List Slot). allTold (keysOf r) (numberOf c) now l xs) (sym (after-snoc (keysOf r) (numberOf c) now (sweptBy r e) earlier x))
+        ∙ told-all (earlier ++ (x ∷ [])) xs all (append-assoc earlier (x ∷ []) xs ∙ q)
         ∙ ap (λ (n : ℕ). mapAt (λ i y. toldTo s es e keys (take i all) y) n xs) (omega (arith, length-append earlier (x ∷ []))))
 
     -- the receiver's table of what is in an event says the same as the calls' own
     same-list : _≡_ {A = Listed} (record { channel = contentIn e .channel; entries = contentIn e .entries }) (listedIn (e .happening))
     same-list = sym (listed-same (e .happening))
 
-    low-listed : Low (eventEntries e)
-    low-listed = subst (λ (l : Listed). Low (l .entries)) same-list (low-keys (e .happening) (a .allowed))
-
-    told-is : allTold (r .keys) (numberOf (contentIn e .channel)) now (sweptBy r e) (contentIn e .entries)
+    told-is : allTold (keysOf r) (numberOf (contentIn e .channel)) now (sweptBy r e) (contentIn e .entries)
         ≡ mapAt (λ i x. toldTo s es e keys (take i (eventEntries e)) x) 0 (eventEntries e)
     unfolding allAfter
     told-is =
-        ap (λ (l : Listed). allTold (r .keys) (numberOf (l .channel)) now (sweptBy r e) (l .entries)) same-list
-        ∙ told-all [] (eventEntries e) (eventEntries e) low-listed refl
+        ap (λ (l : Listed). allTold (keysOf r) (numberOf (l .channel)) now (sweptBy r e) (l .entries)) same-list
+        ∙ told-all [] (eventEntries e) (eventEntries e) refl
 
     pub accepted-reply : replyOf (stepOf r e) ≡ acceptedBy s es e keys
     accepted-reply =

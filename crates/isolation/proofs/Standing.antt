@@ -4,7 +4,6 @@ use mathlib.Core.Bool.{true, false}
 use mathlib.Core.List.{List, [], _∷_}
 use mathlib.Core.Option.{Option}
 use Prim.Native.Nat.{ℕ, _^_, _≤_, _<_}
-use native.Mathlib.Omega.{arith}
 use lib.Dec.{eqb}
 use lib.ListN.{length, getD, length-set}
 use lib.Seq.{getD-set-same, getD-set-other}
@@ -59,13 +58,13 @@ module _ (keys : List ℕ) (now : ℕ) where
         other-channel d n (slotsAfter keys (numberOf d) now l e) es
         ∙ missed (numberOf d) (placeAt keys key c) l e (λ p. n (same-side (indexOf keys key) (indexOf keys (keyOf (e .call))) c d p))
 
-    module _ (keyed : length keys ≡ keyCount) (subscribed : indexOf keys key < keyCount) where
+    module _ (subscribed : indexOf keys key < keyCount) where
       -- an entry under another key
       other-key : (l : List Slot) (e : Record) → (keyOf (e .call) ≡ key → ⊥)
           → getD (slotsAfter keys (numberOf c) now l e) (placeAt keys key c) emptySlot ≡ getD l (placeAt keys key c) emptySlot
       other-key l e n =
           missed (numberOf c) (placeAt keys key c) l e
-          (λ p. n (sym (same-index keys key (keyOf (e .call)) (omega arith) (same-place (indexOf keys key) (indexOf keys (keyOf (e .call))) c c p))))
+          (λ p. n (sym (same-index keys key (keyOf (e .call)) subscribed (same-place (indexOf keys key) (indexOf keys (keyOf (e .call))) c c p))))
 
       -- an entry under the key
       our-slot : (l : List Slot) (e : Record) → length l ≡ places → keyOf (e .call) ≡ key

@@ -1,5 +1,5 @@
 -- The answer to an event, put together from the receivers of the single calls. Written apart from the receiver, as One is: no place, no sweep and no step of it
--- is used. Beside what One shares with the receiver: the timer of a channel (byChannel), the subscribed keys (indexOf), and how an answer
+-- is used. Beside what One shares with the receiver: the timer of a channel (byChannel), the subscribed keys (firstOf), and how an answer
 -- is laid out (Told, noTold). Assumes nothing.
 use mathlib.Core.List.{List, [], _∷_}
 use mathlib.Core.Bool.{Bool}
@@ -15,7 +15,8 @@ use Rattle.receiver.specs.declared.Record.{Record}
 use Rattle.receiver.specs.declared.Told.{Told}
 use Rattle.receiver.specs.declared.Setup.{Setup}
 use Rattle.receiver.specs.Channels.{Channel, everyChannel, byChannel}
-use Rattle.receiver.specs.Model.{noRecord, keyOf, indexOf, mapAt}
+use Rattle.receiver.specs.Halving.{firstOf}
+use Rattle.receiver.specs.Model.{noRecord, keyOf, mapAt}
 use Rattle.receiver.specs.Step.{Event, groundsOf, noTold}
 use Rattle.isolation.specs.One.{Half, One, Said, mine, listedIn, sightOf, stepBetween, accepts, seen, meetOne, heldAfter, spared, passed, oneAfter, fresh}
 
@@ -50,7 +51,7 @@ abbrev pub totalOver : (ℕ → Channel → ℕ) → List ℕ → ℕ
 totalOver f keys = sumOver (λ key. sumOver (f key) everyChannel) keys
 
 abbrev pub subscribed : List ℕ → ℕ → Bool
-subscribed keys key = ltb (indexOf keys key) (length keys)
+subscribed keys key = ltb (firstOf keys key) (length keys)
 
 abbrev pub notOurs : Said
 notOurs = record { number = 0; told = noRecord }

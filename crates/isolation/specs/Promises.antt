@@ -20,7 +20,8 @@ use Rattle.receiver.specs.declared.Told.{Told}
 use Rattle.receiver.specs.declared.Answer.{Answer}
 use Rattle.receiver.specs.declared.Setup.{Setup}
 use Rattle.receiver.specs.Channels.{placeOn, Channel, onPch, numberOf}
-use Rattle.receiver.specs.Model.{noRecord, emptySlot, wrapSub, keyOf, indexOf, isHeld, sweptSlots, isCiphered, agree, joinedOf, keep, startedOf}
+use Rattle.receiver.specs.Halving.{firstOf}
+use Rattle.receiver.specs.Model.{noRecord, emptySlot, wrapSub, keyOf, keysOf, indexOf, isHeld, sweptSlots, isCiphered, agree, joinedOf, keep, startedOf}
 use Rattle.receiver.specs.Step.{Event, Happening, heardNch, heardFacch, heardPch, joins, moves, passes, refusalOf, ruleOf, stepOf}
 use Rattle.isolation.specs.One.{kindOn, Which, theFirst, theSecond, Half, One, Said, Seen, seen, sees, sightOf, heldAfter, spared, passed, stepSaid, runOne, runEach, oneAfter, fresh, hears}
 use Rattle.isolation.specs.Calls.{timerOf, notOurs, lastTick, Reply, replyBy, channelIn}
@@ -59,7 +60,7 @@ No-call-disturbs-another =
     → s .tick < 4294967296
     → startedOf s keys .refusal .number ≡ 0
     → (key : ℕ)
-    → indexOf keys key < length keys
+    → firstOf keys key < length keys
     → (c : Channel) (es : List Event)
     → Ticks es
     → answers key c (startedOf s keys .receiver) es ≡ runOne key c (timerOf c s) fresh (seen key c (s .tick) es)
@@ -71,7 +72,7 @@ No-call-disturbs-another-at-any-event =
     → s .tick < 4294967296
     → startedOf s keys .refusal .number ≡ 0
     → (key : ℕ)
-    → indexOf keys key < length keys
+    → firstOf keys key < length keys
     → (c : Channel) (es : List Event)
     → Ticks es
     → answersEach key c (startedOf s keys .receiver) es ≡ runEach key c (timerOf c s) fresh (s .tick) es
@@ -183,7 +184,7 @@ abbrev pub heldOf : ℕ → Slot → Option Half
 heldOf now s = halfOf (s .half) (wrapSub now (s .since)) (s .«record»)
 
 abbrev pub slotIn : ℕ → Channel → Receiver → Slot
-slotIn key c r = getD (r .slots) (placeOn (indexOf (r .keys) key) (numberOf c)) emptySlot
+slotIn key c r = getD (r .slots) (placeOn (indexOf (keysOf r) key) (numberOf c)) emptySlot
 
 -- After any events the place of a call holds what its own receiver holds, and the wrapped difference of the ticks is the sum of the accepted steps.
 abbrev pub The-wrapped-difference-is-the-sum : Type 0
@@ -192,7 +193,7 @@ The-wrapped-difference-is-the-sum =
     → s .tick < 4294967296
     → startedOf s keys .refusal .number ≡ 0
     → (key : ℕ)
-    → indexOf keys key < length keys
+    → firstOf keys key < length keys
     → (c : Channel) (es : List Event)
     → Ticks es
     → heldOf (after (startedOf s keys .receiver) es .tick) (slotIn key c (after (startedOf s keys .receiver) es))
@@ -267,7 +268,7 @@ A-call-joins-exactly-when =
     → s .tick < 4294967296
     → startedOf s keys .refusal .number ≡ 0
     → (key : ℕ)
-    → indexOf keys key < length keys
+    → firstOf keys key < length keys
     → (c : Channel) (es : List Event)
     → Ticks es
     → (e : Event)
@@ -379,8 +380,8 @@ At-most-one-PCH-half-is-held =
     → (es : List Event)
     → Ticks es
     → (a b : ℕ)
-    → indexOf keys a < length keys
-    → indexOf keys b < length keys
+    → firstOf keys a < length keys
+    → firstOf keys b < length keys
     → isHeld (slotIn a onPch (after (startedOf s keys .receiver) es)) ≡ true
     → isHeld (slotIn b onPch (after (startedOf s keys .receiver) es)) ≡ true
     → a ≡ b

@@ -23,7 +23,7 @@ use Rattle.receiver.specs.Model.{noRecord, emptySlot, remade, withSlots}
 use Rattle.receiver.specs.Step.{mostEntries, noTold}
 use Rattle.receiver.proofs.Cases.{by-test}
 use Rattle.layout.specs.Octets.{leAt, flagAt, lowOctets, tabulate}
-use Rattle.layout.specs.Layout.{tickFrom, timersFrom, cellFrom, markFrom, keysFrom, kindsFrom, recordSize, answerFrom, toldLength, stateLength, recordAt, entryFlags, messageFlags, smallNumbers, wideOctets, recordOctets, kindPlace, sincePlace, recordPlace, slotNo, keyNo, cellAt, cellOctets, decodeOf, putSlot, toldPlace, carries, toldNo, lastOf, putNumber, putCarried, putTold, putHead}
+use Rattle.layout.specs.Layout.{tickFrom, timersFrom, cellFrom, countFrom, keysFrom, kindsFrom, recordSize, answerFrom, toldLength, stateLength, recordAt, entryFlags, messageFlags, smallNumbers, wideOctets, recordOctets, kindPlace, sincePlace, recordPlace, slotNo, keyNo, cellAt, cellOctets, decodeOf, putSlot, toldPlace, carries, toldNo, lastOf, putNumber, putCarried, putTold, putHead}
 use Rattle.layout.proofs.Numbers.{length-octets, le-ext, le-stored, le-alone, le-before, le-set, length-table, getD-table, table-ext, table-set}
 use Rattle.layout.proofs.Wide.{Wide, wide-none}
 
@@ -217,12 +217,12 @@ keys-same l l′ e =
     table-ext (keyNo l′) (keyNo l) 0 keyCount
     (λ i a b. le-ext 4 l′ l (keysFrom + 4 * i) (keysFrom + 4 * i) (λ m x. e (keysFrom + 4 * i + m) (omega arith) (omega arith)))
 
-pub cell-same : (l l′ : List ℕ) → ((j : ℕ) → cellFrom ≤ j → j < markFrom → getD l′ j 0 ≡ getD l j 0) → cellAt l′ ≡ cellAt l
+pub cell-same : (l l′ : List ℕ) → ((j : ℕ) → cellFrom ≤ j → j < countFrom → getD l′ j 0 ≡ getD l j 0) → cellAt l′ ≡ cellAt l
 cell-same l l′ e = λ i. record { nln = e cellFrom (omega arith) (omega arith) i }
 
-pub same-receiver : (a b : Receiver) → a .slots ≡ b .slots → a .keys ≡ b .keys → a .tick ≡ b .tick → a .t3206 ≡ b .t3206 → a .t3208 ≡ b .t3208
+pub same-receiver : (a b : Receiver) → a .slots ≡ b .slots → a .keys ≡ b .keys → a .keycount ≡ b .keycount → a .tick ≡ b .tick → a .t3206 ≡ b .t3206 → a .t3208 ≡ b .t3208
     → a .t3210 ≡ b .t3210 → a .cell ≡ b .cell → a ≡ b
-same-receiver a b p q r t u v w = λ i. record { slots = p i; keys = q i; tick = r i; t3206 = t i; t3208 = u i; t3210 = v i; cell = w i }
+same-receiver a b p q n r t u v w = λ i. record { slots = p i; keys = q i; keycount = n i; tick = r i; t3206 = t i; t3208 = u i; t3210 = v i; cell = w i }
 
 -- the same slots and keys, and the same octets before the keys
 like-receiver : (l l′ : List ℕ) (ss : List Slot) → tabulate (slotNo l′) 0 places ≡ ss → ((j : ℕ) → j < kindsFrom → getD l′ j 0 ≡ getD l j 0)
@@ -230,7 +230,7 @@ like-receiver : (l l′ : List ℕ) (ss : List Slot) → tabulate (slotNo l′) 
 unfolding decodeOf
 like-receiver l l′ ss p e =
     let b : (n : ℕ) → n + 4 ≤ cellFrom → leAt 4 l′ n ≡ leAt 4 l n = λ n h. le-ext 4 l′ l n n (λ m x. e (n + m) (omega arith)) in
-    same-receiver (decodeOf l′) (withSlots (decodeOf l) ss) p (keys-same l l′ (λ j x y. e j y)) (b tickFrom (omega arith)) (b timersFrom (omega arith))
+    same-receiver (decodeOf l′) (withSlots (decodeOf l) ss) p (keys-same l l′ (λ j x y. e j y)) (e countFrom (omega arith)) (b tickFrom (omega arith)) (b timersFrom (omega arith))
     (b (timersFrom + 4) (omega arith)) (b (timersFrom + 8) (omega arith)) (cell-same l l′ (λ j x y. e j (omega arith)))
 
 -- all octets but those of place i
@@ -284,6 +284,10 @@ slots-length l = length-table (slotNo l) 0 places
 pub keys-length : (l : List ℕ) → length (decodeOf l .keys) ≡ keyCount
 unfolding decodeOf
 keys-length l = length-table (keyNo l) 0 keyCount
+
+pub keycount-of : (l : List ℕ) → decodeOf l .keycount ≡ getD l countFrom 0
+unfolding decodeOf
+keycount-of l = refl
 
 pub half-of : (l : List ℕ) (i : ℕ) → slotNo l i .half ≡ getD l (kindPlace i) 0
 unfolding slotNo
@@ -474,8 +478,8 @@ told-same l j t n h lt b w z =
 
 -- ## The tick, what is known of the cell, and the answer's numbers
 
--- the cell's octets stand before the mark, and read back
-pub cell-fits : (c : Cell) → cellFrom + length (cellOctets c) ≤ markFrom
+-- the cell's octets stand before the number of keys, and read back
+pub cell-fits : (c : Cell) → cellFrom + length (cellOctets c) ≤ countFrom
 cell-fits c = omega arith
 
 pub cell-back : (l : List ℕ) (c : Cell) → keysFrom ≤ length l → cellAt (stored l cellFrom (cellOctets c)) ≡ c
@@ -501,7 +505,7 @@ module _ (l : List ℕ) (tick : ℕ) (cell : Cell) (x d n : ℕ) where
   unfolding putHead
   length-head = length-stored celled answerFrom counts ∙ length-celled
 
-  pub head-elsewhere : (j : ℕ) → timersFrom ≤ j → (cellFrom ≤ j → markFrom ≤ j) → (answerFrom ≤ j → answerFrom + 12 ≤ j)
+  pub head-elsewhere : (j : ℕ) → timersFrom ≤ j → (cellFrom ≤ j → countFrom ≤ j) → (answerFrom ≤ j → answerFrom + 12 ≤ j)
       → getD (putHead l tick cell x d n) j 0 ≡ getD l j 0
   unfolding putHead
   head-elsewhere j a p q =
@@ -535,6 +539,7 @@ module _ (l : List ℕ) (tick : ℕ) (cell : Cell) (x d n : ℕ) where
       same-receiver (decodeOf k) (remade (decodeOf l) (decodeOf l .slots) tick cell)
       (slots-same l k (λ j a b. head-elsewhere j (omega arith) (λ q. omega arith) (λ q. omega arith)))
       (keys-same l k (λ j a b. head-elsewhere j (omega arith) (λ q. omega arith) (λ q. omega arith)))
+      (head-elsewhere countFrom (omega arith) (λ q. omega arith) (λ q. omega arith))
       (head-tick m lt) (timer timersFrom (omega arith) (omega arith)) (timer (timersFrom + 4) (omega arith) (omega arith)) (timer (timersFrom + 8) (omega arith) (omega arith))
       (head-cell m)
 

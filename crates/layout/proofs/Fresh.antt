@@ -6,7 +6,8 @@ use Prim.Native.Nat.{ℕ, zero, suc, _+_, _*_, _≤_, _<_}
 use native.Mathlib.Nat.{add-zero, zero-add}
 use native.Mathlib.Omega.{arith}
 use lib.Dec.{ltb, lit<}
-use lib.ListN.{length, getD, replicate, length-append, length-replicate}
+use lib.ListN.{length, getD, set, replicate, length-append, length-set, length-replicate}
+use lib.Seq.{getD-set-same, getD-set-other}
 use borrow.Author.Tests.{le-ltb, eq-eqb}
 use Rattle.bits.specs.Field.{pick}
 use Rattle.arrays.specs.Runs.{stored}
@@ -16,9 +17,9 @@ use Rattle.receiver.specs.Channels.{keyCount, places}
 use Rattle.receiver.specs.Model.{emptySlot, noCell, newReceiver, keyPlaces}
 use Rattle.receiver.specs.Step.{mostEntries, noTold}
 use Rattle.layout.specs.Octets.{leAt, lowOctets, tabulate}
-use Rattle.layout.specs.Layout.{tickFrom, cellFrom, markFrom, keysFrom, kindsFrom, answerFrom, stateLength, markOctets, isMarked, kindPlace, slotNo, keyNo, cellAt, cellOctets, decodeOf, toldNo, lastOf, keysOctets, freshOctets}
+use Rattle.layout.specs.Layout.{tickFrom, cellFrom, countFrom, markFrom, keysFrom, kindsFrom, answerFrom, stateLength, markOctets, isMarked, kindPlace, slotNo, keyNo, cellAt, cellOctets, decodeOf, toldNo, lastOf, keysOctets, freshOctets}
 use Rattle.layout.specs.Setup.{noAnswer}
-use Rattle.layout.proofs.Numbers.{length-octets, le-ext, le-zero, le-alone, le-before, table-ext, table-same, table-list}
+use Rattle.layout.proofs.Numbers.{length-octets, le-ext, le-zero, le-alone, le-before, le-set, table-ext, table-same, table-list}
 use Rattle.layout.proofs.Decoding.{field, cell-same, same-receiver, slot-empty, cell-fits, cell-back}
 
 -- ## The keys
@@ -73,8 +74,11 @@ module _ (z : List ℕ) (s : Setup) (keys : List ℕ) where
   abbrev celled : List ℕ
   celled = stored timed cellFrom (cellOctets noCell)
 
+  abbrev counted : List ℕ
+  counted = set celled countFrom (length keys)
+
   abbrev marked : List ℕ
-  marked = stored celled markFrom markOctets
+  marked = stored counted markFrom markOctets
 
   abbrev written : List ℕ
   written = keysOctets (keyPlaces keyCount keys)
@@ -85,8 +89,11 @@ module _ (z : List ℕ) (s : Setup) (keys : List ℕ) where
   length-celled : length celled ≡ length z
   length-celled = length-stored timed cellFrom (cellOctets noCell) ∙ length-stored z tickFrom times
 
+  length-counted : length counted ≡ length z
+  length-counted = length-set celled countFrom (length keys) ∙ length-celled
+
   length-marked : length marked ≡ length z
-  length-marked = length-stored celled markFrom markOctets ∙ length-celled
+  length-marked = length-stored counted markFrom markOctets ∙ length-counted
 
   length-times : tickFrom + length times ≡ cellFrom
   length-times = simp (length-append, length-octets)
@@ -101,13 +108,14 @@ module _ (z : List ℕ) (s : Setup) (keys : List ℕ) where
   mark-on m =
       le-before 4 marked keysFrom written markFrom (omega arith)
       ∙ le-ext 4 marked markOctets markFrom 0
-      (λ i h. stored-in celled markFrom markOctets i (omega (arith, length-celled)) (omega arith) ∙ ap (λ (k : ℕ). getD markOctets k 0) (sym (zero-add i)))
+      (λ i h. stored-in counted markFrom markOctets i (omega (arith, length-counted)) (omega arith) ∙ ap (λ (k : ℕ). getD markOctets k 0) (sym (zero-add i)))
 
   module _ (o : (j : ℕ) → getD z j 0 ≡ 0) where
     behind : (j : ℕ) → kindsFrom ≤ j → getD fresh j 0 ≡ 0
     behind j h =
         stored-after marked keysFrom written j (omega (arith, length-written))
-        ∙ stored-after celled markFrom markOctets j (omega arith)
+        ∙ stored-after counted markFrom markOctets j (omega arith)
+        ∙ getD-set-other celled countFrom j (length keys) 0 (λ e. omega arith)
         ∙ stored-after timed cellFrom (cellOctets noCell) j (omega (arith, cell-fits noCell))
         ∙ stored-after z tickFrom times j (omega (arith, length-times))
         ∙ o j
@@ -127,7 +135,8 @@ module _ (z : List ℕ) (s : Setup) (keys : List ℕ) where
           → leAt 4 fresh (tickFrom + k) ≡ x
       time-on x p q k n e u v w lt =
           le-before 4 marked keysFrom written (tickFrom + k) (omega arith)
-          ∙ le-before 4 celled markFrom markOctets (tickFrom + k) (omega arith)
+          ∙ le-before 4 counted markFrom markOctets (tickFrom + k) (omega arith)
+          ∙ le-set 4 celled countFrom (length keys) (tickFrom + k) (λ e. omega arith)
           ∙ le-before 4 timed cellFrom (cellOctets noCell) (tickFrom + k) (omega arith)
           ∙ field times z tickFrom 4 x p q k n e u v (omega arith) lt
 
@@ -141,16 +150,26 @@ module _ (z : List ℕ) (s : Setup) (keys : List ℕ) where
 
       cell-on : cellAt fresh ≡ noCell
       cell-on =
-          cell-same celled fresh (λ j x y. stored-before marked keysFrom written j (omega arith) ∙ stored-before celled markFrom markOctets j (omega arith))
+          cell-same celled fresh
+          (λ j x y.
+          stored-before marked keysFrom written j (omega arith) ∙ stored-before counted markFrom markOctets j (omega arith)
+          ∙ getD-set-other celled countFrom j (length keys) 0 (λ e. omega arith))
           ∙ cell-back timed noCell (rw (length-stored z tickFrom times) (omega arith))
 
+      count-on : getD fresh countFrom 0 ≡ length keys
+      count-on =
+          stored-before marked keysFrom written countFrom (omega arith)
+          ∙ stored-before counted markFrom markOctets countFrom (omega arith)
+          ∙ getD-set-same celled countFrom (length keys) 0 (omega (arith, length-celled))
+
       decode-on : s .tick < 4294967296 → s .t3206 < 4294967296 → s .t3208 < 4294967296 → s .t3210 < 4294967296
-          → decodeOf fresh ≡ newReceiver s (keyPlaces keyCount keys)
+          → decodeOf fresh ≡ newReceiver s (keyPlaces keyCount keys) (length keys)
       unfolding decodeOf
       decode-on u v w x =
-          same-receiver (decodeOf fresh) (newReceiver s (keyPlaces keyCount keys))
+          same-receiver (decodeOf fresh) (newReceiver s (keyPlaces keyCount keys) (length keys))
           (table-same (slotNo fresh) emptySlot 0 places (λ i a b. slot-empty fresh i (behind (kindPlace i) (omega arith))))
           keys-on
+          count-on
           (time-on (s .tick) [] (lowOctets 4 (s .t3206) ++ (lowOctets 4 (s .t3208) ++ lowOctets 4 (s .t3210))) 0 12 refl refl (simp (length-append, length-octets)) refl u)
           (time-on (s .t3206) (lowOctets 4 (s .tick)) (lowOctets 4 (s .t3208) ++ lowOctets 4 (s .t3210)) 4 8 (simp append-assoc) (length-octets 4 _)
           (simp (length-append, length-octets)) refl v)
@@ -181,6 +200,6 @@ module _ (s : Setup) (keys : List ℕ) where
   last-fresh = last-on (replicate stateLength 0) s keys (zeros stateLength)
 
   pub decode-fresh : s .tick < 4294967296 → s .t3206 < 4294967296 → s .t3208 < 4294967296 → s .t3210 < 4294967296 → ((j : ℕ) → getD keys j 0 < 4294967296)
-      → decodeOf (freshOctets s keys) ≡ newReceiver s (keyPlaces keyCount keys)
+      → decodeOf (freshOctets s keys) ≡ newReceiver s (keyPlaces keyCount keys) (length keys)
   unfolding freshOctets
   decode-fresh u v w x b = decode-on (replicate stateLength 0) s keys (zeros stateLength) (length-replicate {A = ℕ} stateLength 0) b u v w x

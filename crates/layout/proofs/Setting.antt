@@ -16,7 +16,7 @@ use Rattle.receiver.specs.Channels.{keyCount}
 use Rattle.receiver.specs.Model.{noCell, newReceiver, keyPlaces, setupRight, startedOf}
 use Rattle.receiver.proofs.Cases.{by-test}
 use Rattle.layout.specs.Octets.{leAt, lowOctets}
-use Rattle.layout.specs.Layout.{tickFrom, timersFrom, cellFrom, markFrom, keysFrom, stateLength, isState, markOctets, isMarked, cellOctets, decodeOf, keysOctets, freshOctets}
+use Rattle.layout.specs.Layout.{tickFrom, timersFrom, cellFrom, countFrom, markFrom, keysFrom, stateLength, isState, layoutNumber, markOctets, isMarked, cellOctets, decodeOf, keysOctets, freshOctets}
 use Rattle.layout.specs.Setup.{setupCode, setupOctets, SetUp}
 use Rattle.layout.proofs.States.{at-state, no-state}
 use Rattle.layout.proofs.Numbers.{length-octets, four-runs}
@@ -95,13 +95,13 @@ module _ (l : List ℕ) (s : Setup) (keys : List ℕ) where
       let b : eqb (setupCode l s keys) 0 ≡ false = ne-eqb (setupCode l s keys) 0 (λ e. z (q ∙ e)) in
       record { number = q; octets = rw b; receiver = λ e. absurd (z e); answer = λ e. absurd (z e) }
 
-  started-right : setupRight s keys ≡ true → newReceiver s (keyPlaces keyCount keys) ≡ startedOf s keys .receiver
+  started-right : setupRight s keys ≡ true → newReceiver s (keyPlaces keyCount keys) (length keys) ≡ startedOf s keys .receiver
   unfolding startedOf
   started-right p = rw p
 
   pub set-accepted : length l ≡ stateLength
       → setupRight s keys ≡ true
-      → decodeOf (freshOctets s keys) ≡ newReceiver s (keyPlaces keyCount keys)
+      → decodeOf (freshOctets s keys) ≡ newReceiver s (keyPlaces keyCount keys) (length keys)
       → SetUp l s keys (freshOctets s keys) 0
   unfolding setupOctets
   set-accepted w p d =
@@ -130,11 +130,14 @@ module _ (l : List ℕ) (s : Setup) (keys : List ℕ) where
   set-length left u = ap length (set-fresh left 0 u refl) ∙ length-fresh s keys
 
 -- the mark as a number
-mark-number : leAt 4 markOctets 0 ≡ 21710913
+abbrev markNumber : ℕ
+markNumber = 65 + 256 * (72 + 256 * (75 + 256 * layoutNumber))
+
+mark-number : leAt 4 markOctets 0 ≡ markNumber
 unfolding leAt
 mark-number = refl
 
-mark-written : lowOctets 4 21710913 ≡ markOctets
+mark-written : lowOctets 4 markNumber ≡ markOctets
 unfolding lowOctets
 mark-written = refl
 
@@ -142,7 +145,7 @@ pub mark-wrong : (l : List ℕ) → (length l ≡ stateLength → ⊥) → false
 unfolding isMarked
 mark-wrong l z = rw (ne-eqb (length l) stateLength z)
 
-pub mark-right : (l : List ℕ) → length l ≡ stateLength → (x : ℕ) → x ≡ leAt 4 l markFrom → eqb x 21710913 ≡ isMarked l
+pub mark-right : (l : List ℕ) → length l ≡ stateLength → (x : ℕ) → x ≡ leAt 4 l markFrom → eqb x markNumber ≡ isMarked l
 unfolding isMarked
 mark-right l w x e =
     rw (eq-eqb (length l) stateLength w, mark-number, e)
@@ -154,7 +157,7 @@ pub filled : (s : Setup) (keys z a b c d m e : List ℕ)
     → b ≡ stored a timersFrom (lowOctets 4 (s .t3206))
     → c ≡ stored b (timersFrom + 4) (lowOctets 4 (s .t3208))
     → d ≡ stored c (timersFrom + 8) (lowOctets 4 (s .t3210))
-    → m ≡ stored (set d cellFrom (noCell .nln)) markFrom (lowOctets 4 21710913)
+    → m ≡ stored (set (set d cellFrom (noCell .nln)) countFrom (length keys)) markFrom (lowOctets 4 markNumber)
     → e ≡ stored m keysFrom (keysOctets (keyPlaces keyCount keys))
     → e ≡ freshOctets s keys
 unfolding freshOctets
@@ -169,5 +172,6 @@ filled s keys z a b c d m e pz pa pb pc pd pm pe =
     in
     pe
     ∙ ap (λ (l : List ℕ). stored l keysFrom (keysOctets (keyPlaces keyCount keys)))
-    (pm ∙ ap (stored (set d cellFrom (noCell .nln)) markFrom) mark-written
-    ∙ ap (λ (l : List ℕ). stored l markFrom markOctets) (stored-one d cellFrom (noCell .nln) ∙ ap (λ (l : List ℕ). stored l cellFrom (cellOctets noCell)) times))
+    (pm ∙ ap (stored (set (set d cellFrom (noCell .nln)) countFrom (length keys)) markFrom) mark-written
+    ∙ ap (λ (l : List ℕ). stored (set l countFrom (length keys)) markFrom markOctets)
+    (stored-one d cellFrom (noCell .nln) ∙ ap (λ (l : List ℕ). stored l cellFrom (cellOctets noCell)) times))

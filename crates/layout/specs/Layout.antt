@@ -14,11 +14,11 @@ use Rattle.receiver.specs.declared.Cell.{Cell}
 use Rattle.receiver.specs.declared.Setup.{Setup}
 use Rattle.receiver.specs.declared.Told.{Told}
 use Rattle.receiver.specs.Channels.{channels, keyCount, places}
-use Rattle.receiver.specs.Model.{noRecord, emptySlot, noCell, keyPlaces}
+use Rattle.receiver.specs.Model.{noRecord, emptySlot, noCell, keysOf, keyPlaces}
 use Rattle.receiver.specs.Step.{noTold, mostEntries}
 use Rattle.layout.specs.Octets.{leAt, octetAt, flagAt, lowOctets, tabulate}
 
--- ## What stands where: the tick, the timers, what is known of the cell, the mark of a setup, the keys, three arrays over the places, the answer
+-- ## What stands where: the tick, the timers, what is known of the cell, the number of keys, the mark of a setup, the keys, three arrays over the places, the answer
 
 abbrev pub tickFrom : ℕ
 tickFrom = 0
@@ -30,10 +30,14 @@ timersFrom = tickFrom + 4
 abbrev pub cellFrom : ℕ
 cellFrom = timersFrom + 4 * channels
 
-abbrev pub markFrom : ℕ
-markFrom = cellFrom + 4
+-- what is known of the cell has three octets
+abbrev pub countFrom : ℕ
+countFrom = cellFrom + 3
 
--- cell and mark have eight octets, so that the kinds begin at a multiple of eight
+abbrev pub markFrom : ℕ
+markFrom = countFrom + 1
+
+-- cell, count and mark have eight octets, so that the kinds begin at a multiple of eight
 abbrev pub keysFrom : ℕ
 keysFrom = markFrom + 4
 
@@ -72,7 +76,7 @@ isState l = eqb (length l) stateLength
 
 -- a layout of other octets has another number
 abbrev pub layoutNumber : ℕ
-layoutNumber = 1
+layoutNumber = 2
 
 -- the letters AHK, then the layout's number
 abbrev pub markOctets : List ℕ
@@ -187,6 +191,7 @@ decodeOf l =
     record {
       slots = tabulate (slotNo l) 0 places;
       keys = tabulate (keyNo l) 0 keyCount;
+      keycount = octetAt l countFrom;
       tick = leAt 4 l tickFrom;
       t3206 = leAt 4 l timersFrom;
       t3208 = leAt 4 l (timersFrom + 4);
@@ -194,8 +199,9 @@ decodeOf l =
       cell = cellAt l;
     }
 
+-- the keys that are there: a number of keys above `keyCount` counts as that many
 abbrev pub keysIn : List ℕ → List ℕ
-keysIn l = decodeOf l .keys
+keysIn l = keysOf (decodeOf l)
 
 unfoldable pub putSlot : List ℕ → ℕ → Slot → List ℕ
 putSlot l i s =
@@ -263,6 +269,8 @@ unfoldable pub freshOctets : Setup → List ℕ → List ℕ
 freshOctets s keys =
     stored
     (stored
+    (set
     (stored (stored (replicate stateLength 0) tickFrom (lowOctets 4 (s .tick) ++ (lowOctets 4 (s .t3206) ++ (lowOctets 4 (s .t3208) ++ lowOctets 4 (s .t3210))))) cellFrom (cellOctets noCell))
+    countFrom (length keys))
     markFrom markOctets)
     keysFrom (keysOctets (keyPlaces keyCount keys))

@@ -21,8 +21,11 @@ const TIMERS: usize = TICK + 4;
 
 const CELL: usize = TIMERS + 4 * CHANNELS;
 
-// Cell and mark have eight octets, so that the kinds begin at a multiple of eight.
-const MARK: usize = CELL + 4;
+// What is known of the cell has three octets, the number of keys one.
+const COUNT: usize = CELL + 3;
+
+// Cell, count and mark have eight octets, so that the kinds begin at a multiple of eight.
+const MARK: usize = COUNT + 1;
 
 const KEYS_FROM: usize = MARK + 4;
 
@@ -43,7 +46,7 @@ const TOLDS: usize = ANSWER + 16;
 const TOLD_LENGTH: usize = 16 + RECORD_LENGTH;
 
 // A layout of other octets has another number.
-const LAYOUT_NUMBER: u32 = 1;
+const LAYOUT_NUMBER: u32 = 2;
 
 // The letters AHK and the layout's number, as a number.
 const MARKED: u32 = 65 + 256 * (72 + 256 * (75 + 256 * LAYOUT_NUMBER));

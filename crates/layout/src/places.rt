@@ -9,6 +9,7 @@ ghost use Rattle.receiver.specs.Model.{noRecord, emptySlot, wrapSub, indexOf, s
 ghost use Rattle.layout.specs.Octets.{leAt, octetAt};
 ghost use Rattle.layout.specs.Layout.{tickFrom, stateLength, isState, isPlace, kindPlace, sincePlace, recordPlace, recordAt, keyNo, keysIn, putSlot};
 ghost use Rattle.layout.specs.Sweep.{timerNo};
+use crate::COUNT;
 use crate::KEYS_FROM;
 use crate::KINDS;
 use crate::LENGTH;
@@ -147,29 +148,45 @@ fn wide(i: u32) -> usize
     i as usize
 }
 
-// How many keys there can be, as the pass over them counts.
+// How many keys there can be, as they are counted here.
 const NONE: u32 = Setup::KEYS as u32;
 
-// The first place of a key of 32 bits. All of them are compared, with no branch between them, so that a machine with vectors compares several at once.
-fn first_of(b: &[u8], key: u32) -> u32
+// How many keys there are: what the octet says, and no more than there can be.
+fn key_count(b: &[u8]) -> u32
+    requires { ⌜ length (now b) ≡ stateLength ⌝ }
+    ensures { λ r. ⌜ r ≡ length (keysIn (now (b .entry))) ⌝ }
+{
+    let n = b[COUNT] as u32;
+    if NONE < n { NONE } else { n }
+}
+
+// The place of a key of 32 bits, by halving, in a number of steps that only the number of keys says: what is looked at takes no branch, since none could be foretold. A key that was found
+// is looked at again until the steps are done. Before each step `most` keys are left, or one less; at the end one or none, and a last look says whether the key stands there.
+fn place_in(b: &[u8], key: u32) -> u32
     requires { ⌜ length (now b) ≡ stateLength ⌝ }
     ensures { λ r. ⌜ r ≡ indexOf (keysIn (now (b .entry))) key ⌝ }
 {
-    let mut found: u32 = NONE;
-    let mut i: u32 = 0;
-    while i < NONE {
-        let here = if u32_at(b, KEYS_FROM + 4 * wide(i)) == key {
-            i
-        } else {
-            NONE
-        };
-        found = if here < found { here } else { found };
-        i += 1;
+    let n = key_count(b);
+    let mut start: u32 = 0;
+    let mut end = n;
+    let mut most = n;
+    while 1 < most {
+        let middle = (start + end) / 2;
+        let here = u32_at(b, KEYS_FROM + 4 * wide(middle));
+        let same = if here == key { middle } else { start };
+        end = if here < key { end } else { middle };
+        start = if here < key { middle + 1 } else { same };
+        most /= 2;
     }
-    found
+    if start < n {
+        if u32_at(b, KEYS_FROM + 4 * wide(start)) == key {
+            return start;
+        }
+    }
+    NONE
 }
 
-// The first place of a key among the keys, and their number where it is not there.
+// The place of a key among the keys that are there, by halving, and KEYS where it is not there.
 pub fn index_of(b: &[u8], key: u64) -> usize
     ensures { λ r. ⌜ r ≡ pick (isState (now (b .entry))) (indexOf (keysIn (now (b .entry))) key) keyCount ⌝ }
 {
@@ -179,5 +196,5 @@ pub fn index_of(b: &[u8], key: u64) -> usize
     if 4294967295 < key {
         return Setup::KEYS;
     }
-    wide(first_of(b, narrow(key)))
+    wide(place_in(b, narrow(key)))
 }

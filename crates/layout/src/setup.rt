@@ -1,5 +1,6 @@
 // Setting up: the lent octets become a receiver that holds nothing, whatever they held.
 ghost use mathlib.Core.Path.{_≡_};
+ghost use Prim.Native.Nat.{_≤_};
 ghost use lib.ListN.{length, replicate};
 ghost use Rattle.receiver.specs.Channels.{keyCount};
 ghost use Rattle.receiver.specs.Model.{keyPlaces};
@@ -7,6 +8,7 @@ ghost use Rattle.arrays.specs.Runs.{stored};
 ghost use Rattle.layout.specs.Layout.{stateLength, isMarked, keysFrom, keysOctets, freshOctets};
 ghost use Rattle.layout.specs.Setup.{SetUp};
 use crate::CELL;
+use crate::COUNT;
 use crate::KEYS_FROM;
 use crate::LENGTH;
 use crate::MARK;
@@ -43,7 +45,7 @@ fn put_keys(b: &mut [u8], keys: &[u32])
 }
 
 fn fill(b: &mut [u8], s: Setup, keys: &[u32])
-    requires { ⌜ length (now b) ≡ stateLength ⌝ }
+    requires { ⌜ (length (now b) ≡ stateLength) × (length (now keys) ≤ keyCount) ⌝ }
     ensures { λ _. ⌜ now (b .exit) ≡ freshOctets s (now (keys .entry)) ⌝ }
 {
     zero(b);
@@ -52,6 +54,7 @@ fn fill(b: &mut [u8], s: Setup, keys: &[u32])
     put_u32(b, TIMERS + 4, s.t3208);
     put_u32(b, TIMERS + 8, s.t3210);
     b[CELL] = NO_NLN;
+    b[COUNT] = keys.len() as u8;
     put_u32(b, MARK, MARKED);
     put_keys(b, keys);
 }

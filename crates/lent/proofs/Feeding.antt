@@ -17,7 +17,7 @@ use Rattle.receiver.specs.declared.Told.{Told}
 use Rattle.receiver.specs.declared.Receiver.{Receiver}
 use Rattle.receiver.specs.declared.Rule.{Rule}
 use Rattle.receiver.specs.Channels.{places, numberOf}
-use Rattle.receiver.specs.Model.{noCell, late, expiredOf, droppedOf, sweptSlots, remade, withSlots}
+use Rattle.receiver.specs.Model.{noCell, late, keysOf, expiredOf, droppedOf, sweptSlots, remade, withSlots}
 use Rattle.receiver.specs.Step.{noTold, mostEntries, allAfter, allTold, Event, joins, groundsOf, refusalOf, refusedWith, acceptedAs, stepOf}
 use Rattle.receiver.specs.Step.{Content, contentOf, cellAfter, ruleBy}
 use Rattle.receiver.proofs.Cases.{by-test}
@@ -72,15 +72,15 @@ module _ (l : List ℕ) (now : ℕ) (rule : Rule) (cell : Cell) (ch : ℕ) (es :
       → Accepted l now rule cell ch es (putHead told now cell expired dropped (length es))
   accepted told few x d a =
       let long : length told ≡ stateLength = all-length swept ch now es told a ∙ length-run now rule 0 places l ∙ whole in
-      let ts : List Told = allTold (decodeOf l .keys) ch now (sweptSlots (decodeOf l) now rule) es in
-      let same : allTold (keysIn swept) ch now (decodeOf swept .slots) es ≡ ts = ap (λ (r : Receiver). allTold (r .keys) ch now (r .slots) es) swept-is in
-      let q : length ts ≡ length es = length-all-told (decodeOf l .keys) ch now (sweptSlots (decodeOf l) now rule) es in
+      let ts : List Told = allTold (keysIn l) ch now (sweptSlots (decodeOf l) now rule) es in
+      let same : allTold (keysIn swept) ch now (decodeOf swept .slots) es ≡ ts = ap (λ (r : Receiver). allTold (keysOf r) ch now (r .slots) es) swept-is in
+      let q : length ts ≡ length es = length-all-told (keysIn l) ch now (sweptSlots (decodeOf l) now rule) es in
       record {
         octets = ap (λ (o : List ℕ). putHead o now cell expired dropped (length es)) (a .octets);
         receiver =
             decode-head told now cell expired dropped (length es) long t
             ∙ ap (λ (r : Receiver). remade r (r .slots) now cell)
-            (a .places ∙ ap (λ (r : Receiver). withSlots r (allAfter (r .keys) ch now (r .slots) es)) swept-is);
+            (a .places ∙ ap (λ (r : Receiver). withSlots r (allAfter (keysOf r) ch now (r .slots) es)) swept-is);
         answer =
             last-head told now cell expired dropped (length es) long x d (omega arith)
             ∙ ap (λ (r : List Told). record { expired = expired; dropped = dropped; count = length es; entries = r })

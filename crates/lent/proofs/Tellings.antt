@@ -17,7 +17,7 @@ use Rattle.receiver.specs.declared.Receiver.{Receiver}
 use Rattle.receiver.specs.declared.Told.{Told}
 use Rattle.receiver.specs.declared.Met.{Met}
 use Rattle.receiver.specs.Channels.{channels, keyCount, places, placeOn, leads}
-use Rattle.receiver.specs.Model.{noRecord, emptySlot, keyOf, indexOf, isClear, isWhole, isFirst, isSecond, isBare, classOf, agree, joinedOf, only, complete, storing, meetHalf, meetOf, withSlots}
+use Rattle.receiver.specs.Model.{noRecord, emptySlot, keyOf, keysOf, indexOf, isClear, isWhole, isFirst, isSecond, isBare, classOf, agree, joinedOf, only, complete, storing, meetHalf, meetOf, withSlots}
 use Rattle.receiver.specs.Step.{noTold, mostEntries, slotsAfter, toldOf, allAfter, allTold}
 use Rattle.receiver.proofs.Cases.{by-test}
 use Rattle.layout.specs.Layout.{stateLength, kindPlace, sincePlace, recordPlace, slotNo, decodeOf, putSlot, carries, toldNo, putTold, keysIn}
@@ -282,14 +282,14 @@ module _ (l : List ℕ) (ch now : ℕ) (es : List Record) (e : Record) (left lef
   places-next : decodeOf left′ ≡ withSlots (decodeOf l) (allAfter (keysIn l) ch now (decodeOf l .slots) (es ++ (e ∷ [])))
   places-next =
       q .places
-      ∙ ap (λ (r : Receiver). withSlots r (slotsAfter (r .keys) ch now (r .slots) e)) (p .places)
+      ∙ ap (λ (r : Receiver). withSlots r (slotsAfter (keysOf r) ch now (r .slots) e)) (p .places)
       ∙ ap (withSlots (decodeOf l)) (sym (after-snoc (keysIn l) ch now (decodeOf l .slots) es e))
 
   length-before : length told-before ≡ length es
   length-before = length-all-told (keysIn l) ch now (decodeOf l .slots) es
 
   told-here : toldNo left′ (length es) ≡ toldOf (keysIn l) ch now (allAfter (keysIn l) ch now (decodeOf l .slots) es) e
-  told-here = q .told ∙ ap (λ (r : Receiver). toldOf (r .keys) ch now (r .slots) e) (p .places)
+  told-here = q .told ∙ ap (λ (r : Receiver). toldOf (keysOf r) ch now (r .slots) e) (p .places)
 
   told-next : (j : ℕ) → j < length (es ++ (e ∷ [])) → toldNo left′ j ≡ getD (allTold (keysIn l) ch now (decodeOf l .slots) (es ++ (e ∷ []))) j noTold
   told-next j lt =

@@ -7,7 +7,7 @@ use lib.Dec.{eqb}
 use Rattle.bits.specs.Field.{pick}
 use Rattle.csn1.specs.Told.{codeOf}
 use Rattle.receiver.specs.declared.Setup.{Setup}
-use Rattle.receiver.specs.Model.{indexOf}
+use Rattle.receiver.specs.Halving.{firstOf}
 use Rattle.receiver.specs.Channels.{Channel}
 use Rattle.receiver.specs.Step.{Event, refusalOf}
 use Rattle.isolation.specs.One.{hears, Said, runOne, runEach, seen, fresh}
@@ -52,7 +52,7 @@ No-call-disturbs-another-in-octets =
     → SetUp l s keys left 0
     → s .tick < 4294967296
     → (key : ℕ)
-    → indexOf keys key < length keys
+    → firstOf keys key < length keys
     → (c : Channel) (es : List Event) (run : List Returned)
     → Ticks es
     → Run left es run
@@ -65,7 +65,7 @@ No-call-disturbs-another-at-any-event-in-octets =
     → SetUp l s keys left 0
     → s .tick < 4294967296
     → (key : ℕ)
-    → indexOf keys key < length keys
+    → firstOf keys key < length keys
     → (c : Channel) (es : List Event) (run : List Returned)
     → Ticks es
     → Run left es run

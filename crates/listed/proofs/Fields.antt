@@ -146,7 +146,7 @@ abbrev pub ofSlot : Slot → Nested 1
 ofSlot s = number (s .half) ∷ number (s .since) ∷ ofRecord (s .«record»)
 
 abbrev pub ofReceiver : Receiver → Nested 3
-ofReceiver r = map ofSlot (r .slots) ∷ numbers (r .keys) ∷ numbers (r .tick ∷ r .t3206 ∷ r .t3208 ∷ r .t3210 ∷ r .cell .nln ∷ []) ∷ []
+ofReceiver r = map ofSlot (r .slots) ∷ numbers (r .keys) ∷ numbers (r .tick ∷ r .t3206 ∷ r .t3208 ∷ r .t3210 ∷ r .cell .nln ∷ r .keycount ∷ []) ∷ []
 
 abbrev pub ofAnswer : Answer → Nested 3
 ofAnswer a =

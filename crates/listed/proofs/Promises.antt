@@ -13,7 +13,8 @@ use Rattle.csn1.specs.Format.{readItems, padBit, ground}
 use Rattle.nch.specs.Octets.{notification}
 use Rattle.nch.specs.Told.{readOf}
 use Rattle.nch.specs.Owners.{randomOfCall, randomOfReduced, emergencyOfCall}
-use Rattle.receiver.specs.Model.{late, indexOf, spares, ranOutOf, takenOf, keptOf, sweptSlots, expiredOf, droppedOf, classOf, agree, joinedOf, meetOf, keysRight, setupRight, startedOf}
+use Rattle.receiver.specs.Halving.{soughtIn, halving, rises}
+use Rattle.receiver.specs.Model.{late, spares, ranOutOf, takenOf, keptOf, sweptSlots, expiredOf, droppedOf, classOf, agree, joinedOf, meetOf, allLow, setupRight, startedOf}
 use Rattle.receiver.specs.Entries.{callEntry, reducedEntry, nchEntries}
 use Rattle.receiver.specs.Step.{slotsAfter, toldOf, allAfter, allTold, refusalOf, stepOf}
 use Rattle.gcc.specs.Numeral.{spell, worth}
@@ -25,7 +26,7 @@ use Rattle.listed.proofs.Test.{test, all}
 use Rattle.listed.proofs.Whole.{reading-equal, answer-equal, cause-equal, digits-equal}
 
 every-listed-row-passes : all rows ≡ true
-unfolding notification readItems field bit padBit ground randomOfCall randomOfReduced emergencyOfCall late indexOf spares ranOutOf takenOf keptOf sweptSlots expiredOf droppedOf classOf agree joinedOf meetOf keysRight setupRight startedOf callEntry reducedEntry nchEntries slotsAfter toldOf allAfter allTold refusalOf stepOf cause.readOf cause.parse cause.meaningOf cause.isListed digits.readOf spell worth
+unfolding notification readItems field bit padBit ground randomOfCall randomOfReduced emergencyOfCall late soughtIn halving spares ranOutOf takenOf keptOf sweptSlots expiredOf droppedOf classOf agree joinedOf meetOf allLow rises setupRight startedOf callEntry reducedEntry nchEntries slotsAfter toldOf allAfter allTold refusalOf stepOf cause.readOf cause.parse cause.meaningOf cause.isListed digits.readOf spell worth
 every-listed-row-passes = refl
 
 -- octets of another number than 20 are refusal 1

@@ -233,6 +233,7 @@ answerFrom w =
           record {
             slots = map slotFrom (arrayAt 2 w);
             keys = numbersFrom (aloneAt 3 w);
+            keycount = numberAt 5 (aloneAt 4 w);
             tick = numberAt 0 (aloneAt 4 w);
             t3206 = numberAt 1 (aloneAt 4 w);
             t3208 = numberAt 2 (aloneAt 4 w);

@@ -177,6 +177,7 @@ answerAt now x n m held =
           record {
             slots = held ∷ replicate 149 emptySlot;
             keys = key ∷ replicate 49 noKey;
+            keycount = 1;
             tick = now;
             t3206 = 5000;
             t3208 = 5000;

@@ -24,7 +24,7 @@ use Rattle.receiver.specs.declared.messages.Entries.{Entries}
 use Rattle.receiver.proofs.Accepted.{few, take-padded, length-told}
 use Rattle.receiver.proofs.Loops.{padded-snoc}
 use Rattle.receiver.specs.declared.Answer.{Answer}
-use Rattle.receiver.specs.Model.{noRecord, emptySlot, late, keyOf, indexOf, sweptSlots, expiredOf, droppedOf, meetOf, ruleFor, remade, withSlots}
+use Rattle.receiver.specs.Model.{noRecord, emptySlot, late, keyOf, keysOf, indexOf, sweptSlots, expiredOf, droppedOf, meetOf, ruleFor, remade, withSlots}
 use Rattle.receiver.specs.Step.{mostEntries, entriesIn, Event, Happening, numbering, contentOf, changes, cellAfter, ruleBy, toldOf, slotsAfter, allAfter}
 use Rattle.receiver.specs.Step.{allTold, noTold, groundsOf, refusalOf, refusedWith, acceptedWith, acceptedAs, stepOf}
 
@@ -69,8 +69,8 @@ module _ (keys : List ℕ) (ch now : ℕ) where
 
 -- after i of the entries es: the receiver, and what was told
 pub record Entered (r : Receiver) (ch now : ℕ) (es : List Record) (entries : List Told) (after : Receiver) (i : ℕ) : Type 0 where
-  pub state : after ≡ withSlots r (allAfter (r .keys) ch now (r .slots) (take i es))
-  pub told : entries ≡ padded noTold mostEntries (allTold (r .keys) ch now (r .slots) (take i es))
+  pub state : after ≡ withSlots r (allAfter (keysOf r) ch now (r .slots) (take i es))
+  pub told : entries ≡ padded noTold mostEntries (allTold (keysOf r) ch now (r .slots) (take i es))
 
 module _ (r : Receiver) (ch now : ℕ) (es : List Record) where
   pub entered-begin : (entries : List Told) → entries ≡ padded noTold mostEntries [] → Entered r ch now es entries r 0
@@ -80,20 +80,20 @@ module _ (r : Receiver) (ch now : ℕ) (es : List Record) where
   module _ (entries : List Told) (after : Receiver) (i : ℕ) (w : Entered r ch now es entries after i) where
     -- one more
     pub entered-next : (e : Record) → i < mostEntries → i < length es → e ≡ getD es i noRecord → (t : Told) (a : Receiver)
-        → t ≡ toldOf (after .keys) ch now (after .slots) e → a ≡ withSlots after (slotsAfter (after .keys) ch now (after .slots) e)
+        → t ≡ toldOf (keysOf after) ch now (after .slots) e → a ≡ withSlots after (slotsAfter (keysOf after) ch now (after .slots) e)
         → Entered r ch now es (set entries i t) a (i + 1)
     entered-next e room h g t a et ea =
-        let l : List Slot = allAfter (r .keys) ch now (r .slots) (take i es) in
+        let l : List Slot = allAfter (keysOf r) ch now (r .slots) (take i es) in
         let k : take (i + 1) es ≡ take i es ++ (e ∷ []) = ap (λ (j : ℕ). take j es) (add-one i) ∙ take-suc es i noRecord h ∙ ap (λ (x : Record). take i es ++ (x ∷ [])) (sym g) in
-        let ts : List Told = allTold (r .keys) ch now (r .slots) (take i es) in
-        let n : length ts ≡ i = length-told (r .keys) ch now (r .slots) (take i es) ∙ rw length-take (omega arith) in
+        let ts : List Told = allTold (keysOf r) ch now (r .slots) (take i es) in
+        let n : length ts ≡ i = length-told (keysOf r) ch now (r .slots) (take i es) ∙ rw length-take (omega arith) in
         record {
-          state = rw (ea, w .state, k, after-snoc (r .keys) ch now (r .slots) (take i es) e);
-          told = rw (et, w .state, w .told, k, told-snoc (r .keys) ch now (r .slots) (take i es) e, padded-snoc noTold mostEntries ts (toldOf (r .keys) ch now l e) (omega (arith, n)), n);
+          state = rw (ea, w .state, k, after-snoc (keysOf r) ch now (r .slots) (take i es) e);
+          told = rw (et, w .state, w .told, k, told-snoc (keysOf r) ch now (r .slots) (take i es) e, padded-snoc noTold mostEntries ts (toldOf (keysOf r) ch now l e) (omega (arith, n)), n);
         }
 
     pub entered-all : length es ≤ i
-        → (entries ≡ padded noTold mostEntries (allTold (r .keys) ch now (r .slots) es)) × (after ≡ withSlots r (allAfter (r .keys) ch now (r .slots) es))
+        → (entries ≡ padded noTold mostEntries (allTold (keysOf r) ch now (r .slots) es)) × (after ≡ withSlots r (allAfter (keysOf r) ch now (r .slots) es))
     entered-all h = (rw (take-all i es h) at (w .told), rw (take-all i es h) at (w .state))
 
 -- ## The whole answer
@@ -115,7 +115,7 @@ module _ (r : Receiver) (now ch : ℕ) (cell : Cell) (rule : Rule) (es : List Re
 
   pub accepted-told : {w : Refusal} {x d n : ℕ} {swept : Receiver} {entries : List Told} {after : Receiver} → w ≡ noRefusal
       → swept ≡ withSlots r (sweptSlots r now rule) → x ≡ expiredOf r now (r .slots) → d ≡ droppedOf r now rule → n ≡ length es
-      → entries ≡ padded noTold mostEntries (allTold (swept .keys) ch now (swept .slots) es) → after ≡ withSlots swept (allAfter (swept .keys) ch now (swept .slots) es)
+      → entries ≡ padded noTold mostEntries (allTold (keysOf swept) ch now (swept .slots) es) → after ≡ withSlots swept (allAfter (keysOf swept) ch now (swept .slots) es)
       → whole w x d n entries after ≡ acceptedWith r now rule cell ch es
   accepted-told ew es₀ ex ed en et ea = rw (et, ea, ew, ex, ed, en, es₀)
 

@@ -5,7 +5,7 @@ use Prim.Native.Nat.{ℕ, zero, suc, _+_, _≤_, _<_}
 use native.Mathlib.Nat.{zero-add}
 use native.Mathlib.Numerals.{add-one}
 use native.Mathlib.Omega.{arith}
-use lib.ListN.{length, getD, set, replicate, length-replicate, getD-replicate, List·getD-eq-default}
+use lib.ListN.{length, getD, set, take, replicate, length-replicate, getD-replicate, List·getD-eq-default}
 use Rattle.receiver.specs.Model.{keyPlaces, noKey, mapAt}
 use Rattle.receiver.proofs.Loops.{partAt, part-set, part-keep, part-all}
 
@@ -47,3 +47,9 @@ pub length-keys : (n : ℕ) (l : List ℕ) → length (keyPlaces n l) ≡ n
 length-keys zero l = refl
 length-keys (suc n) [] = ap suc (length-keys n [])
 length-keys (suc n) (k ∷ l) = ap suc (length-keys n l)
+
+-- the keys that are there are those that were lent
+pub keys-there : (n : ℕ) (l : List ℕ) → length l ≤ n → take (length l) (keyPlaces n l) ≡ l
+keys-there n [] h = refl
+keys-there zero (k ∷ l) h = absurd (omega arith)
+keys-there (suc n) (k ∷ l) h = ap (λ (t : List ℕ). k ∷ t) (keys-there n l (omega arith))

@@ -2,9 +2,11 @@ pub mod Refusals
 pub mod Cases
 pub mod Classes
 pub mod Loops
+pub mod Halving
 pub mod Keys
 pub mod KeyPlaces
 pub mod Sweeping
 pub mod MessageEntries
 pub mod Accepted
 pub mod Entering
+pub mod Promises

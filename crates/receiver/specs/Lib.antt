@@ -1,5 +1,7 @@
 pub mod Channels
+pub mod Halving
 pub mod Model
 pub mod Inner
 pub mod Entries
 pub mod Step
+pub mod Promises

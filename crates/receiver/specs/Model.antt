@@ -2,7 +2,7 @@
 use mathlib.Core.List.{List, [], _∷_}
 use mathlib.Core.Bool.{Bool, true, false, not}
 use Prim.Native.Nat.{ℕ, zero, suc, _+_, _-_, _*_, _%_, _^_}
-use lib.ListN.{length, replicate}
+use lib.ListN.{length, replicate, take}
 use lib.Dec.{leb, eqb}
 use Rattle.bits.specs.Field.{both, pick}
 use Rattle.csn1.specs.Format.{noRefusal, ground}
@@ -19,6 +19,7 @@ use Rattle.receiver.specs.declared.Met.{Met}
 use Rattle.receiver.specs.declared.Setup.{Setup}
 use Rattle.receiver.specs.declared.Started.{Started}
 use Rattle.pch.specs.Entry.{lastKey as highestKey}
+use Rattle.receiver.specs.Halving.{halving, rises}
 use Rattle.receiver.specs.Channels.{keyCount, places, sideOf, indexIn, byNumber, asks, leads, Channel, onNch, onFacch, onPch}
 
 -- ## Nothing yet
@@ -79,10 +80,13 @@ noKey = 4294967295
 abbrev pub keyOf : Call → ℕ
 keyOf c = c .reference * 2 + asBit (c .vgcs)
 
--- the first place of a key among the keys, and their number where it is not there
-unfoldable pub indexOf : List ℕ → ℕ → ℕ
-indexOf [] key = 0
-indexOf (k ∷ ks) key = pick (eqb k key) 0 (suc (indexOf ks key))
+-- the keys that are there: the first so many of the key places, all of them where there are not so many
+abbrev pub keysOf : Receiver → List ℕ
+keysOf r = take (r .keycount) (r .keys)
+
+-- the place of a key among keys, by halving, and `keyCount` where it is not there
+abbrev pub indexOf : List ℕ → ℕ → ℕ
+indexOf keys key = halving keys key .at
 
 -- ## What drops a half
 
@@ -239,13 +243,13 @@ meetOf ch now s e =
 
 -- ## Setup
 
-abbrev pub newReceiver : Setup → List ℕ → Receiver
-newReceiver s keys =
-    record { slots = replicate places emptySlot; keys = keys; tick = s .tick; t3206 = s .t3206; t3208 = s .t3208; t3210 = s .t3210; cell = noCell }
+abbrev pub newReceiver : Setup → List ℕ → ℕ → Receiver
+newReceiver s keys n =
+    record { slots = replicate places emptySlot; keys = keys; keycount = n; tick = s .tick; t3206 = s .t3206; t3208 = s .t3208; t3210 = s .t3210; cell = noCell }
 
 -- the receiver with other places, at another tick, with what is known of another cell
 abbrev pub remade : Receiver → List Slot → ℕ → Cell → Receiver
-remade r l now cell = record { slots = l; keys = r .keys; tick = now; t3206 = r .t3206; t3208 = r .t3208; t3210 = r .t3210; cell = cell }
+remade r l now cell = record { slots = l; keys = r .keys; keycount = r .keycount; tick = now; t3206 = r .t3206; t3208 = r .t3208; t3210 = r .t3210; cell = cell }
 
 -- a receiver with other places
 abbrev pub withSlots : Receiver → List Slot → Receiver
@@ -263,10 +267,14 @@ longestTimer = 60000
 abbrev pub isTimer : ℕ → Bool
 isTimer t = both (leb 1 t) (leb t longestTimer)
 
--- none is above the highest, and none comes again
-unfoldable pub keysRight : List ℕ → Bool
-keysRight [] = true
-keysRight (k ∷ ks) = both (leb k lastKey) (both (eqb (indexOf ks k) (length ks)) (keysRight ks))
+-- none is above the highest
+unfoldable pub allLow : List ℕ → Bool
+allLow [] = true
+allLow (k ∷ ks) = both (leb k lastKey) (allLow ks)
+
+-- and each is above the one before it, so that none comes again
+abbrev pub keysRight : List ℕ → Bool
+keysRight keys = both (allLow keys) (rises keys)
 
 unfoldable pub setupRight : Setup → List ℕ → Bool
 setupRight s keys =
@@ -278,8 +286,8 @@ noSetup = record { tick = 0; t3206 = 0; t3208 = 0; t3210 = 0 }
 -- a refused setup is its number alone
 unfoldable pub startedOf : Setup → List ℕ → Started
 startedOf s keys =
-    pick (setupRight s keys) (record { refusal = noRefusal; receiver = newReceiver s (keyPlaces keyCount keys) })
-    (record { refusal = ground 10; receiver = newReceiver noSetup (replicate keyCount noKey) })
+    pick (setupRight s keys) (record { refusal = noRefusal; receiver = newReceiver s (keyPlaces keyCount keys) (length keys) })
+    (record { refusal = ground 10; receiver = newReceiver noSetup (replicate keyCount noKey) 0 })
 
 -- the ready defaults
 abbrev pub readySetup : ℕ → Setup

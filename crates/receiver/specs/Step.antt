@@ -23,7 +23,7 @@ use Rattle.receiver.specs.declared.Move.the-variants.{Reselection, Hando
 use Rattle.receiver.specs.Channels.{keyCount, placeOn, Channel, onNch, onFacch, onPch, numberOf, hasNln, hasPages, drops, forgets}
 use Rattle.receiver.specs.declared.Met.{Met}
 use Rattle.receiver.specs.declared.messages.Entries.{Entries}
-use Rattle.receiver.specs.Model.{noRecord, emptySlot, noNln, lastKey, late, keyOf, indexOf, ruleFor, sweptSlots, expiredOf, droppedOf, meetOf, remade}
+use Rattle.receiver.specs.Model.{noRecord, emptySlot, noNln, lastKey, late, keyOf, keysOf, indexOf, ruleFor, sweptSlots, expiredOf, droppedOf, meetOf, remade}
 use Rattle.receiver.specs.Entries.{nchEntries, facchEntries, pchEntries}
 
 -- ## The entries of a message
@@ -193,7 +193,7 @@ sparing keys (moving m) = keyCount
 sparing keys (numbered n) = keyCount
 
 abbrev pub ruleBy : Receiver → Cause → Rule
-ruleBy r x = ruleFor (taking (r .cell) x) (sparing (r .keys) x)
+ruleBy r x = ruleFor (taking (r .cell) x) (sparing (keysOf r) x)
 
 abbrev pub ruleOf : Receiver → Event → Rule
 ruleOf r e = ruleBy r (contentOf (e .happening) .cause)
@@ -210,8 +210,8 @@ acceptedWith r now rule cell ch es =
       expired = expiredOf r now (r .slots);
       dropped = droppedOf r now rule;
       count = length es;
-      entries = padded noTold mostEntries (allTold (r .keys) ch now (sweptSlots r now rule) es);
-      receiver = remade r (allAfter (r .keys) ch now (sweptSlots r now rule) es) now cell;
+      entries = padded noTold mostEntries (allTold (keysOf r) ch now (sweptSlots r now rule) es);
+      receiver = remade r (allAfter (keysOf r) ch now (sweptSlots r now rule) es) now cell;
     }
 
 abbrev pub acceptedAs : Receiver → ℕ → Content → Answer

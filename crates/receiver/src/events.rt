@@ -5,7 +5,7 @@ ghost use mathlib.Core.Bool.{true};
 ghost use Prim.Native.Nat.{_<_, _≤_};
 ghost use Rattle.bits.specs.Field.{both};
 ghost use Rattle.receiver.specs.Channels.{channels, keyCount, Channel, hasNln, hasPages, drops, forgets};
-ghost use Rattle.receiver.specs.Model.{ruleFor, withSlots};
+ghost use Rattle.receiver.specs.Model.{keysOf, ruleFor, withSlots};
 ghost use lib.ListN.{take};
 ghost use Rattle.csn1.specs.Told.{padded};
 ghost use Rattle.receiver.specs.Step.{mostEntries, noTold, toldOf, slotsAfter, allAfter, allTold, refusedWith, acceptedWith, changes, numbering, moving};
@@ -22,6 +22,7 @@ use crate::Rule;
 use crate::Setup;
 use crate::Told;
 use crate::channels;
+use crate::finding;
 use crate::meeting;
 use crate::messages;
 use crate::messages::Entries;
@@ -46,12 +47,12 @@ struct Entry {
 // One entry: what it is told, and the receiver then.
 fn tell(r: Receiver, ch: usize, now: u32, e: Record) -> Entry
     requires { ⌜ ch < channels ⌝ }
-    ensures { λ t. ⌜ (t .told ≡ toldOf (r .keys) ch now (r .slots) e) × (t .receiver ≡ withSlots r (slotsAfter (r .keys) ch now (r .slots) e)) ⌝ }
+    ensures { λ t. ⌜ (t .told ≡ toldOf (keysOf r) ch now (r .slots) e) × (t .receiver ≡ withSlots r (slotsAfter (keysOf r) ch now (r .slots) e)) ⌝ }
 {
     let call = e.call;
     let key = meeting::key_of(call);
     let keys = r.keys;
-    let i = store::index_of(keys, key);
+    let i = finding::index_of(keys, r.keycount, key);
     if Setup::KEYS <= i {
         return Entry {
             told: Told {
@@ -87,8 +88,8 @@ struct Telling {
 // All entries of a message, in order.
 fn tell_all(r: Receiver, ch: usize, now: u32, e: Entries) -> Telling
     requires { ⌜ (ch < channels) × (e .count ≤ mostEntries) ⌝ }
-    ensures { λ t. ⌜ (t .entries ≡ padded noTold mostEntries (allTold (r .keys) ch now (r .slots) (take (e .count) (e .items))))
-        × (t .receiver ≡ withSlots r (allAfter (r .keys) ch now (r .slots) (take (e .count) (e .items)))) ⌝ }
+    ensures { λ t. ⌜ (t .entries ≡ padded noTold mostEntries (allTold (keysOf r) ch now (r .slots) (take (e .count) (e .items))))
+        × (t .receiver ≡ withSlots r (allAfter (keysOf r) ch now (r .slots) (take (e .count) (e .items)))) ⌝ }
 {
     let mut entries = [no_told(); MOST_ENTRIES];
     let mut after = r;
@@ -341,7 +342,7 @@ impl Receiver {
         let call = p.call;
         let keys = self.keys;
         let cell = self.cell;
-        let but = store::index_of(keys, meeting::key_of(call));
+        let but = finding::index_of(keys, self.keycount, meeting::key_of(call));
         accepted(
             self,
             tick,
@@ -364,7 +365,7 @@ impl Receiver {
         }
         let keys = self.keys;
         let cell = self.cell;
-        let but = store::index_of(keys, key as u64);
+        let but = finding::index_of(keys, self.keycount, key as u64);
         plain(self, tick, join_rule(but), cell)
     }
 

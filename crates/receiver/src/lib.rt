@@ -4,6 +4,7 @@ use csn1::Refusal;
 
 pub mod channels;
 pub mod events;
+pub mod finding;
 pub mod meeting;
 pub mod messages;
 pub mod start;
@@ -71,6 +72,8 @@ pub const PLACES: usize = channels::CHANNELS * Setup::KEYS;
 pub struct Receiver {
     pub slots: [Slot; PLACES],
     pub keys: [u32; Setup::KEYS],
+    // How many of the key places are used: the first so many, or all.
+    pub keycount: usize,
     pub tick: u32,
     pub t3206: u32,
     pub t3208: u32,

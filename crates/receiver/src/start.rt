@@ -1,8 +1,8 @@
 // Setting up: the numbers and the lent keys are tested, and a receiver that holds nothing is made.
 ghost use mathlib.Core.Path.{_≡_};
 ghost use Rattle.receiver.specs.Channels.{keyCount};
-ghost use Rattle.receiver.specs.Model.{newReceiver, noSetup, keyPlaces, isTimer, keysRight, setupRight, startedOf, readySetup};
-ghost use Rattle.receiver.specs.Inner.{standsFrom};
+ghost use Rattle.receiver.specs.Model.{newReceiver, noSetup, keyPlaces, isTimer, allLow, setupRight, startedOf, readySetup};
+ghost use Rattle.receiver.specs.Halving.{rises};
 use crate::Cell;
 use crate::LAST_KEY;
 use crate::NO_KEY;
@@ -43,13 +43,13 @@ impl Setup {
         if !is_right(self, keys) {
             return Started {
                 refusal: csn1::ground(10),
-                receiver: made(no_setup(), [NO_KEY; Setup::KEYS]),
+                receiver: made(no_setup(), [NO_KEY; Setup::KEYS], 0),
             };
         }
         let places = key_places(keys);
         Started {
             refusal: csn1::no_refusal(),
-            receiver: made(self, places),
+            receiver: made(self, places, keys.len()),
         }
     }
 }
@@ -65,13 +65,15 @@ fn no_setup() -> Setup
     }
 }
 
-fn made(s: Setup, keys: [u32; Setup::KEYS]) -> Receiver
-    ensures { λ r. ⌜ r ≡ newReceiver s keys ⌝ }
+// A receiver whose first n key places are used.
+fn made(s: Setup, keys: [u32; Setup::KEYS], n: usize) -> Receiver
+    ensures { λ r. ⌜ r ≡ newReceiver s keys n ⌝ }
 {
     let e = meeting::empty_slot();
     Receiver {
         slots: [e; PLACES],
         keys,
+        keycount: n,
         tick: s.tick,
         t3206: s.t3206,
         t3208: s.t3208,
@@ -89,7 +91,7 @@ fn is_timer(t: u32) -> bool
     t <= Setup::LONGEST
 }
 
-// Whether a setup is accepted: at most KEYS keys, the timers, each key in range and none twice.
+// Whether a setup is accepted: at most KEYS keys, the timers, each key in range and above the one before it.
 pub fn is_right(s: Setup, keys: &[u32]) -> bool
     ensures { λ r. ⌜ r ≡ setupRight s (now (keys .entry)) ⌝ }
 {
@@ -105,33 +107,33 @@ pub fn is_right(s: Setup, keys: &[u32]) -> bool
     if !is_timer(s.t3210) {
         return false;
     }
-    keys_right(keys)
-}
-
-// Whether a key stands among those from a place on.
-fn stands_from(keys: &[u32], key: u32, from: usize) -> bool
-    ensures { λ r. ⌜ r ≡ standsFrom (now (keys .entry)) key from ⌝ }
-{
-    let mut i = from;
-    while i < keys.len() {
-        if keys[i] == key {
-            return true;
-        }
-        i += 1;
+    if !all_low(keys) {
+        return false;
     }
-    false
+    rises(keys)
 }
 
-fn keys_right(keys: &[u32]) -> bool
-    ensures { λ r. ⌜ r ≡ keysRight (now (keys .entry)) ⌝ }
+// Whether no key is above the highest.
+fn all_low(keys: &[u32]) -> bool
+    ensures { λ r. ⌜ r ≡ allLow (now (keys .entry)) ⌝ }
 {
     let mut i: usize = 0;
     while i < keys.len() {
-        let key = keys[i];
-        if LAST_KEY < key {
+        if LAST_KEY < keys[i] {
             return false;
         }
-        if stands_from(keys, key, i + 1) {
+        i += 1;
+    }
+    true
+}
+
+// Whether each key is above the one before it.
+fn rises(keys: &[u32]) -> bool
+    ensures { λ r. ⌜ r ≡ rises (now (keys .entry)) ⌝ }
+{
+    let mut i: usize = 1;
+    while i < keys.len() {
+        if keys[i] <= keys[i - 1] {
             return false;
         }
         i += 1;

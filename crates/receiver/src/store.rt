@@ -1,6 +1,6 @@
-// The clock, the keys, and the one sweep over all places that drops what ran out and what an event takes.
+// The clock, and the one sweep over all places that drops what ran out and what an event takes.
 ghost use mathlib.Core.Path.{_≡_};
-ghost use Rattle.receiver.specs.Model.{wrapSub, late, indexOf, keep, takes, spares, ranOutOf, sweptSlots, expiredOf, droppedOf, withSlots};
+ghost use Rattle.receiver.specs.Model.{wrapSub, late, keep, takes, spares, ranOutOf, sweptSlots, expiredOf, droppedOf, withSlots};
 ghost use Rattle.receiver.specs.Channels.{byNumber, sideOf};
 ghost use Rattle.receiver.specs.Inner.{fateOf};
 use crate::PLACES;
@@ -26,27 +26,6 @@ pub fn is_late(now: u32, last: u32) -> bool
     ensures { λ r. ⌜ r ≡ late now last ⌝ }
 {
     LATE_STEP <= elapsed(now, last)
-}
-
-// A key as a wider number: twice a reference of any 32 bits is one.
-fn wide(key: u32) -> u64
-    ensures { λ r. ⌜ r ≡ key ⌝ }
-{
-    key as u64
-}
-
-// The first place of a key, and KEYS where it is not there.
-pub fn index_of(keys: [u32; Setup::KEYS], key: u64) -> usize
-    ensures { λ r. ⌜ r ≡ indexOf keys key ⌝ }
-{
-    let mut i: usize = 0;
-    while i < Setup::KEYS {
-        if wide(keys[i]) == key {
-            return i;
-        }
-        i += 1;
-    }
-    i
 }
 
 // The rule that drops nothing.

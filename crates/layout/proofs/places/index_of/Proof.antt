@@ -20,8 +20,8 @@ returns-2 c =
 narrow-requires : tie.Need-narrow-requires
 narrow-requires c κs = search needs
 
-first-of-requires : tie.Need-first-of-requires
-first-of-requires c κs = search needs
+place-in-requires : tie.Need-place-in-requires
+place-in-requires c κs = search needs
 
 wide-requires : tie.Need-wide-requires
 wide-requires c κs = search needs
@@ -29,10 +29,10 @@ wide-requires c κs = search needs
 returns-3 : tie.Need-returns-3
 returns-3 c =
     let a = c .before .before .before .before .before .before .args in
-    c .wide .ensures ∙ c .before .first-of .ensures ∙ ap (indexOf (keysIn (a .b .now))) (c .before .before .narrow .ensures)
+    c .wide .ensures ∙ c .before .place-in .ensures ∙ ap (indexOf (keysIn (a .b .now))) (c .before .before .narrow .ensures)
     ∙ sym (at-state (a .b .now) _ _ (c .before .before .before .before .if1 .left))
 
 pub index-of-spec : {M : Type 1} → statement M
 index-of-spec =
     tie.close
-    (tie.spec returns returns-2 narrow-requires first-of-requires wide-requires returns-3)
+    (tie.spec returns returns-2 narrow-requires place-in-requires wide-requires returns-3)

@@ -31,6 +31,12 @@ put-u32-requires-4 c κs = search needs
 slice-write-b : tie.Need-slice-write-b
 slice-write-b c = search needs
 
+cast-b : tie.Need-cast-b
+cast-b c = search needs
+
+slice-write-b-2 : tie.Need-slice-write-b-2
+slice-write-b-2 c = simp length-set (search needs)
+
 put-u32-requires-5 : tie.Need-put-u32-requires-5
 put-u32-requires-5 c κs = simp length-set (search needs)
 
@@ -44,7 +50,7 @@ put-keys-requires c κs =
     let zeros = first .before .before .before .before in
     mark .put-u325 .kept .0
     ∙ simp length-set
-    (fourth .put-u324 .kept .0 ∙ third .put-u323 .kept .0 ∙ second .put-u322 .kept .0 ∙ first .put-u32 .kept .0 ∙ zeros .zero .kept .0 ∙ zeros .before .before .before .before .pre)
+    (fourth .put-u324 .kept .0 ∙ third .put-u323 .kept .0 ∙ second .put-u322 .kept .0 ∙ first .put-u32 .kept .0 ∙ zeros .zero .kept .0 ∙ zeros .before .before .before .before .pre .0)
 
 same-length : tie.Need-same-length
 same-length c =
@@ -69,7 +75,7 @@ returns c =
     let first = second .before .before .before .before in
     let zeros = first .before .before .before .before in
     let start = zeros .before .before .before .before in
-    filled (start .args .s) (start .args .keys .now) _ _ _ _ _ _ _ (zeros .zero .ensures ∙ ap (λ (n : ℕ). replicate n 0) (start .pre)) (first .put-u32 .ensures)
+    filled (start .args .s) (start .args .keys .now) _ _ _ _ _ _ _ (zeros .zero .ensures ∙ ap (λ (n : ℕ). replicate n 0) (start .pre .0)) (first .put-u32 .ensures)
     (second .put-u322 .ensures) (third .put-u323 .ensures) (fourth .put-u324 .ensures) (mark .put-u325 .ensures) (keys .put-keys .ensures)
 
 pub fill-spec : {M : Type 1} → statement M
@@ -84,6 +90,8 @@ fill-spec =
     add-put-u32-2
     put-u32-requires-4
     slice-write-b
+    cast-b
+    slice-write-b-2
     put-u32-requires-5
     put-keys-requires
     same-length

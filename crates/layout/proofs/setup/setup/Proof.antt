@@ -3,6 +3,7 @@ use mathlib.Core.Path.{sym, _∙_}
 use native.Mathlib.Omega.{arith}
 use borrow.Author.Needs.{needs}
 use borrow.Author.Tests.{not-true, not-false}
+use Rattle.receiver.proofs.Keys.{right-keys}
 use Rattle.layout.proofs.Fresh.{decode-fresh}
 use Rattle.layout.proofs.Setting.{set-wrong, set-not-right, set-refused, set-accepted}
 use Rattle.layout.proofs.setup.setup.Statement.{statement}
@@ -23,7 +24,10 @@ returns-2 c =
     set-refused (a .b .now) (a .s) (a .keys .now) 10 (set-not-right (a .b .now) (a .s) (a .keys .now) (c .before .before .if1 .left) wrong) (λ e. omega (arith, e))
 
 fill-requires : tie.Need-fill-requires
-fill-requires c κs = search needs
+fill-requires c κs =
+    let a = c .before .before .before .before .before .before .args in
+    let right = sym (c .before .before .is-right .ensures) ∙ not-false _ (c .before .if2 .left) in
+    (c .before .before .before .if1 .left, right-keys (a .s) (a .keys .now) right .0)
 
 same-length : tie.Need-same-length
 same-length c = search needs

@@ -4,7 +4,7 @@ use denote.Ref.{now}
 use native.Mathlib.Omega.{arith}
 use Rattle.pch.specs.declared.Reading.{Reading as Pch}
 use Rattle.receiver.specs.Channels.{hasPages}
-use Rattle.receiver.specs.Model.{keyOf, indexOf, ruleFor}
+use Rattle.receiver.specs.Model.{keyOf, keysOf, indexOf, ruleFor}
 use Rattle.receiver.specs.Step.{heardPch}
 use Rattle.receiver.proofs.Entering.{is-late, is-refused, is-few, is-accepted}
 use borrow.Author.Needs.{needs}
@@ -69,7 +69,7 @@ returns-3 c =
     let k = c .before .before .before .before .key-of .ensures ∙ ap (λ (x : Pch). keyOf (x .«record» .call)) (m .read .ensures) in
     c .accepted .ensures
     ∙ is-accepted (a .self) _ (heardPch (now (a .numbers))) (s .is-late .ensures) (m .before .if1 .left) z (rw (m .read .ensures) at (c .before .pch-entries .ensures))
-    (c .before .before .page-rule .ensures ∙ ap (ruleFor hasPages) (c .before .before .before .index-of .ensures ∙ ap (indexOf (a .self .keys)) k)) refl
+    (c .before .before .page-rule .ensures ∙ ap (ruleFor hasPages) (c .before .before .before .index-of .ensures ∙ ap (indexOf (keysOf (a .self))) k)) refl
 
 pub pch-spec : {M : Type 1} → statement M
 pch-spec =

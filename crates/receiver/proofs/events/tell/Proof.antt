@@ -1,6 +1,6 @@
 -- `receiver::events::tell` meets its contract. Assumes nothing.
 use mathlib.Core.Path.{ap}
-use Rattle.receiver.specs.Model.{withSlots}
+use Rattle.receiver.specs.Model.{keysOf, withSlots}
 use Rattle.receiver.proofs.Entering.{miss-told, miss-slots, hit-told, hit-slots}
 use native.Mathlib.Omega.{arith}
 use borrow.Author.Needs.{needs}
@@ -21,8 +21,8 @@ returns c =
     let k = c .before .before .before .before in
     let a = k .before .before .args in
     let i = c .before .before .index-of .ensures in (
-      miss-told (a .t1 .keys) (a .ch) (a .now) (a .t1 .slots) (a .e) (k .key-of .ensures) i (omega arith) (c .no-record .ensures),
-      ap (withSlots (a .t1)) (miss-slots (a .t1 .keys) (a .ch) (a .now) (a .t1 .slots) (a .e) (k .key-of .ensures) i (omega arith)),
+      miss-told (keysOf (a .t1)) (a .ch) (a .now) (a .t1 .slots) (a .e) (k .key-of .ensures) i (omega arith) (c .no-record .ensures),
+      ap (withSlots (a .t1)) (miss-slots (keysOf (a .t1)) (a .ch) (a .now) (a .t1 .slots) (a .e) (k .key-of .ensures) i (omega arith)),
     )
 
 place-on-requires : tie.Need-place-on-requires
@@ -51,8 +51,8 @@ returns-2 c =
     let a = k .before .before .args in
     let q = p .place-on .ensures .0 in
     let m = rw q at (c .before .before .meet .ensures) in (
-      hit-told (a .t1 .keys) (a .ch) (a .now) (a .t1 .slots) (a .e) (k .key-of .ensures) (i .index-of .ensures) (omega arith) m,
-      rw q (ap (withSlots (a .t1)) (hit-slots (a .t1 .keys) (a .ch) (a .now) (a .t1 .slots) (a .e) (k .key-of .ensures) (i .index-of .ensures) (omega arith) m)),
+      hit-told (keysOf (a .t1)) (a .ch) (a .now) (a .t1 .slots) (a .e) (k .key-of .ensures) (i .index-of .ensures) (omega arith) m,
+      rw q (ap (withSlots (a .t1)) (hit-slots (keysOf (a .t1)) (a .ch) (a .now) (a .t1 .slots) (a .e) (k .key-of .ensures) (i .index-of .ensures) (omega arith) m)),
     )
 
 pub tell-spec : {M : Type 1} → statement M

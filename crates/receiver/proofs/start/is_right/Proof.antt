@@ -42,18 +42,40 @@ returns-4 c =
       sym (c .before .is-timer3 .ensures) ∙ not-true _ (c .if4 .taken),
     )
 
-keys-right-requires : tie.Need-keys-right-requires
-keys-right-requires c κs = search needs
+all-low-requires : tie.Need-all-low-requires
+all-low-requires c κs = search needs
 
 returns-5 : tie.Need-returns-5
 unfolding setupRight
 returns-5 c =
+    let t3 = c .before .before .before in
+    let t2 = t3 .before .before in
+    let t1 = t2 .before .before in
     simp (
-      le-leb _ _ (c .before .before .before .before .before .before .before .if1 .left),
-      sym (c .before .before .before .before .before .before .is-timer .ensures) ∙ not-false _ (c .before .before .before .before .before .if2 .left),
-      sym (c .before .before .before .before .is-timer2 .ensures) ∙ not-false _ (c .before .before .before .if3 .left),
-      sym (c .before .before .is-timer3 .ensures) ∙ not-false _ (c .before .if4 .left),
-      c .keys-right .ensures,
+      le-leb _ _ (t1 .before .if1 .left),
+      sym (t1 .is-timer .ensures) ∙ not-false _ (t2 .before .if2 .left),
+      sym (t2 .is-timer2 .ensures) ∙ not-false _ (t3 .before .if3 .left),
+      sym (t3 .is-timer3 .ensures) ∙ not-false _ (c .before .before .if4 .left),
+      sym (c .before .all-low .ensures) ∙ not-true _ (c .if5 .taken),
+    )
+
+rises-requires : tie.Need-rises-requires
+rises-requires c κs = search needs
+
+returns-6 : tie.Need-returns-6
+unfolding setupRight
+returns-6 c =
+    let low = c .before .before in
+    let t3 = low .before .before in
+    let t2 = t3 .before .before in
+    let t1 = t2 .before .before in
+    simp (
+      le-leb _ _ (t1 .before .if1 .left),
+      sym (t1 .is-timer .ensures) ∙ not-false _ (t2 .before .if2 .left),
+      sym (t2 .is-timer2 .ensures) ∙ not-false _ (t3 .before .if3 .left),
+      sym (t3 .is-timer3 .ensures) ∙ not-false _ (low .before .if4 .left),
+      sym (low .all-low .ensures) ∙ not-false _ (c .before .if5 .left),
+      c .rises .ensures,
     )
 
 pub is-right-spec : {M : Type 1} → statement M
@@ -67,5 +89,7 @@ is-right-spec =
     returns-3
     is-timer-requires-3
     returns-4
-    keys-right-requires
-    returns-5)
+    all-low-requires
+    returns-5
+    rises-requires
+    returns-6)

@@ -1,19 +1,19 @@
--- `receiver::start::stands_from` meets its contract. Assumes nothing.
+-- `receiver::start::all_low` meets its contract. Assumes nothing.
 use mathlib.Core.Path.{_≡_, refl, sym, _∙_}
 use Prim.Native.Nat.{_-_}
-use lib.ListN.{length}
-use Rattle.receiver.specs.Inner.{standsFrom}
-use Rattle.receiver.proofs.Keys.{stands-here, stands-next, stands-past}
+use lib.ListN.{length, drop}
+use Rattle.receiver.specs.Model.{allLow}
+use Rattle.receiver.proofs.Keys.{low-high, low-next, low-past}
 use native.Mathlib.Omega.{arith}
 use borrow.Author.Needs.{needs}
-use Rattle.receiver.proofs.start.stands_from.Statement.{statement}
-use Rattle.receiver.proofs.start.stands_from.Tie as tie
+use Rattle.receiver.proofs.start.all_low.Statement.{statement}
+use Rattle.receiver.proofs.start.all_low.Tie as tie
 
 abbrev Inv-loop : tie.InvT-loop
-Inv-loop keys key from i₀ i = standsFrom keys key from ≡ standsFrom keys key i
+Inv-loop keys i₀ i = allLow keys ≡ allLow (drop i keys)
 
 abbrev μ-loop : tie.MeasureT-loop
-μ-loop keys key from i₀ i = length keys - i
+μ-loop keys i₀ i = length keys - i
 
 loop-holds : tie.Need-loop-holds Inv-loop μ-loop
 loop-holds c = refl
@@ -27,7 +27,7 @@ shared-slice-read-if1 c = search needs
 returns : tie.Need-returns Inv-loop μ-loop
 returns c =
     let l = c .before .before .before .loop in
-    sym (l .inv ∙ stands-here _ _ (l .i) 0 (c .before .before .loop-test .taken) (c .if1 .taken))
+    sym (l .inv ∙ low-high _ (l .i) 0 (c .before .before .loop-test .taken) (c .if1 .taken))
 
 add-i : tie.Need-add-i Inv-loop μ-loop
 add-i c = search needs
@@ -38,15 +38,15 @@ loop-less c = omega arith
 loop-again : tie.Need-loop-again Inv-loop μ-loop
 loop-again c =
     let l = c .before .before .before .loop in
-    l .inv ∙ stands-next _ _ (l .i) 0 (c .before .before .loop-test .taken) (c .if1 .left)
+    l .inv ∙ low-next _ (l .i) 0 (c .before .before .loop-test .taken) (c .if1 .left)
 
 returns-2 : tie.Need-returns-2 Inv-loop μ-loop
 returns-2 c =
     let l = c .before .loop in
-    sym (l .inv ∙ stands-past _ _ (l .i) (c .loop-test .left))
+    sym (l .inv ∙ low-past _ (l .i) (c .loop-test .left))
 
-pub stands-from-spec : {M : Type 1} → statement M
-stands-from-spec =
+pub all-low-spec : {M : Type 1} → statement M
+all-low-spec =
     tie.close
     (tie.spec
     Inv-loop
