@@ -1,10 +1,11 @@
 /* A small control room: events come as lines on standard input, and the calls they tell of go to standard output.
  *
- *     setup TICK T3206 T3208 T3210 CALL..   the calls to follow, in any order; NAME=CALL gives one a name
+ *     setup TICK T3206 T3208 T3210 CALL..   the calls to follow, in any order; NAME=CALL gives one a name, CALL:3,4 the group keys that are held for it
  *     nch TICK HEX                          NT/N Rest Octets came
  *     facch TICK HEX                        NOTIFICATION/FACCH came
  *     pch TICK CALL PART..                  the paging channel told of the call
  *     joined TICK CALL                      the call was joined
+ *     bit_22 TICK VALUE                     bit 22 of COUNT has this value now, 0 or 1
  *     reselected TICK, handed_over TICK, reconfigured TICK, left_idle TICK, tick TICK
  *
  * PART is ciphered, full=HEX (the 36 bits of the reference), channel=HEX with allocation=HEX or list=HEX where it hops, rand=HEX (VSTK_RAND) or count=HEX.
@@ -24,12 +25,12 @@ enum {
     NAME = 12         /* characters of a name at most */
 };
 
-/* A call that is followed, with its last complete record, when that came and in which cell. */
+/* A call that is subscribed to, with the entry that was last complete, when that came and in which cell. */
 struct call {
     uint32_t key, tick, cell;
     char name[NAME + 1];
     int is_complete;
-    struct asternhaken_record record;
+    struct asternhaken_entry last;
 };
 
 static uint8_t state[ASTERNHAKEN_STATE_LENGTH];
@@ -75,12 +76,30 @@ static void show_frequencies(const struct asternhaken_record *r)
     else printf(", hops by the allocation %0*llx", 2 * (int)r->allocation_octets, frequencies);
 }
 
+/* Whether a complete ciphered call can be followed, and with which count. */
+static void show_follow(const struct asternhaken_entry *entry)
+{
+    printf("%s", asternhaken_follow_word(entry->follow));
+    if (entry->follow == ASTERNHAKEN_FOLLOW_WITH_COUNT) printf(", count %d", (int)entry->kept_count);
+}
+
+/* The numbers of a set of group keys. */
+static void show_group_keys(uint32_t set)
+{
+    const char *before = "  group keys: ";
+    for (unsigned n = 1; n <= ASTERNHAKEN_LAST_GROUP_KEY; n++) {
+        if (!(set & ASTERNHAKEN_GROUP_KEY(n))) continue;
+        printf("%s%u", before, n);
+        before = ", ";
+    }
+}
+
 /* The list of calls, each as it was last complete. */
 static void show_list(void)
 {
     printf("\nCall list\n");
     for (size_t i = 0; i < n_calls; i++) {
-        const struct asternhaken_record *r = &calls[i].record;
+        const struct asternhaken_record *r = &calls[i].last.record;
         printf("  ");
         show_call(calls[i].key);
         if (!calls[i].is_complete) {
@@ -93,14 +112,15 @@ static void show_list(void)
         if (r->hops) show_frequencies(r);
         if (r->cipher_key_number) printf(", ciphered with key %d", (int)r->cipher_key_number);
         if (r->rand_given) printf(", VSTK_RAND %09llx", (unsigned long long)r->vstk_rand);
-        if (r->count_given) printf(", count %d", (int)r->cell_global_count);
+        if (r->count_given) printf(", sent with count %d", (int)r->cell_global_count);
+        if (calls[i].last.follow) printf(", "), show_follow(&calls[i].last);
         printf("\n");
     }
 }
 
 /* ---- Events ---- */
 
-/* Keeps the record of a complete call. */
+/* Keeps what a complete call was told. */
 static void keep(const struct asternhaken_entry *entry, uint32_t tick)
 {
     for (size_t i = 0; i < n_calls; i++) {
@@ -108,7 +128,7 @@ static void keep(const struct asternhaken_entry *entry, uint32_t tick)
         calls[i].tick = tick;
         calls[i].cell = cells;
         calls[i].is_complete = 1;
-        calls[i].record = entry->record;
+        calls[i].last = *entry;
     }
 }
 
@@ -120,6 +140,7 @@ static void show_entry(const struct asternhaken_entry *entry, uint32_t tick)
         return;
     }
     printf("  %d %-19s  %06llx", (int)entry->told, asternhaken_told_word(entry->told), (unsigned long long)entry->record.channel);
+    if (entry->follow) printf("   "), show_follow(entry);
     keep(entry, tick);
 }
 
@@ -183,6 +204,22 @@ static int call_key(char *word, uint32_t *key)
     return 1;
 }
 
+/* Numbers of group keys with commas between them, as a set. Whether there can be such a key, the library says, as far as there is a bit for it. */
+static int group_keys(char *word, uint32_t *set)
+{
+    char *next = word;
+    uint32_t n;
+    *set = 0;
+    while (next) {
+        word = next;
+        next = strchr(word, ',');
+        if (next) *next++ = 0;
+        if (!number(word, 31, &n)) return 0;
+        *set |= ASTERNHAKEN_GROUP_KEY(n);
+    }
+    return 1;
+}
+
 static int digit(char c)
 {
     static const char digits[] = "0123456789abcdef0123456789ABCDEF";
@@ -203,9 +240,9 @@ static int hex(const char *word, uint8_t *octets, size_t *n)
 
 /* ---- Lines: each answers what is wrong with it, or nothing ---- */
 
-/* A call of a setup. */
+/* A call of a setup, with the group keys that are held for it. */
 struct named {
-    uint32_t key;
+    uint32_t key, set;
     const char *name;
 };
 
@@ -218,7 +255,7 @@ static int by_key(const void *one, const void *other)
 static const char *set_up(char **words, size_t n)
 {
     static struct named named[WORDS];
-    static uint32_t keys[WORDS];
+    static uint32_t keys[WORDS], sets[WORDS];
     uint32_t tick, t3206, t3208, t3210;
     if (n < 5) return "a setup is TICK T3206 T3208 T3210 CALL..";
     if (!number(words[1], UINT32_MAX, &tick)) return "TICK is no number of 32 bits";
@@ -226,17 +263,20 @@ static const char *set_up(char **words, size_t n)
     if (!number(words[3], UINT32_MAX, &t3208)) return "T3208 is no number of 32 bits";
     if (!number(words[4], UINT32_MAX, &t3210)) return "T3210 is no number of 32 bits";
     for (size_t i = 5; i < n; i++) {
-        char *is = strchr(words[i], '=');
+        char *is = strchr(words[i], '='), *call = is ? is + 1 : words[i], *held = strchr(call, ':');
         if (is) *is = 0;
+        if (held) *held++ = 0;
         if (is && (size_t)(is - words[i]) > NAME) return "a name is too long";
         named[i - 5].name = is ? words[i] : "";
-        if (!call_key(is ? is + 1 : words[i], &named[i - 5].key)) return "CALL is no key, REFERENCE/VBS or REFERENCE/VGCS";
+        named[i - 5].set = 0;
+        if (!call_key(call, &named[i - 5].key)) return "CALL is no key, REFERENCE/VBS or REFERENCE/VGCS";
+        if (held && !group_keys(held, &named[i - 5].set)) return "behind CALL: stand no numbers of group keys";
     }
 
-    /* the library takes keys in rising order, and the names go with them */
+    /* the library takes keys in rising order, and names and group keys go with them */
     qsort(named, n - 5, sizeof *named, by_key);
-    for (size_t i = 0; i < n - 5; i++) keys[i] = named[i].key;
-    uint32_t result = asternhaken_setup(state, sizeof state, keys, n - 5, tick, t3206, t3208, t3210);
+    for (size_t i = 0; i < n - 5; i++) keys[i] = named[i].key, sets[i] = named[i].set;
+    uint32_t result = asternhaken_setup(state, sizeof state, keys, n - 5, sets, n - 5, tick, t3206, t3208, t3210);
     if (ASTERNHAKEN_REFUSAL(result) != ASTERNHAKEN_ACCEPTED) {
         show_event(tick, "setup");
         show_refusal(result);
@@ -256,6 +296,7 @@ static const char *set_up(char **words, size_t n)
         strcpy(calls[i].name, named[i].name);
         next_line();
         show_call(keys[i]);
+        show_group_keys(sets[i]);
     }
     printf("\n");
     return NULL;
@@ -318,6 +359,15 @@ static const char *joined(char **words, size_t n, uint32_t tick)
     return NULL;
 }
 
+static const char *bit_22(char **words, size_t n, uint32_t tick)
+{
+    uint32_t value;
+    if (n != 3) return "the words are TICK VALUE";
+    if (!number(words[2], UINT32_MAX, &value)) return "VALUE is no number of 32 bits";
+    show_answer(asternhaken_bit_22(state, sizeof state, tick, value), tick, words[0]);
+    return NULL;
+}
+
 /* The events with nothing but a tick, and whether a cell is left. */
 static const struct {
     const char *word;
@@ -336,15 +386,16 @@ enum { PLAIN = sizeof plain / sizeof *plain };
 static const char *event(char **words, size_t n)
 {
     uint32_t tick;
-    int is_nch = !strcmp(words[0], "nch"), is_pch = !strcmp(words[0], "pch"), is_joined = !strcmp(words[0], "joined");
+    int is_nch = !strcmp(words[0], "nch"), is_pch = !strcmp(words[0], "pch"), is_joined = !strcmp(words[0], "joined"), is_bit = !strcmp(words[0], "bit_22");
     size_t k = 0;
     if (!strcmp(words[0], "setup")) return set_up(words, n);
     while (k < PLAIN && strcmp(words[0], plain[k].word)) k++;
-    if (k == PLAIN && !is_nch && !is_pch && !is_joined && strcmp(words[0], "facch")) return "no such event";
+    if (k == PLAIN && !is_nch && !is_pch && !is_joined && !is_bit && strcmp(words[0], "facch")) return "no such event";
     if (!is_set_up) return "no setup was accepted yet";
     if (n < 2 || !number(words[1], UINT32_MAX, &tick)) return "TICK is no number of 32 bits";
     if (is_pch) return paging_channel(words, n, tick);
     if (is_joined) return joined(words, n, tick);
+    if (is_bit) return bit_22(words, n, tick);
     if (k == PLAIN) return message(words, n, tick, is_nch);
     if (n != 2) return "nothing stands behind the TICK";
     uint32_t result = plain[k].event(state, sizeof state, tick);
@@ -386,7 +437,7 @@ int main(void)
     static char line[LINE], *words[WORDS];
     const char *wrong;
     int status = 0;
-    printf("%10s  %-12s  %-*s  %-13s  %-21s  %s\n", "tick", "event", (int)NAME, "name", "call", "told", "channel");
+    printf("%10s  %-12s  %-*s  %-13s  %-21s  %s  %s\n", "tick", "event", (int)NAME, "name", "call", "told", "channel", "follow");
     for (unsigned long place = 1; read_line(line, &wrong); place++) {
         size_t n = cut(line, words);
         if (!wrong && n) wrong = event(words, n);

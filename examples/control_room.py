@@ -1,10 +1,11 @@
 """The small control room of control_room.c in Python: events come as lines on standard input, and the calls they tell of go to standard output.
 
-    setup TICK T3206 T3208 T3210 CALL..   the calls to follow, in any order; NAME=CALL gives one a name
+    setup TICK T3206 T3208 T3210 CALL..   the calls to follow, in any order; NAME=CALL gives one a name, CALL:3,4 the group keys that are held for it
     nch TICK HEX                          NT/N Rest Octets came
     facch TICK HEX                        NOTIFICATION/FACCH came
     pch TICK CALL PART..                  the paging channel told of the call
     joined TICK CALL                      the call was joined
+    bit_22 TICK VALUE                     bit 22 of COUNT has this value now, 0 or 1
     reselected TICK, handed_over TICK, reconfigured TICK, left_idle TICK, tick TICK
 
 PART is ciphered, full=HEX (the 36 bits of the reference), channel=HEX with allocation=HEX or list=HEX where it hops, rand=HEX (VSTK_RAND) or count=HEX.
@@ -42,6 +43,14 @@ def call_key(word):
     return found
 
 
+def group_keys(word):
+    """Numbers of group keys with commas between them. Whether there can be such a key, the library says, as far as there is a bit for it."""
+    numbers = [int(n) for n in word.split(",")] if re.fullmatch("[0-9]+(,[0-9]+)*", word) else [32]
+    if max(numbers) >= 32:
+        raise Wrong("behind CALL: stand no numbers of group keys")
+    return sorted(set(numbers))
+
+
 def octets(word):
     if not re.fullmatch("([0-9a-fA-F]{2})*", word):
         raise Wrong("HEX is not two hexadecimal digits for each octet")
@@ -68,7 +77,7 @@ def pch_part(word):
 
 
 class ControlRoom:
-    """A receiver, the names of its calls, and for each call its last complete record with when it came and in which cell."""
+    """A receiver, the names of its calls, and for each call the entry that was last complete with when it came and in which cell."""
 
     def __init__(self):
         self.receiver = None
@@ -84,9 +93,15 @@ class ControlRoom:
         """An event's line; what is further on it stands on lines of its own."""
         print("%10d  %-12s  %s" % (tick, word, ("\n" + " " * 26).join(parts)))
 
+    def follow(self, entry):
+        """Whether a complete ciphered call can be followed, and with which count."""
+        return entry.follow_word + (", count %d" % entry.kept_count if entry.follow == asternhaken.FOLLOW_WITH_COUNT else "")
+
     def shown(self, entry):
         text = "%s  %d " % (self.call(entry.key), entry.told)
-        return text + ("%-19s  %06x" % (entry.told_word, entry.record.channel) if entry.record else entry.told_word)
+        if not entry.record:
+            return text + entry.told_word
+        return text + "%-19s  %06x" % (entry.told_word, entry.record.channel) + ("   " + self.follow(entry) if entry.follow else "")
 
     def show_list(self):
         print("\nCall list")
@@ -94,7 +109,8 @@ class ControlRoom:
             if key not in self.complete:
                 print("  %s  not complete yet" % self.call(key))
                 continue
-            r, tick, cell = self.complete[key]
+            entry, tick, cell = self.complete[key]
+            r = entry.record
             line = "channel %06x since %d, priority %d" % (r.channel, tick, r.priority)
             if cell != self.cells:
                 line += ", in a cell left since"
@@ -107,7 +123,9 @@ class ControlRoom:
             if r.rand_given:
                 line += ", VSTK_RAND %09x" % r.vstk_rand
             if r.count_given:
-                line += ", count %d" % r.cell_global_count
+                line += ", sent with count %d" % r.cell_global_count
+            if entry.follow:
+                line += ", " + self.follow(entry)
             print("  %s  %s" % (self.call(key), line))
 
     # ---- Events ----
@@ -121,14 +139,16 @@ class ControlRoom:
             name, _, call = word.partition("=") if "=" in word else ("", "", word)
             if len(name) > NAME:
                 raise Wrong("a name is too long")
-            calls.append((call_key(call), name))
+            call, colon, held = call.partition(":")
+            calls.append((call_key(call), name, group_keys(held) if colon else []))
         calls.sort(key=lambda call: call[0])  # shown in the order that the library has them in, each with its name
-        receiver = Receiver([key for key, _ in calls], tick, *timers)
+        receiver = Receiver([key for key, _, _ in calls], tick, *timers, groups={key: held for key, _, held in calls})
         if self.receiver:
             self.show_list()
             print()
-        self.receiver, self.names, self.complete = receiver, dict(calls), {}
-        self.show(tick, "setup", ["T3206 %d ms, T3208 %d ms, T3210 %d ms" % tuple(timers)] + [self.call(key) for key, _ in calls])
+        self.receiver, self.names, self.complete = receiver, {key: name for key, name, _ in calls}, {}
+        lines = [self.call(key) + ("  group keys: " + ", ".join(map(str, held)) if held else "") for key, _, held in calls]
+        self.show(tick, "setup", ["T3206 %d ms, T3208 %d ms, T3210 %d ms" % tuple(timers)] + lines)
 
     def answer(self, tick, words):
         if words[0] in ("nch", "facch"):
@@ -146,6 +166,10 @@ class ControlRoom:
             if len(words) != 3:
                 raise Wrong("the words are TICK CALL")
             return self.receiver.joined(tick, call_key(words[2]))
+        if words[0] == "bit_22":
+            if len(words) != 3:
+                raise Wrong("the words are TICK VALUE")
+            return self.receiver.bit_22(tick, number(words[2], "VALUE"))
         if len(words) != 2:
             raise Wrong("nothing stands behind the TICK")
         answer = getattr(self.receiver, words[0])(tick)
@@ -153,7 +177,7 @@ class ControlRoom:
         return answer
 
     def event(self, words):
-        if words[0] not in ("setup", "nch", "facch", "pch", "joined", "reselected", "handed_over", "reconfigured", "left_idle", "tick"):
+        if words[0] not in ("setup", "nch", "facch", "pch", "joined", "reselected", "handed_over", "reconfigured", "left_idle", "bit_22", "tick"):
             raise Wrong("no such event")
         if words[0] == "setup":
             return self.set_up(words)
@@ -166,7 +190,7 @@ class ControlRoom:
         self.show(tick, words[0], parts + [self.shown(entry) for entry in answer.entries] or ["-"])
         for entry in answer.entries:
             if entry.record and entry.key in self.names:
-                self.complete[entry.key] = entry.record, tick, self.cells
+                self.complete[entry.key] = entry, tick, self.cells
 
     def line(self, text):
         words = list(itertools.takewhile(lambda word: not word.startswith("#"), text.split()))
@@ -180,7 +204,7 @@ class ControlRoom:
 
 def main():
     room, status = ControlRoom(), 0
-    print("%10s  %-12s  %-*s  %-13s  %-21s  %s" % ("tick", "event", NAME, "name", "call", "told", "channel"))
+    print("%10s  %-12s  %-*s  %-13s  %-21s  %s  %s" % ("tick", "event", NAME, "name", "call", "told", "channel", "follow"))
     for place, text in enumerate(io.TextIOWrapper(sys.stdin.buffer, "utf-8", "replace", "\n"), 1):
         try:
             room.line(text.rstrip("\n"))

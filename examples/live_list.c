@@ -42,7 +42,8 @@ int main(int argc, char **argv)
     uint32_t keys[ASTERNHAKEN_KEYS], n_keys = 0, t3206 = argc > 1 ? (uint32_t)strtoul(argv[1], NULL, 10) : 0;
     for (int i = 2; i < argc && n_keys < ASTERNHAKEN_KEYS; i++) keys[n_keys++] = (uint32_t)strtoul(argv[i], NULL, 10);
     qsort(keys, n_keys, sizeof *keys, rising); /* the library takes them in rising order */
-    uint32_t result = asternhaken_setup(state, sizeof state, keys, n_keys, now(), t3206, ASTERNHAKEN_T3208, ASTERNHAKEN_T3210);
+    static const uint32_t no_group_keys[ASTERNHAKEN_KEYS] = { 0 }; /* a set for each key: halves are held without them */
+    uint32_t result = asternhaken_setup(state, sizeof state, keys, n_keys, no_group_keys, n_keys, now(), t3206, ASTERNHAKEN_T3208, ASTERNHAKEN_T3210);
     setvbuf(stdin, NULL, _IONBF, 0); /* or poll would not see what is read ahead */
     for (show(result); asternhaken_is_set_up(state, sizeof state); show(result)) {
         struct pollfd in = { 0, POLLIN, 0 };

@@ -4,7 +4,8 @@
  *
  *     uint8_t state[ASTERNHAKEN_STATE_LENGTH];
  *     uint32_t keys[2] = { ASTERNHAKEN_KEY(1234, 0), ASTERNHAKEN_KEY(1234, 1) }; // in rising order
- *     uint32_t result = asternhaken_setup(state, sizeof state, keys, 2, tick, ASTERNHAKEN_T3206, ASTERNHAKEN_T3208, ASTERNHAKEN_T3210);
+ *     uint32_t sets[2] = { 0, ASTERNHAKEN_GROUP_KEY(3) | ASTERNHAKEN_GROUP_KEY(4) }; // the group keys that are held for each
+ *     uint32_t result = asternhaken_setup(state, sizeof state, keys, 2, sets, 2, tick, ASTERNHAKEN_T3206, ASTERNHAKEN_T3208, ASTERNHAKEN_T3210);
  *     ...
  *     result = asternhaken_nch(state, sizeof state, tick, octets, 20);
  *     if (ASTERNHAKEN_REFUSAL(result) == ASTERNHAKEN_ACCEPTED) {
@@ -22,7 +23,8 @@
  * where it refuses nothing. Where bits ran out (2, 14, 15), the number of the bit where the missing field begins stands above it, else 0: take the two apart with
  * ASTERNHAKEN_REFUSAL(result) and ASTERNHAKEN_BIT(result). A refused event leaves every octet of the state as it was, the clock included. The octets of the state are laid out in docs/STATE.md; docs/C-API.md tells a host's programmer the rest.
  *
- * Names: ASTERNHAKEN_REFUSED_ is a refusal number, ASTERNHAKEN_TOLD_ a told number, ASTERNHAKEN_PART_ a part for asternhaken_read, ASTERNHAKEN_PCH_ a number of a PCH entry.
+ * Names: ASTERNHAKEN_REFUSED_ is a refusal number, ASTERNHAKEN_TOLD_ a told number, ASTERNHAKEN_FOLLOW_ says whether a call can be followed, ASTERNHAKEN_PART_ is a part for
+ * asternhaken_read, ASTERNHAKEN_PCH_ a number of a PCH entry.
  * A flag that says whether something is there ends in _GIVEN, or _given: channel_given stands beside channel. What is not there is 0.
  * Each struct is made of uint64_t alone and has the layout of the array of numbers that it stands for; get, put, decode and encode are for structs, read, write and numbers for arrays. */
 #ifndef ASTERNHAKEN_H
@@ -62,7 +64,7 @@ extern "C" {
 
 /* The version of this header, in three numbers. Everything else that names a version follows from them: the text, the number, the library's file names, the pkg-config file. */
 #define ASTERNHAKEN_VERSION_MAJOR 0
-#define ASTERNHAKEN_VERSION_MINOR 2
+#define ASTERNHAKEN_VERSION_MINOR 3
 #define ASTERNHAKEN_VERSION_PATCH 0
 #define ASTERNHAKEN_VERSION_NUMBER (ASTERNHAKEN_VERSION_MAJOR * 10000 + ASTERNHAKEN_VERSION_MINOR * 100 + ASTERNHAKEN_VERSION_PATCH)
 #define ASTERNHAKEN_VERSION ASTERNHAKEN_TEXT_(ASTERNHAKEN_VERSION_MAJOR, ASTERNHAKEN_VERSION_MINOR, ASTERNHAKEN_VERSION_PATCH) /* as "1.2.3" */
@@ -73,27 +75,31 @@ extern "C" {
 uint32_t asternhaken_version(void);
 
 /* Sizes and limits. */
-#define ASTERNHAKEN_STATE_LENGTH 10040 /* octets of the lent state */
+#define ASTERNHAKEN_STATE_LENGTH 10240 /* octets of the lent state */
 #define ASTERNHAKEN_KEYS 50            /* subscriptions at most */
 #define ASTERNHAKEN_LOOKS 6            /* keys that a key is compared with at most, where there are so many */
 #define ASTERNHAKEN_ENTRIES 9          /* entries of one message at most */
-#define ASTERNHAKEN_PARTS 35           /* parts for asternhaken_read, from 0 */
+#define ASTERNHAKEN_PARTS 37           /* parts for asternhaken_read, from 0 */
 #define ASTERNHAKEN_LONGEST 60000      /* ms: the longest timer; the shortest is 1 */
 #define ASTERNHAKEN_T3206 10000        /* ms: how long an NCH half is kept, unless the setup says another time */
 #define ASTERNHAKEN_T3208 5000         /* ms: the same for a FACCH half */
 #define ASTERNHAKEN_T3210 5000         /* ms: the same for a PCH half */
 #define ASTERNHAKEN_LAST_KEY 199999999
+#define ASTERNHAKEN_LAST_GROUP_KEY 15  /* the highest number of a group key; the lowest is 1 */
 #define ASTERNHAKEN_NCH_LENGTH 20      /* octets of an NCH message */
 #define ASTERNHAKEN_FACCH_SHORTEST 2   /* octets of a FACCH message */
 #define ASTERNHAKEN_FACCH_LONGEST 23
 #define ASTERNHAKEN_PCH_NUMBERS 14     /* numbers of a PCH entry */
-#define ASTERNHAKEN_RECORD_NUMBERS 30  /* numbers of a record: the parts from ASTERNHAKEN_PART_CALL_REFERENCE on */
-#define ASTERNHAKEN_ENTRY_NUMBERS 32   /* numbers of an entry of an answer: the parts from ASTERNHAKEN_PART_KEY on */
+#define ASTERNHAKEN_RECORD_NUMBERS 30  /* numbers of a record: the parts from ASTERNHAKEN_PART_CALL_REFERENCE to ASTERNHAKEN_PART_HR_AMR_CONFIG */
+#define ASTERNHAKEN_ENTRY_NUMBERS 34   /* numbers of an entry of an answer: the parts from ASTERNHAKEN_PART_KEY on */
 #define ASTERNHAKEN_HELD_NUMBERS 34    /* numbers of a half that is held */
 #define ASTERNHAKEN_NEVER 4294967295u  /* ms: no half is held, and none will run out */
 
 /* A subscription's key: the reference (at most 99,999,999) times 2 plus the service flag, 1 for VGCS and 0 for VBS. */
 #define ASTERNHAKEN_KEY(reference, vgcs) ((uint32_t)(reference) * 2u + (uint32_t)(vgcs))
+
+/* A set of group keys has bit n for the key of number n, 1 to 15: this is the set of one key, and | makes one of several. 0 is no key. */
+#define ASTERNHAKEN_GROUP_KEY(n) ((uint32_t)1 << (n))
 
 /* The refusal number of a result; the bit where the missing field begins, with 2, 14 and 15, else 0. Bits are numbered from 0, the top bit of the first octet. */
 #define ASTERNHAKEN_REFUSAL(result) ((result) & 255u)
@@ -110,15 +116,15 @@ enum asternhaken_refusal {
     ASTERNHAKEN_REFUSED_EMERGENCY_MARKS = 7,   /* NCH: more emergency marks than described calls */
     ASTERNHAKEN_REFUSED_PAGING = 8,            /* FACCH: the paging branch */
     ASTERNHAKEN_REFUSED_CLOCK = 9,             /* a clock step of 2^31 ms or more: after such a pause, set up anew */
-    ASTERNHAKEN_REFUSED_SETUP = 10,            /* over 50 keys, a key above 199,999,999, keys that do not strictly rise, a timer outside 1 to 60,000 */
+    ASTERNHAKEN_REFUSED_SETUP = 10,            /* over 50 keys, a key above 199,999,999, keys that do not strictly rise, a timer outside 1 to 60,000, not one set of group keys for each key, a number in it that is not 1 to 15 */
     ASTERNHAKEN_REFUSED_FORM_SIZE = 11,        /* a written form over 160 bits, or a write buffer not of the form's exact size */
-    ASTERNHAKEN_REFUSED_RANGE = 12,            /* a field out of its range; to write, anything but zero in an absent part or an unused place; PCH: parts that do not fit each other */
+    ASTERNHAKEN_REFUSED_RANGE = 12,            /* a field out of its range; to write, anything but zero in an absent part or an unused place; PCH: parts that do not fit each other; a bit 22 above 1 */
     ASTERNHAKEN_REFUSED_LENGTH = 13,           /* an element, an array to write, a PCH entry or the lent state of a wrong length; a cause that never ends */
     ASTERNHAKEN_REFUSED_RAN_OUT_6 = 14,        /* the bits ran out inside Release 6 */
     ASTERNHAKEN_REFUSED_RAN_OUT_7 = 15         /* the bits ran out inside Release 7 */
 };
 
-/* What an entry of a message is told. Only 1 to 3 carry a record. */
+/* What an entry of a message is told. Only 1 to 3 carry a record, and only 2 and 3, the ciphered ones, say whether the call can be followed. */
 enum asternhaken_told {
     ASTERNHAKEN_TOLD_NOT_OURS = 0,           /* its key is not subscribed */
     ASTERNHAKEN_TOLD_CLEAR = 1,              /* complete: not ciphered, with a channel */
@@ -129,6 +135,14 @@ enum asternhaken_told {
     ASTERNHAKEN_TOLD_NO_CHANNEL = 6,         /* a call without a channel, and no second half */
     ASTERNHAKEN_TOLD_UNUSABLE = 7,           /* any other case, or a half whose reference disagrees with the one held */
     ASTERNHAKEN_TOLD_SECOND_BEFORE_FIRST = 8 /* FACCH: a second half with no first one held; nothing is stored */
+};
+
+/* Whether a complete ciphered call can be followed: its group key first, then the cell's count. */
+enum asternhaken_follow {
+    ASTERNHAKEN_FOLLOW_NOT_SAID = 0,  /* beside every other told number than 2 and 3 */
+    ASTERNHAKEN_FOLLOW_NO_KEY = 1,    /* its cipher key number is not in its subscription's set of group keys */
+    ASTERNHAKEN_FOLLOW_NO_COUNT = 2,  /* no CELL_GLOBAL_COUNT of the cell is kept */
+    ASTERNHAKEN_FOLLOW_WITH_COUNT = 3 /* it can be followed, with the kept count */
 };
 
 /* Parts for asternhaken_read. What a part is not there for reads as 0. */
@@ -170,9 +184,12 @@ enum asternhaken_part {
     ASTERNHAKEN_PART_PRIORITY = 29,          /* 0 to 7 */
     ASTERNHAKEN_PART_CIPHER_KEY_NUMBER = 30, /* 0 is not ciphered */
     ASTERNHAKEN_PART_ALLOCATION_OCTETS = 31, /* the octets of a Mobile Allocation, 1 to 8 */
-    ASTERNHAKEN_PART_CELL_GLOBAL_COUNT = 32, /* 0 to 3 */
+    ASTERNHAKEN_PART_CELL_GLOBAL_COUNT = 32, /* 0 to 3, as it was sent */
     ASTERNHAKEN_PART_FR_AMR_CONFIG = 33,
-    ASTERNHAKEN_PART_HR_AMR_CONFIG = 34
+    ASTERNHAKEN_PART_HR_AMR_CONFIG = 34,
+    /* of an entry again, where it was told 2 or 3 */
+    ASTERNHAKEN_PART_FOLLOW = 35,            /* enum asternhaken_follow */
+    ASTERNHAKEN_PART_KEPT_COUNT = 36         /* beside ASTERNHAKEN_FOLLOW_WITH_COUNT: the CELL_GLOBAL_COUNT that is kept of the cell, 0 to 3, as it stood behind this message */
 };
 
 /* The numbers of a PCH entry. What stands behind a flag of 0 is not looked at, nor is what the description does not use: behind a hopping flag of 0 the short list flag, the
@@ -216,11 +233,13 @@ struct asternhaken_record {
 };
 ASTERNHAKEN_SIZE_(asternhaken_record, ASTERNHAKEN_RECORD_NUMBERS);
 
-/* An entry of the answer: what it is told, and its record where that is 1 to 3, else zeros. */
+/* An entry of the answer: what it is told, its record where that is 1 to 3, and where it is 2 or 3 whether the call can be followed; else zeros. */
 struct asternhaken_entry {
     uint64_t key;  /* reference times 2 plus service flag */
     uint64_t told; /* enum asternhaken_told */
     struct asternhaken_record record;
+    uint64_t follow;     /* enum asternhaken_follow */
+    uint64_t kept_count; /* to follow the call with; the record's own count stays as it was sent */
 };
 ASTERNHAKEN_SIZE_(asternhaken_entry, ASTERNHAKEN_ENTRY_NUMBERS);
 
@@ -241,8 +260,9 @@ ASTERNHAKEN_SIZE_(asternhaken_held, ASTERNHAKEN_HELD_NUMBERS);
 /* ---- The receiver ---- */
 
 /* Makes the lent octets a receiver that holds nothing, whatever they held. The keys are lent in strictly rising order, so none twice. The place of a
- * subscription is its place among the keys. */
-ASTERNHAKEN_MUST_USE uint32_t asternhaken_setup(uint8_t *state, size_t state_length, const uint32_t *keys, size_t n_keys, uint32_t tick, uint32_t t3206, uint32_t t3208, uint32_t t3210);
+ * subscription is its place among the keys. Beside them one set of group keys is lent for each key, in the same order: those that are held for that call, by their numbers
+ * (ASTERNHAKEN_GROUP_KEY), and 0 where none is. */
+ASTERNHAKEN_MUST_USE uint32_t asternhaken_setup(uint8_t *state, size_t state_length, const uint32_t *keys, size_t n_keys, const uint32_t *sets, size_t n_sets, uint32_t tick, uint32_t t3206, uint32_t t3208, uint32_t t3210);
 
 /* 1 where the lent octets have the mark of an accepted setup of this layout, which events leave; else 0, as for another length. It is no ground of refusal: events answer octets
  * that nobody set up too, and their entries are then mostly not ours. */
@@ -258,12 +278,15 @@ ASTERNHAKEN_MUST_USE uint32_t asternhaken_facch(uint8_t *state, size_t state_len
 ASTERNHAKEN_MUST_USE uint32_t asternhaken_pch(uint8_t *state, size_t state_length, uint32_t tick, const uint64_t *entry, size_t n);
 /* The call of this key was joined. */
 ASTERNHAKEN_MUST_USE uint32_t asternhaken_joined(uint8_t *state, size_t state_length, uint32_t tick, uint32_t key);
-/* Another cell was selected: its first NLN is no change. */
+/* Another cell was selected: its first NLN is no change, and its count and bit 22 are not known. */
 ASTERNHAKEN_MUST_USE uint32_t asternhaken_reselected(uint8_t *state, size_t state_length, uint32_t tick);
+/* The mobile was handed over to another cell: its count and bit 22 are not known. */
 ASTERNHAKEN_MUST_USE uint32_t asternhaken_handed_over(uint8_t *state, size_t state_length, uint32_t tick);
 ASTERNHAKEN_MUST_USE uint32_t asternhaken_reconfigured(uint8_t *state, size_t state_length, uint32_t tick);
 /* Idle mode was left. */
 ASTERNHAKEN_MUST_USE uint32_t asternhaken_left_idle(uint8_t *state, size_t state_length, uint32_t tick);
+/* Bit 22 of COUNT has this value now, 0 or 1. From 1 to 0 the count that is kept of the cell is raised by one, modulo 4; while the bit is not known, a FACCH message's count is not taken. */
+ASTERNHAKEN_MUST_USE uint32_t asternhaken_bit_22(uint8_t *state, size_t state_length, uint32_t tick, uint32_t value);
 /* Time passed. */
 ASTERNHAKEN_MUST_USE uint32_t asternhaken_tick(uint8_t *state, size_t state_length, uint32_t tick);
 
@@ -582,12 +605,14 @@ ASTERNHAKEN_MUST_USE static inline uint32_t asternhaken_digits_encode(const stru
 
 /* ---- Words ----
  *
- * A short word and a sentence for each refusal number and each told number, to be shown or logged. They answer for every number: one that this version does not
- * know has the word "unknown" and a sentence that says so. The texts are constant; they are for people, and a program goes by the numbers. */
+ * A short word and a sentence for each refusal number, each told number and each number of enum asternhaken_follow, to be shown or logged. They answer for every number: one
+ * that this version does not know has the word "unknown" and a sentence that says so. The texts are constant; they are for people, and a program goes by the numbers. */
 const char *asternhaken_refusal_word(uint32_t refusal);
 const char *asternhaken_refusal_sentence(uint32_t refusal);
 const char *asternhaken_told_word(uint64_t told);
 const char *asternhaken_told_sentence(uint64_t told);
+const char *asternhaken_follow_word(uint64_t follow);
+const char *asternhaken_follow_sentence(uint64_t follow);
 
 #ifdef __cplusplus
 }

@@ -4,22 +4,25 @@ One file over the shared library of the C interface, with nothing to install bes
 
     from asternhaken import Receiver, Refused, key
 
-    receiver = Receiver([key(4711, vgcs=False), key(4711, vgcs=True)], tick=1000)
+    yard, dispatcher = key(4711, vgcs=False), key(4711, vgcs=True)
+    receiver = Receiver([yard, dispatcher], tick=1000, groups={yard: [3], dispatcher: [3, 4]})
     try:
         answer = receiver.nch(1480, bytes.fromhex("b00024cea3852091922b2b2b2b2b2b2b2b2b2b2b"))
     except Refused as refused:
         print(refused.number, refused)          # the receiver is as it was
     else:
         for entry in answer.entries:
-            print(entry.reference, entry.vgcs, entry.told_word, entry.record and entry.record.channel)
+            print(entry.reference, entry.vgcs, entry.told_word, entry.record and entry.record.channel, entry.follow_word, entry.kept_count)
 
-Setup. Receiver(keys, tick, t3206, t3208, t3210) sets a receiver up, and receiver.setup(..) does so anew. The keys may come in any order: the library takes them in
-rising order only, and this module sorts them; a key twice is refused (10). The state is a bytearray of the receiver's own, and receivers are independent of each
-other. Calls on one receiver must not run at the same time.
+Setup. Receiver(keys, tick, t3206, t3208, t3210, groups) sets a receiver up, and receiver.setup(..) does so anew. The keys may come in any order: the library takes them in
+rising order only, and this module sorts them; a key twice is refused (10). groups says which group keys are held: for a key their numbers, 1 to 15 ({key: [3, 4]}). A key that it
+does not name has none, and what it says of other keys than these is not looked at, so that one table may serve every receiver. The state is a bytearray of the receiver's own, and
+receivers are independent of each other. Calls on one receiver must not run at the same time.
 
-Events. nch, facch, pch, joined, reselected, handed_over, reconfigured, left_idle and tick each take the tick (a millisecond counter of 32 bits that wraps) and what
+Events. nch, facch, pch, joined, reselected, handed_over, reconfigured, left_idle, bit_22 and tick each take the tick (a millisecond counter of 32 bits that wraps) and what
 belongs to the event, and answer with an Answer: how many halves ran out, how many the event dropped, and its entries. receiver.answer is the answer to the last
-accepted event. An entry told 1 to 3 carries a record, with a number for each part of the header's enum asternhaken_part; the others have None. What came on the
+accepted event. An entry told 1 to 3 carries a record, with a number for each part of the header's enum asternhaken_part; the others have None. An entry told 2 or 3, which is
+ciphered, says in follow whether the call can be followed (FOLLOW_NO_KEY, FOLLOW_NO_COUNT or FOLLOW_WITH_COUNT, then with kept_count); beside the others both are 0. What came on the
 paging channel is a PchEntry: its key, and by name those of the other numbers that are not 0.
 
 What is held. receiver.held is a tuple of the halves that wait for their other half, each with its key, what it came on, which half it is, how many ms it has left from
@@ -30,7 +33,8 @@ Saved states. receiver.state is a copy of the octets, and Receiver.from_state go
 Refusals. What the library refuses raises Refused, with the number, its word, and its sentence as text; nothing has changed then, the clock included. An
 exception, since an answer that is not there cannot then be taken for an empty one.
 
-Numbers. A tick, key or timer outside 32 bits, or a number of a PCH entry outside 64, is a ValueError before the library is called, since C would cut it off.
+Numbers. A tick, key, timer or bit 22 outside 32 bits, a group key's number outside 0 to 31, or a number of a PCH entry outside 64 bits, is a ValueError before the library is called,
+since C would cut it off.
 
 The library is the file that ASTERNHAKEN_LIBRARY names, else the one in ../../lib beside which this file was installed, else the one that the system finds.
 """
@@ -41,8 +45,9 @@ import os
 # ---- The library ----
 
 # Octets of the state, and the parts of an answer in their order: the header's, which the tests hold equal.
-STATE_LENGTH = 10040
+STATE_LENGTH = 10240
 KEYS = 50
+LAST_GROUP_KEY = 15
 T3206 = 10000
 T3208 = 5000
 T3210 = 5000
@@ -50,7 +55,7 @@ PARTS = (
     "expired", "dropped", "entry_count", "key", "told", "call_reference", "channel", "frequencies", "vstk_rand", "full", "vgcs", "acknowledged", "channel_given",
     "hops", "short_list", "segment_given", "segment_id", "rand_given", "emergency", "count_given", "b22_count", "uplink_given", "uplink_access", "amr_given", "fr_amr_given",
     "hr_amr_given", "sms_given", "sms_confidentiality", "sms_privacy", "priority", "cipher_key_number", "allocation_octets", "cell_global_count", "fr_amr_config",
-    "hr_amr_config",
+    "hr_amr_config", "follow", "kept_count",
 )
 
 # The refusal numbers.
@@ -59,6 +64,9 @@ PARTS = (
 
 # The told numbers; 1 to 3 are complete and carry a record.
 (TOLD_NOT_OURS, TOLD_CLEAR, TOLD_ONE_PIECE, TOLD_JOINED, TOLD_HALF_STORED, TOLD_HALF_HELD, TOLD_NO_CHANNEL, TOLD_UNUSABLE, TOLD_SECOND_BEFORE_FIRST) = range(9)
+
+# Whether a complete ciphered call can be followed.
+FOLLOW_NOT_SAID, FOLLOW_NO_KEY, FOLLOW_NO_COUNT, FOLLOW_WITH_COUNT = range(4)
 
 # What a half came on, and which it is.
 ON_NCH, ON_FACCH, ON_PCH = range(3)
@@ -79,18 +87,19 @@ def _load():
     message = [_OCTETS, _SIZE, _U32, _OCTETS, _SIZE]
     plain = [_OCTETS, _SIZE, _U32]
     for name, words in {
-        "setup": [_OCTETS, _SIZE, ctypes.POINTER(_U32), _SIZE, _U32, _U32, _U32, _U32],
+        "setup": [_OCTETS, _SIZE, ctypes.POINTER(_U32), _SIZE, ctypes.POINTER(_U32), _SIZE, _U32, _U32, _U32, _U32],
         "nch": message, "facch": message, "pch": plain + [_NUMBERS, _SIZE], "joined": plain + [_U32],
-        "reselected": plain, "handed_over": plain, "reconfigured": plain, "left_idle": plain, "tick": plain,
+        "reselected": plain, "handed_over": plain, "reconfigured": plain, "left_idle": plain, "bit_22": plain + [_U32], "tick": plain,
         "read": plain + [_U32, _NUMBERS], "entry_numbers": plain + [_NUMBERS, _SIZE],
         "held_count": [_OCTETS, _SIZE, _NUMBERS], "held_numbers": plain + [_NUMBERS, _SIZE], "next_expiry": [_OCTETS, _SIZE, _NUMBERS],
         "is_set_up": [_OCTETS, _SIZE], "version": [],
     }.items():
         function = getattr(library, "asternhaken_" + name)
         function.argtypes, function.restype = words, _U32
-    for name, number in {"refusal_word": _U32, "refusal_sentence": _U32, "told_word": ctypes.c_uint64, "told_sentence": ctypes.c_uint64}.items():
-        function = getattr(library, "asternhaken_" + name)
-        function.argtypes, function.restype = [number], ctypes.c_char_p
+    for name, number in {"refusal": _U32, "told": ctypes.c_uint64, "follow": ctypes.c_uint64}.items():
+        for text in "word", "sentence":
+            function = getattr(library, "asternhaken_%s_%s" % (name, text))
+            function.argtypes, function.restype = [number], ctypes.c_char_p
     return library
 
 
@@ -122,6 +131,16 @@ def told_sentence(number):
     return _library.asternhaken_told_sentence(_u32(number, "a told number")).decode()
 
 
+def follow_word(number):
+    """A short word for a number that says whether a call can be followed."""
+    return _library.asternhaken_follow_word(_u32(number, "a number of following")).decode()
+
+
+def follow_sentence(number):
+    """A sentence for a number that says whether a call can be followed."""
+    return _library.asternhaken_follow_sentence(_u32(number, "a number of following")).decode()
+
+
 def key(reference, vgcs):
     """A subscription's key: the reference times 2, and 1 more for VGCS."""
     return reference * 2 + (1 if vgcs else 0)
@@ -135,6 +154,16 @@ def _bits(number, what, bits):
 
 def _u32(number, what):
     return _bits(number, what, 32)
+
+
+def _set(numbers):
+    """A set of group keys, with bit n for the key of number n. What is not 1 to 15 but has a bit, the library refuses."""
+    group = 0
+    for number in numbers:
+        if not 0 <= number < 32:
+            raise ValueError("a group key's number is %r, and not 1 to %d" % (number, LAST_GROUP_KEY))
+        group |= 1 << number
+    return group
 
 
 # ---- Answers ----
@@ -151,8 +180,8 @@ class Refused(Exception):
         super().__init__(refusal_sentence(self.number))
 
 
-# The record of a complete call, or of a half: a number for each part from call_reference on. What is not there is 0.
-Record = collections.namedtuple("Record", PARTS[PARTS.index("call_reference"):])
+# The record of a complete call, or of a half: a number for each part from call_reference to hr_amr_config. What is not there is 0.
+Record = collections.namedtuple("Record", PARTS[PARTS.index("call_reference"):PARTS.index("follow")])
 
 
 class _Keyed:
@@ -170,8 +199,9 @@ class _Keyed:
         return self.key % 2 == 1
 
 
-class Entry(_Keyed, collections.namedtuple("Entry", "key told record")):
-    """What one entry of a message is told: its key, the told number, and the record where that is 1 to 3, else None."""
+class Entry(_Keyed, collections.namedtuple("Entry", "key told record follow kept_count")):
+    """What one entry of a message is told: its key, the told number, and the record where that is 1 to 3, else None; where it is 2 or 3, whether the call can be followed, and
+    beside FOLLOW_WITH_COUNT the count that is kept of the cell, else 0."""
 
     __slots__ = ()
 
@@ -182,6 +212,14 @@ class Entry(_Keyed, collections.namedtuple("Entry", "key told record")):
     @property
     def told_sentence(self):
         return told_sentence(self.told)
+
+    @property
+    def follow_word(self):
+        return follow_word(self.follow)
+
+    @property
+    def follow_sentence(self):
+        return follow_sentence(self.follow)
 
 
 class Answer(collections.namedtuple("Answer", "expired dropped entries")):
@@ -208,9 +246,9 @@ PchEntry.__new__.__defaults__ = (0,) * 13
 class Receiver:
     """A receiver in a state of its own. Every method but answer and state raises Refused where the library refuses."""
 
-    def __init__(self, keys, tick, t3206=T3206, t3208=T3208, t3210=T3210):
+    def __init__(self, keys, tick, t3206=T3206, t3208=T3208, t3210=T3210, groups=None):
         self._take(bytearray(STATE_LENGTH))
-        self.setup(keys, tick, t3206, t3208, t3210)
+        self.setup(keys, tick, t3206, t3208, t3210, groups)
 
     def _take(self, octets):
         self._state = octets
@@ -240,11 +278,14 @@ class Receiver:
         """Whether the state has the mark of an accepted setup of this layout."""
         return _library.asternhaken_is_set_up(self._lent, STATE_LENGTH) == 1
 
-    def setup(self, keys, tick, t3206=T3206, t3208=T3208, t3210=T3210):
-        """Makes this a receiver that holds nothing, with these subscriptions, in any order; refused (10), it stays as it was."""
+    def setup(self, keys, tick, t3206=T3206, t3208=T3208, t3210=T3210, groups=None):
+        """Makes this a receiver that holds nothing, with these subscriptions, in any order; refused (10), it stays as it was. groups has for a key the numbers of the group keys that
+        are held, {key: [3, 4]}."""
         keys = sorted(_u32(k, "a key") for k in keys)
-        lent = (_U32 * max(1, len(keys)))(*keys)  # no pointer may be null
-        self._call(_library.asternhaken_setup, lent, len(keys), _u32(tick, "the tick"), _u32(t3206, "T3206"), _u32(t3208, "T3208"), _u32(t3210, "T3210"))
+        sets = [_set((groups or {}).get(k, ())) for k in keys]
+        room = _U32 * max(1, len(keys))  # no pointer may be null
+        timers = _u32(t3206, "T3206"), _u32(t3208, "T3208"), _u32(t3210, "T3210")
+        self._call(_library.asternhaken_setup, room(*keys), len(keys), room(*sets), len(sets), _u32(tick, "the tick"), *timers)
 
     def _event(self, function, tick, *words):
         self._call(function, _u32(tick, "the tick"), *words)
@@ -272,10 +313,11 @@ class Receiver:
         return self._event(_library.asternhaken_joined, tick, _u32(key, "the key"))
 
     def reselected(self, tick):
-        """Another cell was selected."""
+        """Another cell was selected: its count and bit 22 are not known."""
         return self._event(_library.asternhaken_reselected, tick)
 
     def handed_over(self, tick):
+        """The mobile was handed over to another cell: its count and bit 22 are not known."""
         return self._event(_library.asternhaken_handed_over, tick)
 
     def reconfigured(self, tick):
@@ -284,6 +326,10 @@ class Receiver:
     def left_idle(self, tick):
         """Idle mode was left."""
         return self._event(_library.asternhaken_left_idle, tick)
+
+    def bit_22(self, tick, value):
+        """Bit 22 of COUNT has this value now, 0 or 1: from 1 to 0 the count that is kept of the cell is raised by one, modulo 4."""
+        return self._event(_library.asternhaken_bit_22, tick, _u32(value, "bit 22"))
 
     def tick(self, tick):
         """Time passed."""
@@ -295,19 +341,19 @@ class Receiver:
         self._call(function, *words, ctypes.byref(value))
         return value.value
 
-    def _numbers(self, function, i, leading):
-        """The i-th of something: so many numbers that lead it, and a record."""
-        n = leading + len(Record._fields)
+    def _numbers(self, function, i, leading, behind):
+        """The i-th of something: so many numbers that lead it, a record, and so many behind."""
+        n = leading + len(Record._fields) + behind
         numbers = (ctypes.c_uint64 * n)()
         self._call(function, i, numbers, n)
-        return numbers[:leading], Record(*numbers[leading:])
+        return numbers[:leading], Record(*numbers[leading:n - behind]), numbers[n - behind:]
 
     def _part(self, part):
         return self._number(_library.asternhaken_read, 0, PARTS.index(part))
 
     def _entry(self, i):
-        (key, told), record = self._numbers(_library.asternhaken_entry_numbers, i, 2)
-        return Entry(key, told, record if TOLD_CLEAR <= told <= TOLD_JOINED else None)
+        (key, told), record, (follow, kept_count) = self._numbers(_library.asternhaken_entry_numbers, i, 2, 2)
+        return Entry(key, told, record if TOLD_CLEAR <= told <= TOLD_JOINED else None, follow, kept_count)
 
     @property
     def answer(self):
@@ -315,7 +361,7 @@ class Receiver:
         return Answer(self._part("expired"), self._part("dropped"), tuple(self._entry(i) for i in range(self._part("entry_count"))))
 
     def _held(self, i):
-        leading, record = self._numbers(_library.asternhaken_held_numbers, i, 4)
+        leading, record, _ = self._numbers(_library.asternhaken_held_numbers, i, 4, 0)
         return Held(*leading, record)
 
     @property

@@ -15,15 +15,15 @@ enum { STATE = 255, GUARD = 16, SHOWN = 20 };
 
 /* In the order of src/ffi.rs. */
 enum {
-    SETUP, NCH, FACCH, PCH, JOINED, RESELECTED, HANDED_OVER, RECONFIGURED, LEFT_IDLE, TICK, READ, ENTRY_NUMBERS, HELD_NUMBERS, HELD_COUNT, NEXT_EXPIRY, IS_SET_UP,
+    SETUP, NCH, FACCH, PCH, JOINED, RESELECTED, HANDED_OVER, RECONFIGURED, LEFT_IDLE, BIT_22, TICK, READ, ENTRY_NUMBERS, HELD_NUMBERS, HELD_COUNT, NEXT_EXPIRY, IS_SET_UP,
     NCH_READ, NCH_WRITE, FACCH_READ, MESSAGE_TYPE_READ, MESSAGE_TYPE_WRITE, CALL_REFERENCE_READ, CALL_REFERENCE_WRITE, CALL_STATE_READ, CALL_STATE_WRITE,
     CAUSE_READ, CAUSE_WRITE, ORIGINATOR_READ, ORIGINATOR_WRITE, STATE_ATTRIBUTES_READ, STATE_ATTRIBUTES_WRITE, SMS_READ, SMS_WRITE, TALKER_READ, TALKER_WRITE,
     DIGITS_READ, DIGITS_WRITE, FIND, FUNCTIONS
 };
 
 static const char *const names[FUNCTIONS] = {
-    "setup", "nch", "facch", "pch", "joined", "reselected", "handed_over", "reconfigured", "left_idle", "tick", "read", "entry_numbers", "held_numbers", "held_count",
-    "next_expiry", "is_set_up", "nch_read", "nch_write", "facch_read",
+    "setup", "nch", "facch", "pch", "joined", "reselected", "handed_over", "reconfigured", "left_idle", "bit_22", "tick", "read", "entry_numbers", "held_numbers",
+    "held_count", "next_expiry", "is_set_up", "nch_read", "nch_write", "facch_read",
     "message_type_read", "message_type_write", "call_reference_read", "call_reference_write", "call_state_read", "call_state_write",
     "cause_read", "cause_write", "originator_read", "originator_write", "state_attributes_read", "state_attributes_write", "sms_read",
     "sms_write", "talker_read", "talker_write", "digits_read", "digits_write", "find"
@@ -129,9 +129,11 @@ static void state_call(unsigned function)
 {
     state_is_untouched();
     struct lent octets = lend_record(small());
-    uint32_t tick = small(), a = function == SETUP || function == JOINED ? small() : 0, b = function == SETUP ? small() : 0, c = function == SETUP ? small() : 0, refusal = 0;
+    const uint32_t *keys = (const uint32_t *)(const void *)octets.at; /* of a setup, with the sets behind them */
+    uint32_t tick = small(), a = function == SETUP || function == JOINED || function == BIT_22 ? small() : 0, b = 0, c = 0, n_keys = 0, refusal = 0;
+    if (function == SETUP) b = small(), c = small(), n_keys = small();
     switch (function) {
-    case SETUP: refusal = asternhaken_setup(state.at, state.size, (const uint32_t *)(const void *)octets.at, octets.size / 4, tick, a, b, c); break;
+    case SETUP: refusal = asternhaken_setup(state.at, state.size, keys, n_keys, keys + n_keys, octets.size / 4 - n_keys, tick, a, b, c); break;
     case NCH: refusal = asternhaken_nch(state.at, state.size, tick, octets.at, octets.size); break;
     case FACCH: refusal = asternhaken_facch(state.at, state.size, tick, octets.at, octets.size); break;
     case PCH: refusal = asternhaken_pch(state.at, state.size, tick, (const uint64_t *)(const void *)octets.at, octets.size / 8); break;
@@ -140,6 +142,7 @@ static void state_call(unsigned function)
     case HANDED_OVER: refusal = asternhaken_handed_over(state.at, state.size, tick); break;
     case RECONFIGURED: refusal = asternhaken_reconfigured(state.at, state.size, tick); break;
     case LEFT_IDLE: refusal = asternhaken_left_idle(state.at, state.size, tick); break;
+    case BIT_22: refusal = asternhaken_bit_22(state.at, state.size, tick, a); break;
     default: refusal = asternhaken_tick(state.at, state.size, tick);
     }
     compare(function, refusal, &state, untouched(&octets));

@@ -9,7 +9,7 @@
 #   seeded-errors.sh --list FILE   only that the list is long enough, of FILE
 set -u
 # How many errors must be listed, of either kind: those that give a wrong answer, and those that are met too seldom.
-least_wrong=218 least_seldom=10
+least_wrong=284 least_seldom=15
 here=$(cd "$(dirname "$0")" && pwd)
 case $(uname -m) in x86_64) lib=$here/../target/lib ;; *) lib=$here/../target/native ;; esac
 # What the environment names is meant from this folder, as build.rs means it.
@@ -18,7 +18,7 @@ case $lib in /*) ;; *) lib=$here/$lib ;; esac
 export ASTERNHAKEN_LIB=$lib
 workers=${WORKERS:-$(nproc)}
 if [ "$workers" -gt 8 ]; then workers=8; fi
-runs=(--random --messages 20000 --steps 8000)
+runs=(--random --messages 20000 --steps 12000)
 long_runs=(--random --messages 20000 --steps 100000)
 work=$here/target/seeded-errors
 list=$here/seeded-errors.txt

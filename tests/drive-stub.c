@@ -11,12 +11,18 @@ static int seeded(const char *name)
     return wanted && !strcmp(wanted, name);
 }
 
-uint32_t __real_asternhaken_setup(uint8_t *state, size_t state_length, const uint32_t *keys, size_t n_keys, uint32_t tick, uint32_t t3206, uint32_t t3208, uint32_t t3210);
-uint32_t __wrap_asternhaken_setup(uint8_t *state, size_t state_length, const uint32_t *keys, size_t n_keys, uint32_t tick, uint32_t t3206, uint32_t t3208, uint32_t t3210)
+uint32_t __real_asternhaken_setup(uint8_t *state, size_t state_length, const uint32_t *keys, size_t n_keys, const uint32_t *sets, size_t n_sets, uint32_t tick, uint32_t t3206, uint32_t t3208, uint32_t t3210);
+uint32_t __wrap_asternhaken_setup(uint8_t *state, size_t state_length, const uint32_t *keys, size_t n_keys, const uint32_t *sets, size_t n_sets, uint32_t tick, uint32_t t3206, uint32_t t3208, uint32_t t3210)
 {
-    uint32_t result = __real_asternhaken_setup(state, state_length, keys, n_keys, tick, t3206, t3208, t3210);
+    if (n_sets && seeded("the first set is that of every key")) {
+        static uint32_t first[ASTERNHAKEN_KEYS + 1];
+        for (size_t i = 0; i < n_sets && i <= ASTERNHAKEN_KEYS; i++) first[i] = sets[0];
+        if (n_sets <= ASTERNHAKEN_KEYS) sets = first;
+    }
+    uint32_t result = __real_asternhaken_setup(state, state_length, keys, n_keys, sets, n_sets, tick, t3206, t3208, t3210);
     if (result && seeded("a refused setup writes")) state[4711] ^= 1;
     if (n_keys && seeded("a setup writes the keys")) ++*(uint32_t *)keys;
+    if (n_sets && seeded("a setup writes the sets")) ++*(uint32_t *)sets;
     if (result && seeded("a refused setup gives another number")) result++;
     return result;
 }
@@ -34,7 +40,7 @@ uint32_t __real_asternhaken_pch(uint8_t *state, size_t state_length, uint32_t ti
 uint32_t __wrap_asternhaken_pch(uint8_t *state, size_t state_length, uint32_t tick, const uint64_t *entry, size_t n)
 {
     uint32_t result = __real_asternhaken_pch(state, state_length, tick, entry, n);
-    if (result && seeded("a refused PCH entry drops a half")) memset(state + 224, 0, 150);
+    if (result && seeded("a refused PCH entry drops a half")) memset(state + 424, 0, 150);
     if (seeded("a PCH entry is written")) ++((uint64_t *)entry)[n - 1];
     if (!result && seeded("a PCH entry is handed in twice")) result = __real_asternhaken_pch(state, state_length, tick, entry, n);
     return result;
@@ -45,6 +51,16 @@ uint32_t __wrap_asternhaken_left_idle(uint8_t *state, size_t state_length, uint3
 {
     if (seeded("leaving idle mode is a tick alone")) return asternhaken_tick(state, state_length, tick);
     return __real_asternhaken_left_idle(state, state_length, tick);
+}
+
+uint32_t __real_asternhaken_bit_22(uint8_t *state, size_t state_length, uint32_t tick, uint32_t value);
+uint32_t __wrap_asternhaken_bit_22(uint8_t *state, size_t state_length, uint32_t tick, uint32_t value)
+{
+    if (seeded("the bit is a tick alone")) return asternhaken_tick(state, state_length, tick);
+    if (value > 1 && seeded("a bit above 1 is taken")) value = 1;
+    uint32_t result = __real_asternhaken_bit_22(state, state_length, tick, value);
+    if (result && seeded("a refused bit is kept")) state[18] = (uint8_t)value;
+    return result;
 }
 
 uint32_t __real_asternhaken_find(const uint32_t *keys, size_t n_keys, uint32_t key, uint64_t *place, uint64_t *looks);
@@ -64,6 +80,9 @@ uint32_t __wrap_asternhaken_read(const uint8_t *state, size_t state_length, uint
     uint32_t result = __real_asternhaken_read(state, state_length, entry, part, value);
     if (seeded("reading a part writes the state")) ((uint8_t *)state)[state_length - 1] ^= 128;
     if (part == ASTERNHAKEN_PART_EMERGENCY && seeded("a part is another")) ++*value;
+    if (part == ASTERNHAKEN_PART_KEPT_COUNT && *value && seeded("a kept count is another")) --*value;
+    if (part == ASTERNHAKEN_PART_FOLLOW && *value == ASTERNHAKEN_FOLLOW_NO_COUNT && seeded("no count is no key")) --*value;
+    if (part == ASTERNHAKEN_PART_FOLLOW && !*value && seeded("a clear call has no key")) ++*value;
     return result;
 }
 

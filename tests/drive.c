@@ -212,15 +212,15 @@ static void take_slash(void)
     if (strcmp(take(), "/")) is_wrong("a slash is missing");
 }
 
-/* The numbers up to a slash or the end, lent as an array. */
-static uint32_t *take_keys(size_t *n)
+/* The numbers up to a slash or the end, lent as an array of this name. */
+static uint32_t *take_list(const char *name, size_t *n)
 {
     size_t end = taken;
     while (end < n_words && strcmp(words[end], "/")) end++;
     *n = end - taken;
-    uint32_t *keys = (uint32_t *)lend("keys", *n * sizeof *keys);
-    for (size_t i = 0; i < *n; i++) keys[i] = take_u32();
-    return keys;
+    uint32_t *list = (uint32_t *)lend(name, *n * sizeof *list);
+    for (size_t i = 0; i < *n; i++) list[i] = take_u32();
+    return list;
 }
 
 /* Octets as lower-case hex digits, or - for none, lent. */
@@ -544,13 +544,15 @@ static uint64_t *value;
 
 static void setup(void)
 {
-    size_t n;
+    size_t n_keys, n_sets;
     take(); /* VERSION */
     uint32_t tick = take_u32(), t3206 = take_u32(), t3208 = take_u32(), t3210 = take_u32();
     take_slash();
-    uint32_t *keys = take_keys(&n);
+    uint32_t *keys = take_list("keys", &n_keys);
+    take_slash();
+    uint32_t *sets = take_list("sets", &n_sets);
     if (!understood()) return;
-    say_number(WATCHED(asternhaken_setup(state, LENGTH, keys, n, tick, t3206, t3208, t3210), state, LEAVES));
+    say_number(WATCHED(asternhaken_setup(state, LENGTH, keys, n_keys, sets, n_sets, tick, t3206, t3208, t3210), state, LEAVES));
 }
 
 /* Where a key stands. How many keys it was compared with is not in the line, but is at most 1 + log2 of their number, and 0 for none. */
@@ -560,7 +562,7 @@ static void find(void)
     uint32_t key = take_u32();
     uint64_t *found = lend_numbers(2);
     take_slash();
-    uint32_t *keys = take_keys(&n);
+    uint32_t *keys = take_list("keys", &n);
     if (!understood()) return;
     while (most < ASTERNHAKEN_LOOKS && n >> most) most++;
     if (WATCHED(asternhaken_find(keys, n, key, found, found + 1), found, CLEARS) != ASTERNHAKEN_ACCEPTED) fault("asternhaken_find refuses", "keys", 0);
@@ -599,13 +601,16 @@ enum { RECORD_PARTS = sizeof record_parts / sizeof *record_parts };
 
 static void say_entry(uint32_t entry)
 {
-    uint64_t told = part(entry, ASTERNHAKEN_PART_TOLD), numbers[RECORD_PARTS];
+    uint64_t told = part(entry, ASTERNHAKEN_PART_TOLD), follow = part(entry, ASTERNHAKEN_PART_FOLLOW), kept_count = part(entry, ASTERNHAKEN_PART_KEPT_COUNT), numbers[RECORD_PARTS];
+    int is_ciphered = told == ASTERNHAKEN_TOLD_ONE_PIECE || told == ASTERNHAKEN_TOLD_JOINED;
     say("|");
     say_number(part(entry, ASTERNHAKEN_PART_KEY));
     say_number(told);
+    if (!is_ciphered && (follow || kept_count)) fault("an entry that is not told 2 or 3 is said to be followed, or not", "entry", entry);
     if (told < ASTERNHAKEN_TOLD_CLEAR || told > ASTERNHAKEN_TOLD_JOINED) return;
     for (size_t i = 0; i < RECORD_PARTS; i++) numbers[i] = part(entry, record_parts[i]);
     say_record(numbers, call_record);
+    if (is_ciphered) say_number(follow), say_number(kept_count);
 }
 
 static void say_answer(uint32_t result)
@@ -659,6 +664,12 @@ static void ev_joined(void)
     if (understood()) say_answer(WATCHED(asternhaken_joined(state, LENGTH, tick, key), state, LEAVES));
 }
 
+static void ev_bit(void)
+{
+    uint32_t tick = take_u32(), bit = take_u32();
+    if (understood()) say_answer(WATCHED(asternhaken_bit_22(state, LENGTH, tick, bit), state, LEAVES));
+}
+
 /* ---- The commands ---- */
 
 struct command {
@@ -684,6 +695,7 @@ static const struct command events[] = {
     { "handed_over", ev_handed_over },
     { "reconfigured", ev_reconfigured },
     { "idle", ev_idle },
+    { "bit", ev_bit },
     { "tick", ev_tick },
     { NULL, NULL }
 };

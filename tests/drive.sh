@@ -81,7 +81,7 @@ note $? 'valgrind on the driver'
 
 # ---- Faults of the library ----
 
-wraps=$(sed -n 's/^uint32_t __wrap_\([a-z_]*\)(.*/-Wl,--wrap=\1/p' tests/drive-stub.c)
+wraps=$(sed -n 's/^uint32_t __wrap_\([a-z0-9_]*\)(.*/-Wl,--wrap=\1/p' tests/drive-stub.c)
 builds cc -std=c99 $strict -O2 -Iinclude tests/drive.c tests/drive-stub.c $wraps "$archive" -o "$tmp/faulty"
 compare "$tmp/faulty" "$file"
 grep -q ' passed, 0 failed$' "$tmp/compared"
@@ -97,17 +97,25 @@ a writing begins an octet before:^FAULT .*a write before what was lent, counted 
 a reading is too long:^FAULT .*a write behind what was lent: numbers, octet 848$
 a refused reading leaves a number:^FAULT .*a refused reading is not all zeros: numbers, octet 840$
 a setup writes the keys:^FAULT .*a call changed what it may not write: keys, octet 0$
-reading a part writes the state:^FAULT .*a call changed what it may not write: state, octet 10039$
-a refused PCH entry drops a half:^FAULT .*a refused call changed lent memory: state, octet [23][0-9][0-9]$
+a setup writes the sets:^FAULT .*a call changed what it may not write: sets, octet 0$
+reading a part writes the state:^FAULT .*a call changed what it may not write: state, octet 10239$
+a refused PCH entry drops a half:^FAULT .*a refused call changed lent memory: state, octet [45][0-9][0-9]$
 a PCH entry is written:^FAULT .*a call changed what it may not write: numbers, octet 104$
 a PCH entry is handed in twice:must answer: 0 0 
 leaving idle mode is a tick alone:must answer: 0 0 1 0$
+the bit is a tick alone:must answer: 0 0 0 0 | .* [23] [0-3]$
+a bit above 1 is taken:must answer: 12 0 0 0$
+a refused bit is kept:^FAULT .*a refused call changed lent memory: state, octet 18$
+the first set is that of every key:must answer: 0 0 .* [123] [0-3]
 a refused setup gives another number:must answer: 10$
 an event has an upper bit:must answer: 0 0 
 a reading is another:must answer: 0 0 4 
 a bit number is another:must answer: 2 [1-9]
 Release 6 is not told apart:must answer: 14 [1-9]
 a part is another:must answer: 0 0 
+a kept count is another:must answer: 0 0 .* 3 [1-3]
+no count is no key:must answer: 0 0 .* 2 0
+a clear call has no key:^FAULT .*an entry that is not told 2 or 3 is said to be followed, or not: entry
 a place is another:must answer: [0-9-]*$
 a seventh look:^FAULT .*there are more than places for them: looks
 a second look at one key:^FAULT .*there are more than places for them: looks

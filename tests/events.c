@@ -1,5 +1,5 @@
 /* Feeds the events of standard input to the C library, an event to a line, and shows each answer as the program receiver_events shows the
- * receiver's. A setup there names two timers, and T3210 is the default. The lines are those of vectors/events.tsv and are taken as right: examples/control_room.c shows how to check what people type. */
+ * receiver's. A setup there names two timers, T3210 is the default, and no group keys are held. The lines are those of vectors/events.tsv and are taken as right: examples/control_room.c shows how to check what people type. */
 #include <asternhaken.h>
 
 #include <stdio.h>
@@ -95,10 +95,11 @@ static size_t octets_of(const char *hex, uint8_t *into, size_t room)
 
 static uint32_t event(const char *word, const char *rest)
 {
+    static const uint32_t no_group_keys[64] = { 0 };
     uint32_t given[3 + 64] = { 0 };
     size_t n = numbers(rest, given, 3 + 64);
     uint32_t tick = given[0];
-    if (!strcmp(word, "setup")) return asternhaken_setup(state, sizeof state, given + 3, n - 3, tick, given[1], given[2], ASTERNHAKEN_T3210);
+    if (!strcmp(word, "setup")) return asternhaken_setup(state, sizeof state, given + 3, n - 3, no_group_keys, n - 3, tick, given[1], given[2], ASTERNHAKEN_T3210);
     if (!strcmp(word, "joined")) return asternhaken_joined(state, sizeof state, tick, given[1]);
     if (!strcmp(word, "reselected")) return asternhaken_reselected(state, sizeof state, tick);
     if (!strcmp(word, "handed_over")) return asternhaken_handed_over(state, sizeof state, tick);

@@ -62,7 +62,7 @@ static int all_zero(const uint64_t *numbers, size_t n)
 /* ---- One receiver, in octets that held anything before ---- */
 
 /* docs/STATE.md: where the blocks begin; places of a subscription, three for each. */
-enum { NLN = 16, N_KEYS = 19, MARK = 20, KEYS = 24, KINDS = 224, TICKS = 376, RECORDS = 976, EXPIRED = 9376, COUNT = 9384, ENTRIES = 9392, RECORD = 56, ENTRY = 72 };
+enum { NLN = 16, KEPT = 17, BIT_22 = 18, N_KEYS = 19, MARK = 20, KEYS = 24, SETS = 224, KINDS = 424, TICKS = 576, RECORDS = 1176, EXPIRED = 9576, COUNT = 9584, ENTRIES = 9592, RECORD = 56, ENTRY = 72 };
 enum { ON_NCH, ON_FACCH, ON_PCH, CHANNELS };
 #define PLACE(subscription, channel) (CHANNELS * (subscription) + (channel))
 #define KIND(subscription, channel) state[KINDS + PLACE(subscription, channel)]
@@ -73,14 +73,25 @@ static const uint32_t two_keys[2] = { ASTERNHAKEN_KEY(4711, 0), ASTERNHAKEN_KEY(
 
 enum { YARD = 9422, DISPATCHER = 9423 };
 
+/* Those that the ciphered calls here have, 3, 4 and 15, and another one, by which sets differ. */
+#define GROUP_KEYS(subscription) (ASTERNHAKEN_GROUP_KEY(3) | ASTERNHAKEN_GROUP_KEY(4) | ASTERNHAKEN_GROUP_KEY(15) | ASTERNHAKEN_GROUP_KEY(5 + (subscription) % 2))
+
+/* A setup with these sets of group keys. */
+static uint32_t set_up_with(const uint32_t *sets, size_t n_sets, const uint32_t *keys, size_t n, uint32_t tick, uint32_t t3206, uint32_t t3208, uint32_t t3210)
+{
+    uint32_t *copy = (uint32_t *)lent(n * sizeof *keys), *copy_of_sets = (uint32_t *)lent(n_sets * sizeof *sets);
+    memcpy(copy, keys, n * sizeof *keys), memcpy(copy_of_sets, sets, n_sets * sizeof *sets);
+    uint32_t result = asternhaken_setup(state, LENGTH, copy, n, copy_of_sets, n_sets, tick, t3206, t3208, t3210);
+    CHECK(!memcmp(copy, keys, n * sizeof *keys) && !memcmp(copy_of_sets, sets, n_sets * sizeof *sets));
+    free(copy), free(copy_of_sets);
+    return result;
+}
+
 static uint32_t set_up(const uint32_t *keys, size_t n, uint32_t tick, uint32_t t3206, uint32_t t3208, uint32_t t3210)
 {
-    uint32_t *copy = (uint32_t *)lent(n * sizeof *keys);
-    memcpy(copy, keys, n * sizeof *keys);
-    uint32_t result = asternhaken_setup(state, LENGTH, copy, n, tick, t3206, t3208, t3210);
-    CHECK(!memcmp(copy, keys, n * sizeof *keys));
-    free(copy);
-    return result;
+    uint32_t sets[ASTERNHAKEN_KEYS + 1];
+    for (size_t i = 0; i < n; i++) sets[i] = GROUP_KEYS(i);
+    return set_up_with(sets, n, keys, n, tick, t3206, t3208, t3210);
 }
 
 static void fresh(uint32_t tick)
@@ -106,6 +117,11 @@ static uint32_t facch(uint32_t tick, const char *hex)
     CHECK(same(octets, hex));
     free(octets);
     return result;
+}
+
+static uint32_t bit_22(uint32_t tick, uint32_t value)
+{
+    return asternhaken_bit_22(state, LENGTH, tick, value);
 }
 
 static uint32_t pch(uint32_t tick, const struct asternhaken_pch_entry *entry)
@@ -143,6 +159,12 @@ static int tells(uint32_t entry, uint64_t key, uint64_t told)
     return part(entry, ASTERNHAKEN_PART_KEY) == key && part(entry, ASTERNHAKEN_PART_TOLD) == told;
 }
 
+/* Whether an entry that is told 2 or 3 can be followed, and with which count. */
+static int follows(uint64_t told, uint64_t follow, uint64_t kept_count)
+{
+    return part(0, ASTERNHAKEN_PART_TOLD) == told && part(0, ASTERNHAKEN_PART_FOLLOW) == follow && part(0, ASTERNHAKEN_PART_KEPT_COUNT) == kept_count;
+}
+
 #define ACCEPTED(call) CHECK((call) == ASTERNHAKEN_ACCEPTED)
 
 /* A refused call of a receiver answers its number, with nothing in the upper bits, and leaves every octet of the state. */
@@ -165,6 +187,14 @@ static int tells(uint32_t entry, uint64_t key, uint64_t told)
 #define FACCH_SECOND "040001267aa0aaaaaaaaab2b"                     /* the VGCS call, VSTK_RAND 555555555 */
 #define NOTHING "2b2b2b2b2b2b2b2b2b2b2b2b2b2b2b2b2b2b2b2b"
 
+/* The same calls in one piece, VSTK_RAND 1 on the NCH and 555555555 on the FACCH; on the FACCH with count 2, whose B22 was 0 or 1; and an NCH message of a count alone. */
+#define YARD_PIECE "b00024cea385209192800000000b2b2b2b2b2b2b"
+#define YARD_PIECE_KEY_5 "b00024cea585209192800000000b2b2b2b2b2b2b" /* with key number 5 */
+#define DISPATCHER_PIECE "b00024cf54adc22b12800000000b2b2b2b2b2b2b"
+#define FACCH_PIECE_0 "040001267aa56e1158caaaaaaaaaab2b"
+#define FACCH_PIECE_1 "040001267aa56e1158daaaaaaaaaab2b"
+#define COUNT_3 "1c2b2b2b2b2b2b2b2b2b2b2b2b2b2b2b2b2b2b2b"
+
 /* On the PCH: the VBS call's halves, the second by its key alone and once more with another priority; the VGCS call, clear; one that nobody here follows. */
 static const struct asternhaken_pch_entry yard_first = { YARD, 1, 1, YARD << 8 | 0xa3, 1, 0x0a4123, 0, 0, 0, 0, 0, 0, 1, 1 };
 static const struct asternhaken_pch_entry yard_second = { YARD, 1, 0, 0, 0, 0, 0, 0, 0, 0, 1, 0x987654321, 1, 2 };
@@ -174,26 +204,26 @@ static const struct asternhaken_pch_entry strange = { 1630, 0, 0, 0, 0, 0, 0, 0,
 
 /* 99999999 VGCS, acknowledged, priority 7, key number 15, in one piece, with every part its channel has. The PCH has a short list there. NCH: NLN 2, channel 71f3c5, allocation of
  * one octet 5a, count 3, VSTK_RAND fedcba987, emergency, uplink 1, AMR 5 and 11, both SMS bits. FACCH: channel 8b1fff, a short list, count 2
- * with B22, VSTK_RAND 123456789, uplink 1, emergency, and once more with a Paging Cause. */
+ * with B22, VSTK_RAND 123456789, uplink 1, emergency, and once more with a Paging Cause. Behind each record: follow, with the count that is then kept. */
 #define NCH_WHOLE "dbebc1ffffb8f9e2c02b475fedcba98777aefb2b"
 #define FACCH_WHOLE "045f5e0ffffe2c7fff8000000000000001ec48d159e253"
 #define FACCH_CAUSED "045f5e0ffffe2c7fff8000000000000001ec48d159e257"
 
-static const uint64_t nch_parts[35] = {
+static const uint64_t nch_parts[37] = {
     0, 0, 1, 199999999, ASTERNHAKEN_TOLD_ONE_PIECE, 99999999, 0x71f3c5, 0x5a, 0xfedcba987,
-    1, 1, 1, 1, 1, 0, 1, 0, 1, 1, 1, 0, 1, 1, 1, 1, 1, 1, 1, 1, 7, 15, 1, 3, 5, 11
+    1, 1, 1, 1, 1, 0, 1, 0, 1, 1, 1, 0, 1, 1, 1, 1, 1, 1, 1, 1, 7, 15, 1, 3, 5, 11, ASTERNHAKEN_FOLLOW_WITH_COUNT, 3
 };
-static const uint64_t facch_parts[35] = {
+static const uint64_t facch_parts[37] = {
     0, 0, 1, 199999999, ASTERNHAKEN_TOLD_ONE_PIECE, 99999999, 0x8b1fff, 0x8000000000000001, 0x123456789,
-    1, 1, 1, 1, 1, 1, 0, 0, 1, 1, 1, 1, 1, 1, 0, 0, 0, 0, 0, 0, 7, 15, 0, 2, 0, 0
+    1, 1, 1, 1, 1, 1, 0, 0, 1, 1, 1, 1, 1, 1, 0, 0, 0, 0, 0, 0, 7, 15, 0, 2, 0, 0, ASTERNHAKEN_FOLLOW_WITH_COUNT, 2
 };
 
 static const struct asternhaken_pch_entry pch_whole = {
     199999999, 1, 1, (uint64_t)199999999 << 8 | 0xff, 1, 0x8b1fff, 1, 1, 0, 0x8000000000000001, 1, 0x123456789, 1, 3
 };
-static const uint64_t pch_parts[35] = {
+static const uint64_t pch_parts[37] = {
     0, 0, 1, 199999999, ASTERNHAKEN_TOLD_ONE_PIECE, 99999999, 0x8b1fff, 0x8000000000000001, 0x123456789,
-    1, 1, 1, 1, 1, 1, 0, 0, 1, 0, 1, 0, 0, 0, 0, 0, 0, 0, 0, 0, 7, 15, 0, 3, 0, 0
+    1, 1, 1, 1, 1, 1, 0, 0, 1, 0, 1, 0, 0, 0, 0, 0, 0, 0, 0, 0, 7, 15, 0, 3, 0, 0, ASTERNHAKEN_FOLLOW_WITH_COUNT, 3
 };
 
 /* ---- Setup: limits and refusals ---- */
@@ -225,6 +255,21 @@ static void setups(void)
     ACCEPTED(set_up(keys, ASTERNHAKEN_KEYS, 5, ASTERNHAKEN_LONGEST, 1, ASTERNHAKEN_LONGEST));
     ACCEPTED(set_up(keys, 0, 5, 5000, 5000, 5000));
     CHECK(ASTERNHAKEN_KEYS == 50 && ASTERNHAKEN_LONGEST == 60000);
+
+    /* one set of group keys for each key, of the numbers 1 to 15 */
+    uint32_t sets[3] = { 0, 0xfffe, 0 };
+    fresh(77);
+    REFUSED(set_up_with(sets, 1, two_keys, 2, 5, 5000, 5000, 5000), ASTERNHAKEN_REFUSED_SETUP);
+    REFUSED(set_up_with(sets, 3, two_keys, 2, 5, 5000, 5000, 5000), ASTERNHAKEN_REFUSED_SETUP);
+    REFUSED(set_up_with(sets, 0, two_keys, 2, 5, 5000, 5000, 5000), ASTERNHAKEN_REFUSED_SETUP);
+    REFUSED(set_up_with(sets, 1, two_keys, 0, 5, 5000, 5000, 5000), ASTERNHAKEN_REFUSED_SETUP);
+    ACCEPTED(set_up_with(sets, 2, two_keys, 2, 5, 5000, 5000, 5000));
+    for (unsigned n = 0; n < 32; n++) {
+        sets[1] = ASTERNHAKEN_GROUP_KEY(n);
+        if (n >= 1 && n <= ASTERNHAKEN_LAST_GROUP_KEY) ACCEPTED(set_up_with(sets, 2, two_keys, 2, 5, 5000, 5000, 5000));
+        else REFUSED(set_up_with(sets, 2, two_keys, 2, 5, 5000, 5000, 5000), ASTERNHAKEN_REFUSED_SETUP);
+    }
+    CHECK(ASTERNHAKEN_LAST_GROUP_KEY == 15 && ASTERNHAKEN_GROUP_KEY(31) == 0x80000000u);
 }
 
 /* ---- Looking a key up: the key in the middle of what may hold it, of two the later, until it is found or nothing is left ---- */
@@ -278,7 +323,7 @@ static void wrong_length(size_t length)
     *keys = UINT32_MAX;
     *message = 0;
     *value = UINT64_MAX;
-    CHECK(asternhaken_setup(octets, length, keys, 1, 0, 0, 0, 0) == ASTERNHAKEN_REFUSED_LENGTH);
+    CHECK(asternhaken_setup(octets, length, keys, 1, keys, 1, 0, 0, 0, 0) == ASTERNHAKEN_REFUSED_LENGTH);
     CHECK(asternhaken_nch(octets, length, 0, message, 1) == ASTERNHAKEN_REFUSED_LENGTH);
     CHECK(asternhaken_facch(octets, length, 0, message, 1) == ASTERNHAKEN_REFUSED_LENGTH);
     CHECK(asternhaken_pch(octets, length, 0, value, 1) == ASTERNHAKEN_REFUSED_LENGTH);
@@ -287,6 +332,7 @@ static void wrong_length(size_t length)
     CHECK(asternhaken_handed_over(octets, length, 0) == ASTERNHAKEN_REFUSED_LENGTH);
     CHECK(asternhaken_reconfigured(octets, length, 0) == ASTERNHAKEN_REFUSED_LENGTH);
     CHECK(asternhaken_left_idle(octets, length, 0) == ASTERNHAKEN_REFUSED_LENGTH);
+    CHECK(asternhaken_bit_22(octets, length, 0, 2) == ASTERNHAKEN_REFUSED_LENGTH);
     CHECK(asternhaken_tick(octets, length, 0) == ASTERNHAKEN_REFUSED_LENGTH);
     *value = 7;
     CHECK(asternhaken_read(octets, length, 0, ASTERNHAKEN_PART_ENTRY_COUNT, value) == ASTERNHAKEN_REFUSED_LENGTH);
@@ -302,9 +348,10 @@ static void lengths(void)
 {
     fresh(1000);
     ACCEPTED(nch(1000, YARD_FIRST));
-    CHECK(ASTERNHAKEN_STATE_LENGTH == 10040);
-    wrong_length(10039);
-    wrong_length(10041);
+    CHECK(ASTERNHAKEN_STATE_LENGTH == 10240);
+    wrong_length(10239);
+    wrong_length(10241);
+    wrong_length(10040); /* that of the version before */
     wrong_length(0);
     CHECK(answers(0, 0, 1));
 }
@@ -427,6 +474,9 @@ static void refusals(void)
     REFUSED(asternhaken_reselected(state, LENGTH, 999), ASTERNHAKEN_REFUSED_CLOCK);
     REFUSED(asternhaken_handed_over(state, LENGTH, 999), ASTERNHAKEN_REFUSED_CLOCK);
     REFUSED(asternhaken_reconfigured(state, LENGTH, 999), ASTERNHAKEN_REFUSED_CLOCK);
+    REFUSED(bit_22(1001, 2), ASTERNHAKEN_REFUSED_RANGE);
+    REFUSED(bit_22(1001, UINT32_MAX), ASTERNHAKEN_REFUSED_RANGE);
+    REFUSED(bit_22(999, 2), ASTERNHAKEN_REFUSED_CLOCK);
     REFUSED(asternhaken_tick(state, LENGTH, 999), ASTERNHAKEN_REFUSED_CLOCK);
     REFUSED(asternhaken_tick(state, LENGTH, 1000 + 0x80000000u), ASTERNHAKEN_REFUSED_CLOCK); /* a step of 2^31 */
     ACCEPTED(asternhaken_tick(state, LENGTH, 1000 + 0x7fffffffu));
@@ -536,6 +586,99 @@ static void pch_refusals(void)
     CHECK(part(0, ASTERNHAKEN_PART_SHORT_LIST) == 1 && part(0, ASTERNHAKEN_PART_ALLOCATION_OCTETS) == 0 && part(0, ASTERNHAKEN_PART_FREQUENCIES) == 0xa55a);
 }
 
+/* ---- Whether a call can be followed ---- */
+
+/* Its group key first, then the cell's count, which is taken before the entries are told. */
+static void following(void)
+{
+    enum { NOT_SAID = ASTERNHAKEN_FOLLOW_NOT_SAID, NO_KEY = ASTERNHAKEN_FOLLOW_NO_KEY, NO_COUNT = ASTERNHAKEN_FOLLOW_NO_COUNT, WITH_COUNT = ASTERNHAKEN_FOLLOW_WITH_COUNT };
+    enum { PIECE = ASTERNHAKEN_TOLD_ONE_PIECE, JOINED = ASTERNHAKEN_TOLD_JOINED };
+    fresh(1000);
+    ACCEPTED(nch(1000, YARD_PIECE));
+    CHECK(follows(PIECE, NO_COUNT, 0));
+    ACCEPTED(nch(1000, YARD_FIRST)); /* count 1 */
+    CHECK(follows(ASTERNHAKEN_TOLD_HALF_STORED, NOT_SAID, 0));
+    ACCEPTED(nch(1000, YARD_FIRST));
+    CHECK(follows(ASTERNHAKEN_TOLD_HALF_HELD, NOT_SAID, 0));
+    ACCEPTED(nch(1000, YARD_SECOND));
+    CHECK(follows(JOINED, WITH_COUNT, 1));
+    ACCEPTED(nch(1000, "b00024cea08520918b2b2b2b2b2b2b2b2b2b2b2b")); /* clear */
+    CHECK(follows(ASTERNHAKEN_TOLD_CLEAR, NOT_SAID, 0));
+    ACCEPTED(nch(1000, COUNT_3));
+    CHECK(answers(0, 0, 0));
+    ACCEPTED(nch(1000, DISPATCHER_PIECE));
+    CHECK(follows(PIECE, WITH_COUNT, 3) && part(0, ASTERNHAKEN_PART_COUNT_GIVEN) == 0);
+    REFUSED(nch(1000, "1c2b2b2b2b2b2b2b2b2b2b2b2b2b2b2b2b2b2b"), ASTERNHAKEN_REFUSED_MESSAGE_LENGTH);
+
+    /* the bit: its first value is no change, and from 1 to 0 the count goes from 3 to 0 */
+    ACCEPTED(bit_22(1000, 0));
+    CHECK(answers(0, 0, 0));
+    ACCEPTED(nch(1000, DISPATCHER_PIECE));
+    CHECK(follows(PIECE, WITH_COUNT, 3));
+    ACCEPTED(bit_22(1000, 1)), ACCEPTED(bit_22(1000, 1)), ACCEPTED(bit_22(1000, 0)), ACCEPTED(bit_22(1000, 0));
+    ACCEPTED(nch(1000, DISPATCHER_PIECE));
+    CHECK(follows(PIECE, WITH_COUNT, 0));
+    ACCEPTED(bit_22(1000, 1));
+    REFUSED(bit_22(1000, 2), ASTERNHAKEN_REFUSED_RANGE);
+    ACCEPTED(bit_22(1000, 0));
+    ACCEPTED(nch(1000, DISPATCHER_PIECE));
+    CHECK(follows(PIECE, WITH_COUNT, 1));
+
+    /* on the FACCH a count goes by its B22 and the bit; the record's own stays as it was sent */
+    ACCEPTED(facch(1000, FACCH_PIECE_1));
+    CHECK(follows(PIECE, WITH_COUNT, 3) && part(0, ASTERNHAKEN_PART_CELL_GLOBAL_COUNT) == 2 && part(0, ASTERNHAKEN_PART_B22_COUNT) == 1);
+    ACCEPTED(facch(1000, FACCH_PIECE_0));
+    CHECK(follows(PIECE, WITH_COUNT, 2));
+    ACCEPTED(bit_22(1000, 1));
+    ACCEPTED(nch(1000, COUNT_3));
+    ACCEPTED(facch(1000, FACCH_PIECE_1));
+    CHECK(follows(PIECE, WITH_COUNT, 2));
+    ACCEPTED(pch(1000, &yard_first)); /* count 1 */
+    ACCEPTED(pch(1000, &yard_second)); /* count 2 */
+    CHECK(follows(JOINED, WITH_COUNT, 2));
+
+    /* what forgets count and bit, and what does not; while the bit is not known, a FACCH count is not taken */
+    ACCEPTED(asternhaken_reconfigured(state, LENGTH, 1000));
+    ACCEPTED(asternhaken_left_idle(state, LENGTH, 1000));
+    ACCEPTED(asternhaken_joined(state, LENGTH, 1000, YARD));
+    ACCEPTED(asternhaken_tick(state, LENGTH, 1000));
+    ACCEPTED(nch(1000, "cb2b2b2b2b2b2b2b2b2b2b2b2b2b2b2b2b2b2b2b")); /* NLN 2 */
+    ACCEPTED(nch(1000, DISPATCHER_PIECE));
+    CHECK(follows(PIECE, WITH_COUNT, 2));
+    for (int i = 0; i < 2; i++) {
+        ACCEPTED((i ? asternhaken_reselected : asternhaken_handed_over)(state, LENGTH, 1000));
+        ACCEPTED(facch(1000, FACCH_PIECE_1));
+        CHECK(follows(PIECE, NO_COUNT, 0));
+        ACCEPTED(nch(1000, COUNT_3));
+        ACCEPTED(facch(1000, FACCH_PIECE_1)); /* the older count stays */
+        CHECK(follows(PIECE, WITH_COUNT, 3));
+        ACCEPTED(bit_22(1000, 1));
+    }
+
+    /* the group keys of the call's own subscription, for the key number of its record; no key goes before no count */
+    const uint32_t sets[2] = { ASTERNHAKEN_GROUP_KEY(3), ASTERNHAKEN_GROUP_KEY(5) };
+    ACCEPTED(set_up_with(sets, 2, two_keys, 2, 1000, 5000, 5000, 5000));
+    ACCEPTED(nch(1000, YARD_PIECE_KEY_5));
+    CHECK(follows(PIECE, NO_KEY, 0));
+    ACCEPTED(nch(1000, YARD_PIECE));
+    CHECK(follows(PIECE, NO_COUNT, 0));
+    ACCEPTED(nch(1000, COUNT_3));
+    ACCEPTED(nch(1000, YARD_PIECE_KEY_5));
+    CHECK(follows(PIECE, NO_KEY, 0));
+    ACCEPTED(nch(1000, DISPATCHER_PIECE));
+    CHECK(follows(PIECE, NO_KEY, 0));
+    ACCEPTED(nch(1000, YARD_PIECE));
+    CHECK(follows(PIECE, WITH_COUNT, 3));
+
+    /* a bit is an event: what ran out is gone */
+    ACCEPTED(nch(1000, YARD_FIRST));
+    ACCEPTED(bit_22(5999, 0));
+    CHECK(answers(0, 0, 0));
+    ACCEPTED(bit_22(6000, 0));
+    CHECK(answers(1, 0, 0));
+    REFUSED(asternhaken_tick(state, LENGTH, 5999), ASTERNHAKEN_REFUSED_CLOCK);
+}
+
 /* ---- Parts of an answer ---- */
 
 static int no_parts(uint32_t entry, uint32_t from)
@@ -551,13 +694,14 @@ static void parts(void)
     ACCEPTED(set_up(&key, 1, 5, 5000, 5000, 5000));
     CHECK(no_parts(0, 0));
     ACCEPTED(nch(6, NCH_WHOLE));
-    for (uint32_t p = 0; p < 35; p++) CHECK(part(0, p) == nch_parts[p]);
-    CHECK(no_parts(1, 3) && part(0, 35) == 0 && part(0, UINT32_MAX) == 0);
+    for (uint32_t p = 0; p < ASTERNHAKEN_PARTS; p++) CHECK(part(0, p) == nch_parts[p]);
+    CHECK(no_parts(1, 3) && part(0, ASTERNHAKEN_PARTS) == 0 && part(0, UINT32_MAX) == 0);
     CHECK(part(9, ASTERNHAKEN_PART_ENTRY_COUNT) == 1);
+    ACCEPTED(bit_22(7, 1));
     ACCEPTED(facch(7, FACCH_WHOLE));
-    for (uint32_t p = 0; p < 35; p++) CHECK(part(0, p) == facch_parts[p]);
+    for (uint32_t p = 0; p < ASTERNHAKEN_PARTS; p++) CHECK(part(0, p) == facch_parts[p]);
     ACCEPTED(pch(8, &pch_whole));
-    for (uint32_t p = 0; p < 35; p++) CHECK(part(0, p) == pch_parts[p]);
+    for (uint32_t p = 0; p < ASTERNHAKEN_PARTS; p++) CHECK(part(0, p) == pch_parts[p]);
 }
 
 /* Each member of a struct stands where the array of numbers has it. */
@@ -575,10 +719,11 @@ static void members(void)
     RECORD_AT(sms_given, SMS_GIVEN), RECORD_AT(sms_confidentiality, SMS_CONFIDENTIALITY), RECORD_AT(sms_privacy, SMS_PRIVACY), RECORD_AT(priority, PRIORITY);
     RECORD_AT(cipher_key_number, CIPHER_KEY_NUMBER), RECORD_AT(allocation_octets, ALLOCATION_OCTETS), RECORD_AT(cell_global_count, CELL_GLOBAL_COUNT);
     RECORD_AT(fr_amr_config, FR_AMR_CONFIG), RECORD_AT(hr_amr_config, HR_AMR_CONFIG);
-    CHECK(ASTERNHAKEN_RECORD_NUMBERS == ASTERNHAKEN_PARTS - ASTERNHAKEN_PART_CALL_REFERENCE && ASTERNHAKEN_PARTS == ASTERNHAKEN_PART_HR_AMR_CONFIG + 1);
+    CHECK(ASTERNHAKEN_RECORD_NUMBERS == ASTERNHAKEN_PART_HR_AMR_CONFIG + 1 - ASTERNHAKEN_PART_CALL_REFERENCE && ASTERNHAKEN_PARTS == ASTERNHAKEN_PART_KEPT_COUNT + 1);
     CHECK(ASTERNHAKEN_ENTRY_NUMBERS == ASTERNHAKEN_PARTS - ASTERNHAKEN_PART_KEY && ASTERNHAKEN_HELD_NUMBERS == 4 + ASTERNHAKEN_RECORD_NUMBERS);
     AT(entry, key, ASTERNHAKEN_PART_KEY - ASTERNHAKEN_PART_KEY), AT(entry, told, ASTERNHAKEN_PART_TOLD - ASTERNHAKEN_PART_KEY);
     AT(entry, record, ASTERNHAKEN_PART_CALL_REFERENCE - ASTERNHAKEN_PART_KEY);
+    AT(entry, follow, ASTERNHAKEN_PART_FOLLOW - ASTERNHAKEN_PART_KEY), AT(entry, kept_count, ASTERNHAKEN_PART_KEPT_COUNT - ASTERNHAKEN_PART_KEY);
     AT(held, key, 0), AT(held, on, 1), AT(held, half, 2), AT(held, ms_left, 3), AT(held, record, 4);
     AT(answer, expired, ASTERNHAKEN_PART_EXPIRED), AT(answer, dropped, ASTERNHAKEN_PART_DROPPED), AT(answer, entry_count, ASTERNHAKEN_PART_ENTRY_COUNT);
     PCH_AT(key, KEY), PCH_AT(ciphered, CIPHERED), PCH_AT(reference_given, REFERENCE_GIVEN), PCH_AT(reference, REFERENCE), PCH_AT(channel_given, CHANNEL_GIVEN), PCH_AT(channel, CHANNEL);
@@ -663,18 +808,19 @@ static void octets(void)
     put(4, 4, 5000);
     put(8, 4, 4000);
     put(12, 4, 3000);
-    layout[NLN] = 4;
+    layout[NLN] = layout[KEPT] = 4;
+    layout[BIT_22] = 2;
     layout[N_KEYS] = 3;
     for (size_t i = 0; i < 50; i++) put(KEYS + 4 * i, 4, i < 3 ? keys[i] : UINT32_MAX);
+    for (size_t i = 0; i < 3; i++) put(SETS + 4 * i, 4, GROUP_KEYS(i));
     memcpy(layout + MARK, state + MARK, KEYS - MARK); /* tests/views.c has the mark */
     LAID_OUT();
 
     /* what no event looks at stays as it is: the unused octets, the mark, the answer's entries from the second on */
-    leave(NLN + 1, N_KEYS - NLN - 1, 0xa1);
     leave(MARK, KEYS - MARK, 0xa1);
     leave(KINDS + 150, TICKS - KINDS - 150, 0xa2);
     leave(COUNT + 4, ENTRIES - COUNT - 4, 0xa3);
-    leave(ENTRIES + 9, 7, 0xa4);
+    leave(ENTRIES + 11, 5, 0xa4);
     leave(ENTRIES + ENTRY, 8 * ENTRY, 0xa5);
 
     /* flag 34 is the count's, octet 47 the count */
@@ -683,7 +829,7 @@ static void octets(void)
     CHECK(on_nch == 3 && on_facch == 7 && on_pch == 5);
     ACCEPTED(nch(0x01020305, YARD_FIRST));
     put_answer(0x01020305, 0, 0, 1);
-    layout[NLN] = 1;
+    layout[NLN] = layout[KEPT] = 1;
     layout[KINDS + on_nch] = 1;
     put(TICKS + 4 * on_nch, 4, 0x01020305);
     put_first(at);
@@ -713,7 +859,7 @@ static void octets(void)
     put(at, 4, 4711);
     put(at + 16, 8, 0x987654321);
     layout[at + 32] = layout[at + 34] = 1;
-    layout[at + 47] = 2;
+    layout[at + 47] = layout[KEPT] = 2;
     put_told(0, YARD, 4);
     LAID_OUT();
 
@@ -725,10 +871,22 @@ static void octets(void)
     clear(at, RECORD);
     LAID_OUT();
 
-    /* joined: the place is all zero, and the record in the answer has flag 32 and the VSTK_RAND */
+    /* bit 22, and the kept count that it raises */
+    ACCEPTED(bit_22(0x01020306, 1));
+    put_answer(0x01020306, 0, 0, 0);
+    layout[BIT_22] = 1;
+    LAID_OUT();
+    ACCEPTED(bit_22(0x01020306, 0));
+    layout[BIT_22] = 0;
+    layout[KEPT] = 3;
+    LAID_OUT();
+
+    /* joined: the place is all zero, and the record in the answer has flag 32 and the VSTK_RAND; before it stands that the call can be followed, and with which count */
     ACCEPTED(nch(0x01020307, YARD_SECOND));
     put_answer(0x01020307, 0, 0, 1);
     put_told(0, YARD, 3);
+    layout[ENTRIES + 9] = ASTERNHAKEN_FOLLOW_WITH_COUNT;
+    layout[ENTRIES + 10] = 3;
     at = ENTRIES + 16;
     put_first(at);
     layout[at + 34] = layout[at + 47] = layout[at + 32] = 1;
@@ -742,6 +900,7 @@ static void octets(void)
     ACCEPTED(nch(0x01020308, "b000065e008520918b2b2b2b2b2b2b2b2b2b2b2b"));
     put_answer(0x01020308, 0, 0, 1);
     put_told(0, 1630, 0);
+    layout[ENTRIES + 9] = layout[ENTRIES + 10] = 0;
     LAID_OUT();
     CHECK(no_parts(0, 4));
 
@@ -753,12 +912,23 @@ static void octets(void)
     clear(RECORDS + RECORD * on_facch, RECORD);
     LAID_OUT();
     CHECK(no_parts(0, 3));
+
+    /* in another cell count and bit are unknown, after a handover with the NLN as it was */
+    ACCEPTED(asternhaken_handed_over(state, LENGTH, 0x01020306 + 4000));
+    put_answer(0x01020306 + 4000, 0, 0, 0);
+    layout[KEPT] = 4;
+    layout[BIT_22] = 2;
+    LAID_OUT();
+    ACCEPTED(bit_22(0x01020306 + 4000, 1));
+    ACCEPTED(asternhaken_reselected(state, LENGTH, 0x01020306 + 4000));
+    layout[NLN] = 4;
+    LAID_OUT();
 }
 
 /* Octets that no setup left are answered by the same tables. */
 static void made_by_hand(void)
 {
-    uint64_t parts_of[35] = { 7, 0x01020304, 1, 0x0102030405060708, 3, 0xfffffffe, 0x11223344, 0x1122334455667788, 0x99aabbccddeeff00 };
+    uint64_t parts_of[37] = { 7, 0x01020304, 1, 0x0102030405060708, 3, 0xfffffffe, 0x11223344, 0x1122334455667788, 0x99aabbccddeeff00 };
     const size_t record = ENTRIES + 16;
     memset(layout, 0xee, LENGTH);
     put_answer(0, 7, 0x01020304, 1);
@@ -769,14 +939,18 @@ static void made_by_hand(void)
     put(record + 16, 8, 0x99aabbccddeeff00);
     for (size_t i = 0; i < 20; i++) layout[record + 24 + i] = (uint8_t)(200 + i), parts_of[9 + i] = 1;
     for (size_t i = 0; i < 6; i++) layout[record + 44 + i] = (uint8_t)(100 + i), parts_of[29 + i] = 100 + i;
+    layout[ENTRIES + 9] = 0x77;
+    parts_of[ASTERNHAKEN_PART_FOLLOW] = 0x77, parts_of[ASTERNHAKEN_PART_KEPT_COUNT] = 0xee;
     memcpy(state, layout, LENGTH);
-    for (uint32_t p = 0; p < 35; p++) CHECK(part(0, p) == parts_of[p]);
+    for (uint32_t p = 0; p < ASTERNHAKEN_PARTS; p++) CHECK(part(0, p) == parts_of[p]);
     for (uint32_t i = 0; i < 20; i++) { /* each flag alone is 0 */
         state[record + 24 + i] = 0;
         CHECK(part(0, 9 + i) == 0 && part(0, 9 + (i + 1) % 20) == 1 && part(0, 9 + (i + 19) % 20) == 1);
         state[record + 24 + i] = 1;
     }
-    state[ENTRIES + 8] = 4; /* told 4 has no record */
+    state[ENTRIES + 8] = 4; /* told 4 has no record; what stands beside it is read as it stands */
+    CHECK(follows(4, 0x77, 0xee));
+    state[ENTRIES + 9] = state[ENTRIES + 10] = 0;
     CHECK(no_parts(0, 5) && tells(0, 0x0102030405060708, 4) && tells(1, 0, 0));
     state[COUNT] = 200; /* any number is read as it stands, but there are nine entries */
     CHECK(part(0, ASTERNHAKEN_PART_ENTRY_COUNT) == 200);
@@ -792,6 +966,7 @@ static void made_by_hand(void)
     state[RECORDS + RECORD * PLACE(1, ON_NCH) + 16] = 0x55;
     ACCEPTED(nch(99, YARD_FIRST));
     CHECK(answers(0, 0, 1) && tells(0, YARD, ASTERNHAKEN_TOLD_JOINED) && part(0, ASTERNHAKEN_PART_VSTK_RAND) == 0x55 && KIND(0, ON_NCH) == 9 && KIND(1, ON_NCH) == 0);
+    CHECK(part(0, ASTERNHAKEN_PART_FOLLOW) == ASTERNHAKEN_FOLLOW_NO_KEY);
 
     /* what stands behind so many keys is none; a number above 50 is 50 */
     state[N_KEYS] = 0;
@@ -805,6 +980,25 @@ static void made_by_hand(void)
     state[N_KEYS] = 255;
     ACCEPTED(nch(99, YARD_FIRST));
     CHECK(tells(0, YARD, ASTERNHAKEN_TOLD_HALF_STORED) && KIND(49, ON_NCH) == 1);
+
+    /* a count above 3 is none, and a bit above 1; of a set only bits 1 to 15 are looked at */
+    memset(state + SETS, 0xff, 4 * ASTERNHAKEN_KEYS);
+    state[KEPT] = state[BIT_22] = 255;
+    ACCEPTED(nch(99, YARD_PIECE));
+    CHECK(follows(ASTERNHAKEN_TOLD_ONE_PIECE, ASTERNHAKEN_FOLLOW_NO_COUNT, 0));
+    state[KEPT] = 3;
+    ACCEPTED(facch(99, FACCH_PIECE_1));
+    ACCEPTED(nch(99, YARD_PIECE));
+    CHECK(follows(ASTERNHAKEN_TOLD_ONE_PIECE, ASTERNHAKEN_FOLLOW_WITH_COUNT, 3));
+    ACCEPTED(bit_22(99, 0));
+    CHECK(state[KEPT] == 3 && state[BIT_22] == 0);
+    state[KEPT] = 77;
+    ACCEPTED(bit_22(99, 1)), ACCEPTED(bit_22(99, 0));
+    CHECK(state[KEPT] == 77);
+    state[KEPT] = 2;
+    state[SETS + 4 * 49] = 1, state[SETS + 4 * 49 + 1] = 0;
+    ACCEPTED(nch(99, YARD_PIECE));
+    CHECK(follows(ASTERNHAKEN_TOLD_ONE_PIECE, ASTERNHAKEN_FOLLOW_NO_KEY, 0));
 }
 
 /* ---- The codecs ---- */
@@ -1253,13 +1447,19 @@ static int is_sentence(const char *text)
 
 static void words(void)
 {
-    enum { REFUSALS = ASTERNHAKEN_REFUSED_RAN_OUT_7 + 1, TELLINGS = ASTERNHAKEN_TOLD_SECOND_BEFORE_FIRST + 1 };
+    enum { REFUSALS = ASTERNHAKEN_REFUSED_RAN_OUT_7 + 1, TELLINGS = ASTERNHAKEN_TOLD_SECOND_BEFORE_FIRST + 1, FOLLOWINGS = ASTERNHAKEN_FOLLOW_WITH_COUNT + 1 };
     ALL_DIFFER(asternhaken_refusal_word, REFUSALS);
     ALL_DIFFER(asternhaken_refusal_sentence, REFUSALS);
     ALL_DIFFER(asternhaken_told_word, TELLINGS);
     ALL_DIFFER(asternhaken_told_sentence, TELLINGS);
+    ALL_DIFFER(asternhaken_follow_word, FOLLOWINGS);
+    ALL_DIFFER(asternhaken_follow_sentence, FOLLOWINGS);
     for (uint32_t i = 0; i <= REFUSALS; i++) CHECK(is_sentence(asternhaken_refusal_sentence(i)));
     for (uint32_t i = 0; i <= TELLINGS; i++) CHECK(is_sentence(asternhaken_told_sentence(i)));
+    for (uint32_t i = 0; i <= FOLLOWINGS; i++) CHECK(is_sentence(asternhaken_follow_sentence(i)));
+    CHECK(!strcmp(asternhaken_follow_word(ASTERNHAKEN_FOLLOW_NO_KEY), "no key") && !strcmp(asternhaken_follow_word(ASTERNHAKEN_FOLLOW_NO_COUNT), "no count"));
+    CHECK(!strcmp(asternhaken_follow_word(ASTERNHAKEN_FOLLOW_WITH_COUNT), "follow") && !strcmp(asternhaken_follow_word(FOLLOWINGS), "unknown"));
+    CHECK(asternhaken_follow_word(((uint64_t)1 << 32) + ASTERNHAKEN_FOLLOW_NO_KEY) == asternhaken_follow_word(FOLLOWINGS));
     CHECK(!strcmp(asternhaken_refusal_word(ASTERNHAKEN_ACCEPTED), "accepted") && !strcmp(asternhaken_refusal_word(ASTERNHAKEN_REFUSED_CLOCK), "clock"));
     CHECK(!strcmp(asternhaken_refusal_word(ASTERNHAKEN_REFUSED_LENGTH), "length") && !strcmp(asternhaken_refusal_word(REFUSALS), "unknown"));
     CHECK(!strcmp(asternhaken_refusal_word(ASTERNHAKEN_REFUSED_RAN_OUT_7), "bits ran out in Release 7"));
@@ -1293,6 +1493,7 @@ int main(void)
     refusals();
     paging_channel();
     pch_refusals();
+    following();
     parts();
     members();
     octets();

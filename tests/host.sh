@@ -56,6 +56,7 @@ T3206 T3206 receiver/src/start.rt
 T3208 T3208 receiver/src/start.rt
 T3210 T3210 receiver/src/start.rt
 LAST_KEY LAST_KEY pch/src/lib.rt
+LAST_GROUP_KEY LAST_GROUP_KEY receiver/src/count.rt
 PCH_NUMBERS LENGTH pch/src/lib.rt
 END
 }
@@ -84,8 +85,8 @@ ignored() {
 }
 # must_use COMPILER KIND: it warns of each of these calls, and of none of those that say all by what they write.
 must_use() {
-    set -- "$1" "$tmp/ignored.$2" 'asternhaken_setup(s, 1, k, 1, 0, 1, 1, 1)' 'asternhaken_nch(s, 1, 0, s, 1)' 'asternhaken_facch(s, 1, 0, s, 1)' 'asternhaken_pch(s, 1, 0, v, 1)' \
-        'asternhaken_joined(s, 1, 0, 1)' 'asternhaken_reselected(s, 1, 0)' 'asternhaken_handed_over(s, 1, 0)' 'asternhaken_reconfigured(s, 1, 0)' 'asternhaken_left_idle(s, 1, 0)' \
+    set -- "$1" "$tmp/ignored.$2" 'asternhaken_setup(s, 1, k, 1, k, 1, 0, 1, 1, 1)' 'asternhaken_nch(s, 1, 0, s, 1)' 'asternhaken_facch(s, 1, 0, s, 1)' 'asternhaken_pch(s, 1, 0, v, 1)' \
+        'asternhaken_joined(s, 1, 0, 1)' 'asternhaken_reselected(s, 1, 0)' 'asternhaken_handed_over(s, 1, 0)' 'asternhaken_reconfigured(s, 1, 0)' 'asternhaken_left_idle(s, 1, 0)' 'asternhaken_bit_22(s, 1, 0, 1)' \
         'asternhaken_tick(s, 1, 0)' 'asternhaken_find(k, 1, 1, v, v + 1)' 'asternhaken_nch_read(s, 1, v, 1)' 'asternhaken_nch_write(v, 1, s, 1)' 'asternhaken_facch_read(s, 1, v, 1)' 'asternhaken_cause_decode(s, 1, c)' \
         'asternhaken_cause_encode(c, s, 1)'
     by=$1 file=$2
@@ -119,16 +120,17 @@ figures
 while read -r f; do holds "tests/stack.c does not call $f" grep -qw "$f" tests/stack.c; done < "$tmp/functions"
 cat "$tmp/inlines" "$tmp/functions" > "$tmp/called"
 while read -r f; do holds "neither tests/header.c nor tests/views.c calls $f" grep -qw "$f" tests/header.c tests/views.c; done < "$tmp/called"
-# names HEADER: refusals, told numbers and parts have their prefixes, and behind them no two have the same name; a flag that says whether something is there ends in _GIVEN.
+# names HEADER: refusals, told numbers, what is said of following and parts have their prefixes, and behind them no two have the same name; a flag that says whether something is there ends in _GIVEN.
 names() {
     sed -n 's/^    ASTERNHAKEN_\([A-Z0-9_]*\) = .*/\1/p' "$1" | grep -v '^PCH_' > "$tmp/names"
-    ! grep -v -e '^ACCEPTED$' -e '^REFUSED_' -e '^TOLD_' -e '^PART_' "$tmp/names" && [ "$(wc -l < "$tmp/names")" -ge 58 ] && [ -z "$(sed 's/^[A-Z]*_//' "$tmp/names" | sort | uniq -d)" ] || return 1
+    ! grep -v -e '^ACCEPTED$' -e '^REFUSED_' -e '^TOLD_' -e '^FOLLOW_' -e '^PART_' "$tmp/names" && [ "$(wc -l < "$tmp/names")" -ge 66 ] && [ -z "$(sed 's/^[A-Z]*_//' "$tmp/names" | sort | uniq -d)" ] || return 1
     [ "$(grep -cE '^    ASTERNHAKEN_.*_GIVEN = .* (is|are) there' "$1")" -ge 11 ] && ! grep -E '^    ASTERNHAKEN_.* = .* (is|are) there' "$1" | grep -v '_GIVEN = '
 }
 not_names() { sed "$1" include/asternhaken.h > "$tmp/names.h" && ! cmp -s include/asternhaken.h "$tmp/names.h" && ! names "$tmp/names.h"; }
-holds 'the names of refusals, told numbers and parts' names include/asternhaken.h
+holds 'the names of refusals, told numbers, what is said of following and parts' names include/asternhaken.h
 holds 'a refusal without its prefix is refused' not_names 's/ASTERNHAKEN_REFUSED_CLOCK = /ASTERNHAKEN_CLOCK = /'
 holds 'a part with the name of a refusal is refused' not_names 's/ASTERNHAKEN_PART_HOPS = /ASTERNHAKEN_PART_HOPPING = /'
+holds 'a number of following without its prefix is refused' not_names 's/ASTERNHAKEN_FOLLOW_NO_KEY = /ASTERNHAKEN_NO_KEY = /'
 holds 'a flag under another name is refused' not_names 's/ASTERNHAKEN_PART_COUNT_GIVEN = /ASTERNHAKEN_PART_COUNTED = /'
 # may_be_left HEADER: all results but those of what only looks at a state, and of the version, must be used.
 may_be_left() {
@@ -183,7 +185,9 @@ wrong_lines() {
         printf '%s\n' 'tick 5' 'setup 0 5000 5000' 'setup x 5000 5000 5000 9422' 'setup 0 5000 5000 5000 4711/VXS' 'setup 0 5000 5000 5000 thirteen_long=9422' \
             'setup 0 5000 5000 60001 9422' '  # a comment, then a setup' 'setup 0 5000 5000 5000 yard=4711/VBS # the yard' '' 'nch 1 2b2' 'nch 1 2g' 'nch 1' \
             'nch 4294967296 2b' 'nch 1 2b' 'joined 1 4711/' 'joined 1' 'tick 1 2' 'frob 1' 'setup 0 1 1 x' 'pch 1' 'pch 1 4711/' 'pch 1 9422 rand=' 'pch 1 9422 rand' \
-            'pch 1 9422 rand=0123456789abcdef0' 'pch 1 9422 rand=g' 'pch 1 9422 frob=1' 'pch 1 9422 count=4' 'pch 1 9422 ciphered rand=7' 'left_idle 1 2' 'left_idle 1'
+            'pch 1 9422 rand=0123456789abcdef0' 'pch 1 9422 rand=g' 'pch 1 9422 frob=1' 'pch 1 9422 count=4' 'pch 1 9422 ciphered rand=7' 'left_idle 1 2' 'left_idle 1' \
+            'bit_22 1' 'bit_22 1 x' 'bit_22 1 2' 'bit_22 1 1' 'setup 0 1 1 1 9422:' 'setup 0 1 1 1 9422:3,' 'setup 0 1 1 1 9422:32' 'setup 0 1 1 1 :3' 'setup 0 1 1 1 9422:0' 'setup 0 1 1 1 9422:3,16' \
+            'setup 1 5000 5000 5000 yard=4711/VBS:15,3,1'
         head -c 5000 /dev/zero | tr '\0' 1
         printf '\nti\0ck 1\ntick 1'
     } | $run "$tmp/control_room" > "$tmp/shown" 2> "$tmp/wrong"
@@ -212,11 +216,17 @@ line 24: PART is no ciphered, full=, channel=, allocation=, list=, rand= or coun
 line 25: PART is no ciphered, full=, channel=, allocation=, list=, rand= or count= with up to 16 digits
 line 26: PART is no ciphered, full=, channel=, allocation=, list=, rand= or count= with up to 16 digits
 line 29: nothing stands behind the TICK
-line 31: the line is too long
-line 32: the line is no text
+line 31: the words are TICK VALUE
+line 32: VALUE is no number of 32 bits
+line 35: behind CALL: stand no numbers of group keys
+line 36: behind CALL: stand no numbers of group keys
+line 37: behind CALL: stand no numbers of group keys
+line 38: CALL is no key, REFERENCE/VBS or REFERENCE/VGCS
+line 42: the line is too long
+line 43: the line is no text
 END
     diff - "$tmp/shown" <<'END'
-      tick  event         name          call           told                   channel
+      tick  event         name          call           told                   channel  follow
          0  setup         refused 10: setup
          0  setup         T3206 5000 ms, T3208 5000 ms, T3210 5000 ms
                           yard          VBS      4711
@@ -224,6 +234,16 @@ END
          1  pch           refused 12: range
          1  pch           yard          VBS      4711  4 half stored
          1  left_idle     1 half dropped
+         1  bit_22        refused 12: range
+         1  bit_22        -
+         0  setup         refused 10: setup
+         0  setup         refused 10: setup
+
+Call list
+  yard          VBS      4711  not complete yet
+
+         1  setup         T3206 5000 ms, T3208 5000 ms, T3210 5000 ms
+                          yard          VBS      4711  group keys: 1, 3, 15
          1  tick          -
 
 Call list

@@ -96,7 +96,7 @@ no_code_on_the_stack() { ! readelf -lW "$shared" | grep 'GNU_STACK.*RWE'; }
 # ---- A new user: the library is installed, and the program of the README is all there is in their folder ----
 
 # told_by COMMAND..: what the program of the README says.
-told_by() { "$@" > "$top/told" && printf '4711 VBS: half stored\n4711 VBS: complete, joined, channel 0a4123\n' | diff - "$top/told"; }
+told_by() { "$@" > "$top/told" && printf '4711 VBS: half stored\n4711 VBS: complete, joined, channel 0a4123: no count\n' | diff - "$top/told"; }
 pc() { PKG_CONFIG_PATH=$top/there/lib/pkgconfig pkg-config "$@" asternhaken; }
 by_shared() {
     (cd "$top/empty" && $cc $(pc --cflags) use.c $(pc --libs) -o shared) || return 1
@@ -119,11 +119,11 @@ renders() {
     MANWIDTH=80 man --warnings=w -l "$1" > "$top/shown" 2> "$top/warned" && [ ! -s "$top/warned" ] || { cat "$top/warned"; return 1; }
     ! awk 'length > 80' "$top/shown" | grep . && grep -q "^Asternhaken $version " "$top/shown"
 }
-# names_all PAGE: every function, those that the header itself has too, and every refusal and told number of the header stands in it.
+# names_all PAGE: every function, those that the header itself has too, and every refusal, told number and number of following of the header stands in it.
 names_all() {
     local name
-    { cat "$top/declared"; sed -n -E 's/^(ASTERNHAKEN_MUST_USE )?static inline uint32_t (asternhaken_[a-z0-9_]*)\(.*/\2/p' include/asternhaken.h; awk '/^enum asternhaken_(refusal|told) / { on = 1 } /^}/ { on = 0 } on && /=/ { print $1 }' include/asternhaken.h; } > "$top/names"
-    [ "$(wc -l < "$top/names")" -ge 85 ] || return 1
+    { cat "$top/declared"; sed -n -E 's/^(ASTERNHAKEN_MUST_USE )?static inline uint32_t (asternhaken_[a-z0-9_]*)\(.*/\2/p' include/asternhaken.h; awk '/^enum asternhaken_(refusal|told|follow) / { on = 1 } /^}/ { on = 0 } on && /=/ { print $1 }' include/asternhaken.h; } > "$top/names"
+    [ "$(wc -l < "$top/names")" -ge 100 ] || return 1
     while read -r name; do grep -qE "(^|[^A-Za-z_])$name([^A-Za-z_]|\$)" "$1" || { echo "$name is not there"; return 1; }; done < "$top/names"
 }
 a_wrong_page() { { cat "$page"; echo '.BX wrong'; } > "$top/wrong.3" && renders "$top/wrong.3"; }
@@ -139,10 +139,13 @@ wrong_lines() {
         'nch 2 b00024cea38520919a8b2b2b2b2b2b2b2b2b2b2b' 'pch 2' 'pch 2 4711/' 'pch 2 9422 rand=' 'pch 2 9422 rand' 'pch 2 9422 rand=0123456789abcdef0' 'pch 2 9422 rand=g' 'pch 2 9422 rand=1=2' 'pch 2 9422 frob=1' \
         'pch 2 9422 ciphered=1' 'pch x 9422 rand=1' 'pch 2 9422 count=4' 'pch 2 4711/VBS ciphered rand=7' 'pch 3 4711/VBS ciphered full=00024cEA3 channel=0a5123 allocation=123 count=1' \
         'pch 3 9422 full=24ce00 channel=5b9456 list=8000000000000001' 'pch 3 9422 ciphered rand=7' 'left_idle 3 4' 'left_idle 4' 'left_idle 3' \
-        'setup 0 1 1 1' 'setup 9 1 1 1 a=b=3 4' 'setup 9 1 1 1 =3 4/VGCS' 'tick 10' 'setup 0 1 1 1 4294967295' > "$top/lines"
+        'setup 0 1 1 1' 'setup 9 1 1 1 a=b=3 4' 'setup 9 1 1 1 =3 4/VGCS' 'tick 10' 'setup 0 1 1 1 4294967295' 'bit_22 10' 'bit_22 10 x' 'bit_22 10 2' 'bit_22 10 1' 'bit_22 9 0' 'bit_22 10 0 0' \
+        'setup 0 1 1 1 9422:' 'setup 0 1 1 1 9422:3,' 'setup 0 1 1 1 9422:,3' 'setup 0 1 1 1 9422:32' 'setup 0 1 1 1 9422:4294967299' 'setup 0 1 1 1 :3' 'setup 0 1 1 1 a:b=3:4:5' 'setup 0 1 1 1 9422:0' 'setup 0 1 1 1 9422:3,16' \
+        'setup 0 5000 5000 5000 dispatcher=4711/VGCS:04,15,4 a:b=4711/VBS:2' 'pch 1 9423 ciphered full=24cf54 channel=5b8456 rand=7' 'pch 2 9423 ciphered full=24cf54 channel=5b8456 rand=7 count=3' \
+        'pch 3 9422 ciphered full=24cea3 channel=0a4123 rand=8' 'bit_22 4 1' 'bit_22 5 0' 'pch 6 9423 ciphered full=24cf54 channel=5b8456 rand=9' 'handed_over 7' 'pch 8 9423 ciphered full=24cf54 channel=5b8456 rand=9' > "$top/lines"
     $cc -std=c99 $(pc --cflags) "$top/there/share/asternhaken/control_room.c" "$(pc --variable=archive)" -o "$top/empty/room" || return 1
     "$top/empty/room" < "$top/lines" > "$top/c.out" 2> "$top/c.err"
-    [ $? = 1 ] && [ "$(wc -l < "$top/c.out")" -ge 28 ] && [ "$(wc -l < "$top/c.err")" -ge 26 ] || return 1
+    [ $? = 1 ] && [ "$(wc -l < "$top/c.out")" -ge 52 ] && [ "$(wc -l < "$top/c.err")" -ge 38 ] || return 1
     python3 "$top/there/share/asternhaken/control_room.py" < "$top/lines" > "$top/python.out" 2> "$top/python.err"
     [ $? = 1 ] && diff "$top/c.out" "$top/python.out" && diff "$top/c.err" "$top/python.err"
 }

@@ -10,9 +10,16 @@ HEADER = open(sys.argv.pop(1)).read()
 YARD, DISPATCHER = key(4711, False), key(4711, True)
 FIRST = bytes.fromhex("b00024cea38520919a8b2b2b2b2b2b2b2b2b2b2b")  # of the yard: channel 0a4123, count 1
 SECOND = bytes.fromhex("b00024cea30712345678932b2b2b2b2b2b2b2b2b")  # VSTK_RAND 123456789
+PIECE = bytes.fromhex("b00024cea385209192800000000b2b2b2b2b2b2b")  # of the yard, in one piece, without a count; its key number is 3
 FACCH_FIRST = bytes.fromhex("040001267aa56e11592b")  # of the dispatcher: channel 5b8456
+FACCH_PIECE = bytes.fromhex("040001267aa56e1158daaaaaaaaaab2b")  # of the dispatcher, in one piece, count 2, whose B22 was 1; its key number is 4
 PCH_FIRST = PchEntry(YARD, ciphered=1, reference_given=1, reference=YARD << 8 | 0xA3, channel_given=1, channel=0x0A4123, count_given=1, cell_global_count=1)
 PCH_SECOND = PchEntry(YARD, ciphered=1, rand_given=1, vstk_rand=0x987654321)
+
+
+def only(key, told):
+    """An entry that is told a number alone."""
+    return key, told, None, 0, 0
 
 
 def constants(enum):
@@ -47,7 +54,8 @@ class TheHeader(unittest.TestCase):
 
     def test_structs(self):
         self.assertEqual(asternhaken.Record._fields, members("record"))
-        self.assertEqual(asternhaken.PARTS[5:], members("record"))
+        self.assertEqual(asternhaken.PARTS[5:35], members("record"))
+        self.assertEqual(asternhaken.PARTS[3:5] + ("record",) + asternhaken.PARTS[35:], members("entry"))
         self.assertEqual(asternhaken.PARTS[:3], members("answer"))
         self.assertEqual(asternhaken.Entry._fields, members("entry"))
         self.assertEqual(asternhaken.Held._fields, members("held"))
@@ -56,14 +64,14 @@ class TheHeader(unittest.TestCase):
         self.assertEqual(len(asternhaken.PchEntry._fields), defined("PCH_NUMBERS"))
 
     def test_constants(self):
-        for enum, least in (("refusal", 14), ("told", 9), ("on", 3), ("half", 2)):
+        for enum, least in (("refusal", 14), ("told", 9), ("follow", 4), ("on", 3), ("half", 2)):
             rows = constants(enum)
             self.assertGreaterEqual(len(rows), least)
             for name, number in rows.items():
                 self.assertEqual(getattr(asternhaken, name), number)
 
     def test_numbers(self):
-        for name in ("STATE_LENGTH", "KEYS", "T3206", "T3208", "T3210"):
+        for name in ("STATE_LENGTH", "KEYS", "LAST_GROUP_KEY", "T3206", "T3208", "T3210"):
             self.assertEqual(getattr(asternhaken, name), defined(name))
         self.assertEqual(asternhaken._NEVER, defined("NEVER"))
 
@@ -71,7 +79,8 @@ class TheHeader(unittest.TestCase):
         self.assertEqual(asternhaken.__version__, "%d.%d.%d" % tuple(defined("VERSION_" + part) for part in ("MAJOR", "MINOR", "PATCH")))
 
     def test_words(self):
-        for enum, word, sentence in (("refusal", asternhaken.refusal_word, asternhaken.refusal_sentence), ("told", asternhaken.told_word, asternhaken.told_sentence)):
+        for enum, word, sentence in (("refusal", asternhaken.refusal_word, asternhaken.refusal_sentence), ("told", asternhaken.told_word, asternhaken.told_sentence),
+                                     ("follow", asternhaken.follow_word, asternhaken.follow_sentence)):
             n = len(constants(enum))
             for say in (word, sentence):
                 self.assertEqual(len({say(i) for i in range(n + 1)}), n + 1)
@@ -83,7 +92,7 @@ class TheHeader(unittest.TestCase):
 
 class TheReceiver(unittest.TestCase):
     def setUp(self):
-        self.receiver = Receiver([YARD, DISPATCHER], tick=1000)
+        self.receiver = Receiver([YARD, DISPATCHER], tick=1000, groups={YARD: [3, 15], DISPATCHER: (1,), 7: [99]})
 
     def refused(self, number, call, *words):
         before = self.receiver.state
@@ -97,7 +106,7 @@ class TheReceiver(unittest.TestCase):
     def test_two_halves(self):
         self.assertEqual(self.receiver.answer, (0, 0, ()))
         answer = self.receiver.nch(1480, FIRST)
-        self.assertEqual(answer, (0, 0, ((YARD, asternhaken.TOLD_HALF_STORED, None),)))
+        self.assertEqual(answer, (0, 0, (only(YARD, asternhaken.TOLD_HALF_STORED),)))
         entry = self.receiver.nch(1960, SECOND).entries[0]
         self.assertEqual((entry.key, entry.reference, entry.vgcs, entry.told, entry.told_word), (YARD, 4711, False, asternhaken.TOLD_JOINED, "complete, joined"))
         self.assertEqual(entry.told_sentence, asternhaken.told_sentence(3))
@@ -109,7 +118,7 @@ class TheReceiver(unittest.TestCase):
 
     def test_every_event(self):
         self.receiver.nch(2000, FIRST)
-        self.assertEqual(self.receiver.facch(2000, FACCH_FIRST).entries, ((DISPATCHER, asternhaken.TOLD_HALF_STORED, None),))
+        self.assertEqual(self.receiver.facch(2000, FACCH_FIRST).entries, (only(DISPATCHER, asternhaken.TOLD_HALF_STORED),))
         self.assertEqual(self.receiver.reselected(2001), (0, 1, ()))
         self.assertEqual(self.receiver.handed_over(2002), (0, 1, ()))
         self.receiver.facch(2003, FACCH_FIRST)
@@ -118,17 +127,46 @@ class TheReceiver(unittest.TestCase):
         self.assertEqual(self.receiver.joined(2006, YARD), (0, 0, ()))
         self.assertEqual(self.receiver.joined(2007, DISPATCHER), (0, 1, ()))
         self.receiver.nch(2008, FIRST)
+        self.assertEqual(self.receiver.bit_22(2009, 1), (0, 0, ()))
         self.assertEqual(self.receiver.tick(2008 + asternhaken.T3206), (1, 0, ()))
+        self.receiver.nch(13000, FIRST)
+        self.assertEqual(self.receiver.bit_22(13000 + asternhaken.T3206, 0), (1, 0, ()))
+
+    def following(self, entry):
+        self.assertEqual(entry.follow_sentence, asternhaken.follow_sentence(entry.follow))
+        return entry.told, entry.follow_word, entry.kept_count
+
+    def test_following(self):
+        nch, facch = (lambda octets: self.following(self.receiver.nch(1000, octets).entries[0])), (lambda octets: self.following(self.receiver.facch(1000, octets).entries[0]))
+        self.assertEqual(nch(PIECE), (2, "no count", 0))
+        self.assertEqual(facch(FACCH_PIECE), (2, "no key", 0))
+        self.assertEqual(nch(FIRST), (4, "not said", 0))
+        self.assertEqual(nch(SECOND), (3, "follow", 1))
+        for value in 0, 1, 0:
+            self.receiver.bit_22(1000, value)
+        entry = self.receiver.nch(1000, PIECE).entries[0]
+        self.assertEqual((entry.follow, entry.kept_count, entry.record.count_given), (asternhaken.FOLLOW_WITH_COUNT, 2, 0))
+        self.receiver.setup([DISPATCHER, YARD], 1000, groups={DISPATCHER: {4, 5}})
+        self.assertEqual(nch(PIECE), (2, "no key", 0))
+        self.assertEqual(facch(FACCH_PIECE), (2, "no count", 0))
+        self.receiver.bit_22(1000, 0)
+        self.assertEqual(facch(FACCH_PIECE), (2, "follow", 3))
+        for leave in self.receiver.reselected, self.receiver.handed_over:
+            self.receiver.pch(1000, PCH_FIRST)
+            leave(1000)
+            self.assertEqual(facch(FACCH_PIECE), (2, "no count", 0))
+        self.refused(12, self.receiver.bit_22, 1000, 2)
+        self.refused(9, self.receiver.bit_22, 999, 2)
 
     def test_paging_channel(self):
         now = 2000
-        self.assertEqual(self.receiver.pch(now, PCH_SECOND).entries, ((YARD, asternhaken.TOLD_HALF_STORED, None),))
+        self.assertEqual(self.receiver.pch(now, PCH_SECOND).entries, (only(YARD, asternhaken.TOLD_HALF_STORED),))
         record = self.receiver.pch(now, PCH_FIRST).entries[0].record
         self.assertEqual((record.channel, record.vstk_rand, record.full, record.cell_global_count), (0x0A4123, 0x987654321, 1, 1))
         self.receiver.pch(now, list(PCH_FIRST))
         self.assertEqual(self.receiver.left_idle(now), (0, 1, ()))
         self.receiver.pch(now, PCH_FIRST)
-        self.assertEqual(self.receiver.pch(now, PchEntry(1630)), (0, 1, ((1630, asternhaken.TOLD_NOT_OURS, None),)))
+        self.assertEqual(self.receiver.pch(now, PchEntry(1630)), (0, 1, (only(1630, asternhaken.TOLD_NOT_OURS),)))
         self.receiver.pch(now, PCH_FIRST)
         self.assertEqual(self.receiver.tick(now + asternhaken.T3210 - 1), (0, 0, ()))
         self.assertEqual(self.receiver.tick(now + asternhaken.T3210), (1, 0, ()))
@@ -159,10 +197,10 @@ class TheReceiver(unittest.TestCase):
         self.assertTrue(self.receiver.is_set_up)
         self.assertFalse(Receiver.from_state(bytes(asternhaken.STATE_LENGTH)).is_set_up)
         state = bytearray(self.receiver.state)
-        self.assertEqual(state[20:24], b"AHK\2")
+        self.assertEqual(state[20:24], b"AHK\3")
         self.receiver.nch(2000, FIRST)
         self.assertTrue(Receiver.from_state(self.receiver.state).is_set_up)
-        state[23] = 1  # another layout
+        state[23] = 2  # another layout
         self.assertFalse(Receiver.from_state(state).is_set_up)
 
     def test_refusals(self):
@@ -180,8 +218,10 @@ class TheReceiver(unittest.TestCase):
         self.refused(10, self.receiver.setup, [], 0, 1, 0, 1)
         self.refused(10, self.receiver.setup, [], 0, 1, 1, 0)
         self.refused(10, Receiver, [200000000], 0)
+        for number in 0, 16, 31:
+            self.refused(10, lambda: self.receiver.setup([YARD], 0, groups={YARD: [3, number]}))
         self.refused(13, Receiver.from_state, bytes(asternhaken.STATE_LENGTH - 1))
-        self.refused(13, Receiver.from_state, bytes(6984))
+        self.refused(13, Receiver.from_state, bytes(10040))
 
     def test_setups(self):
         self.receiver.setup([], 5)
@@ -190,15 +230,16 @@ class TheReceiver(unittest.TestCase):
         self.receiver.setup(reversed(range(50)), 5, 1, 60000, 60000)  # the module sorts
         self.assertEqual(self.receiver.state, in_order)
         self.receiver.setup({YARD: "yard", 7: "seven"}, 5)
-        self.assertEqual(self.receiver.nch(5, FIRST).entries, ((YARD, asternhaken.TOLD_HALF_STORED, None),))
+        self.assertEqual(self.receiver.nch(5, FIRST).entries, (only(YARD, asternhaken.TOLD_HALF_STORED),))
         self.receiver.setup(range(50), 5)
-        self.assertEqual(self.receiver.nch(5, bearer(FIRST)).entries, ((YARD, asternhaken.TOLD_NOT_OURS, None),))
+        self.assertEqual(self.receiver.nch(5, bearer(FIRST)).entries, (only(YARD, asternhaken.TOLD_NOT_OURS),))
 
     def test_numbers_that_c_would_cut(self):
         for call in (lambda: self.receiver.tick(1 << 32), lambda: self.receiver.tick(-1), lambda: self.receiver.joined(1001, YARD + (1 << 32)),
                      lambda: self.receiver.setup([YARD + (1 << 32)], 0), lambda: self.receiver.setup([], 1 << 32), lambda: self.receiver.setup([], 0, (1 << 32) + 5),
                      lambda: self.receiver.setup([], 0, 5, (1 << 32) + 5), lambda: self.receiver.setup([], 0, 5, 5, (1 << 32) + 5),
-                     lambda: self.receiver.left_idle(1 << 32), lambda: self.receiver.pch(1 << 32, PCH_FIRST),
+                     lambda: self.receiver.left_idle(1 << 32), lambda: self.receiver.bit_22(1 << 32, 1), lambda: self.receiver.bit_22(1001, 1 << 32), lambda: self.receiver.bit_22(1001, -1),
+                     lambda: self.receiver.setup([YARD], 0, groups={YARD: [32]}), lambda: self.receiver.setup([YARD], 0, groups={YARD: [-1]}), lambda: self.receiver.pch(1 << 32, PCH_FIRST),
                      lambda: self.receiver.pch(1001, PCH_FIRST._replace(channel=1 << 64)), lambda: self.receiver.pch(1001, PCH_FIRST._replace(key=-1)),
                      lambda: asternhaken.refusal_word(1 << 32)):
             before = self.receiver.state

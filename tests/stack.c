@@ -15,14 +15,14 @@ enum { STACK = 65536, LIMIT = 4096 };
 static unsigned char *stack;
 static ucontext_t here, there;
 static uint8_t state[ASTERNHAKEN_STATE_LENGTH], octets[256];
-static uint32_t keys[ASTERNHAKEN_KEYS];
+static uint32_t keys[ASTERNHAKEN_KEYS], sets[ASTERNHAKEN_KEYS];
 static uint64_t numbers[600], value, entry[ASTERNHAKEN_PCH_NUMBERS];
 static size_t n;
 static uint32_t tick;
 
 /* ---- The calls, with what they are lent in the variables above ---- */
 
-static uint32_t setup(void) { return asternhaken_setup(state, sizeof state, keys, ASTERNHAKEN_KEYS, tick, 5000, 5000, 5000); }
+static uint32_t setup(void) { return asternhaken_setup(state, sizeof state, keys, ASTERNHAKEN_KEYS, sets, ASTERNHAKEN_KEYS, tick, 5000, 5000, 5000); }
 static uint32_t nch(void) { return asternhaken_nch(state, sizeof state, tick, octets, n); }
 static uint32_t facch(void) { return asternhaken_facch(state, sizeof state, tick, octets, n); }
 static uint32_t pch(void) { return asternhaken_pch(state, sizeof state, tick, entry, ASTERNHAKEN_PCH_NUMBERS); }
@@ -31,6 +31,9 @@ static uint32_t reselected(void) { return asternhaken_reselected(state, sizeof s
 static uint32_t handed_over(void) { return asternhaken_handed_over(state, sizeof state, tick); }
 static uint32_t reconfigured(void) { return asternhaken_reconfigured(state, sizeof state, tick); }
 static uint32_t left_idle(void) { return asternhaken_left_idle(state, sizeof state, tick); }
+static uint32_t bit_is_1(void) { return asternhaken_bit_22(state, sizeof state, tick, 1); }
+static uint32_t bit_is_0(void) { return asternhaken_bit_22(state, sizeof state, tick, 0); }
+static uint32_t bit_is_2(void) { return asternhaken_bit_22(state, sizeof state, tick, 2); }
 static uint32_t ticked(void) { return asternhaken_tick(state, sizeof state, tick); }
 static uint32_t find(void) { return asternhaken_find(keys, ASTERNHAKEN_KEYS, keys[0], &value, numbers); }
 static uint32_t read_part(void) { return asternhaken_read(state, sizeof state, 0, ASTERNHAKEN_PART_CHANNEL, &value); }
@@ -65,6 +68,8 @@ static uint32_t refusal_word(void) { return !asternhaken_refusal_word(99); }
 static uint32_t refusal_sentence(void) { return !asternhaken_refusal_sentence(13); }
 static uint32_t told_word(void) { return !asternhaken_told_word(99); }
 static uint32_t told_sentence(void) { return !asternhaken_told_sentence(8); }
+static uint32_t follow_word(void) { return !asternhaken_follow_word(99); }
+static uint32_t follow_sentence(void) { return !asternhaken_follow_sentence(3); }
 
 /* ---- Measuring ---- */
 
@@ -154,6 +159,7 @@ static void receiver(void)
 {
     for (uint32_t i = 0; i < ASTERNHAKEN_KEYS; i++) keys[i] = i < 47 ? i : 9422 + i - 47;
     keys[49] = ASTERNHAKEN_LAST_KEY;
+    for (uint32_t i = 0; i < ASTERNHAKEN_KEYS; i++) sets[i] = ASTERNHAKEN_GROUP_KEY(4) | ASTERNHAKEN_GROUP_KEY(ASTERNHAKEN_LAST_GROUP_KEY);
     measure(setup, 0, "setup, 50 keys");
     measure(is_set_up, 1, "is_set_up");
     measure(find, 0, "find, six looks");
@@ -174,6 +180,10 @@ static void receiver(void)
     message(facch, "facch, held already", "040001267aa56e11592b", 0);
     message(facch, "facch, its second joined", "040001267aa0aaaaaaaaab2b", 0);
     message(facch, "facch, every part", "045f5e0ffffe2c7fff8000000000000001ec48d159e257", 0);
+    measure(bit_is_1, 0, "bit_22, 1");
+    measure(bit_is_0, 0, "bit_22, from 1 to 0");
+    measure(bit_is_2, 12, "bit_22, refused");
+    message(facch, "facch, its count taken", "045f5e0ffffe2c7fff8000000000000001ec48d159e257", 0);
     message(facch, "facch, refused", "0480", 8);
     page("pch, a first half stored", 9423, 1, 1, 0);
     page("pch, held already", 9423, 1, 1, 0);
@@ -237,6 +247,8 @@ static void words(void)
     measure(refusal_sentence, 0, "refusal_sentence");
     measure(told_word, 0, "told_word");
     measure(told_sentence, 0, "told_sentence");
+    measure(follow_word, 0, "follow_word");
+    measure(follow_sentence, 0, "follow_sentence");
 }
 
 int main(void)

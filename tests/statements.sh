@@ -54,8 +54,8 @@ awk '/^## / { on = $0 == "## What must be believed for demand 3" } on' docs/PROM
 tools/believed page | cmp - "$tmp/section"
 note $? "the section on demand 3 of docs/PROMISES.md is not what tools/believed page writes"
 all=$(believed)
-[ "${all:-771}" -lt 771 ]
-note $? "${all:-no} lines must be believed for demand 3, and 771 are too many"
+[ "${all:-880}" -lt 880 ]
+note $? "${all:-no} lines must be believed for demand 3, and 880 are too many"
 
 # moves LABEL BY FILE EDIT: the specifications with this edit have so many lines more.
 moves() {
@@ -73,7 +73,7 @@ moves 'a comment more' 0 isolation/specs/One 's/^goneBy onFacch = .*/-- as is sa
 moves 'a definition that the promise comes to' 2 isolation/specs/Calls 's/^timerOf c s = (.*)/timerOf c s = doubled (\1)\n\nabbrev pub doubled : ℕ → ℕ\ndoubled n = n + n/'
 moves 'a definition that nothing comes to' 0 isolation/specs/Calls 's/^timerOf c s = .*/&\n\nabbrev pub doubled : ℕ → ℕ\ndoubled n = n + n/'
 moves 'a definition of another crate' 2 isolation/specs/Calls 's/^(use .*csn1[.]specs[.]Told[.][{])(.*)/\1isOne, \2/; s/^laidOut l = /&pick (isOne 1) [] /'
-moves 'an import left out' -4 isolation/specs/Calls '/^use .*[.]Told[.][{]padded/d'
+moves 'an import left out' -2 isolation/specs/Calls '/^use .*[.]Channels[.][{]Channel, everyChannel/d'
 moves 'a line more in a module' 1 isolation/specs/Calls 's/^      replyBy = /      replyBy =\n          /'
 moves 'a promise of another name' -"$all" isolation/specs/Promises 's/The-answer-is-the-calls/The-answer-is-ours/' 2> /dev/null
 

@@ -101,9 +101,9 @@ static int is_set_up(void)
 
 /* ---- Known answers ---- */
 
-enum { YARD = 9422, DISPATCHER = 9423, MARK = 20, KEYS = 24, KINDS = 224, TICKS = 376, RECORDS = 976, COUNT = 9384, ENTRIES = 9392, RECORD = 56, ENTRY = 72 };
+enum { YARD = 9422, DISPATCHER = 9423, MARK = 20, KEYS = 24, KINDS = 424, TICKS = 576, RECORDS = 1176, COUNT = 9584, ENTRIES = 9592, RECORD = 56, ENTRY = 72 };
 
-static const uint32_t keys[3] = { 5, YARD, DISPATCHER };
+static const uint32_t keys[3] = { 5, YARD, DISPATCHER }, sets[3] = { 0, ASTERNHAKEN_GROUP_KEY(3), 0 };
 
 /* 4711 VBS: channel 0a4123, priority 2, key number 3, Segment Id 0, count 1; then Segment Id 1, VSTK_RAND 123456789. 4711 VGCS: channel 5b8456. */
 #define YARD_FIRST "b00024cea38520919a8b2b2b2b2b2b2b2b2b2b2b"
@@ -117,7 +117,7 @@ static const struct asternhaken_pch_entry yard_second = { YARD, 1, 0, 0, 0, 0, 0
 
 static void set_up(uint32_t tick)
 {
-    ACCEPTED(asternhaken_setup(state, LENGTH, keys, 3, tick, 10000, 5000, 4000));
+    ACCEPTED(asternhaken_setup(state, LENGTH, keys, 3, sets, 3, tick, 10000, 5000, 4000));
 }
 
 static void live_list(void)
@@ -170,9 +170,21 @@ static void whole_entries(void)
     ACCEPTED(message(asternhaken_nch, 1002, YARD_SECOND));
     e = entry(0);
     CHECK(e.key == YARD && e.told == ASTERNHAKEN_TOLD_JOINED && e.record.channel == 0x0a4123 && e.record.vstk_rand == 0x123456789 && e.record.rand_given == 1);
+    CHECK(e.follow == ASTERNHAKEN_FOLLOW_NO_COUNT && e.kept_count == 0);
+    ACCEPTED(message(asternhaken_nch, 1002, YARD_FIRST)); /* count 1, and raised by the bit */
+    CHECK(entry(0).follow == ASTERNHAKEN_FOLLOW_NOT_SAID && entry(0).kept_count == 0);
+    ACCEPTED(asternhaken_bit_22(state, LENGTH, 1002, 1));
+    ACCEPTED(asternhaken_bit_22(state, LENGTH, 1002, 0));
+    ACCEPTED(message(asternhaken_nch, 1002, YARD_SECOND));
+    e = entry(0);
+    CHECK(e.told == ASTERNHAKEN_TOLD_JOINED && e.follow == ASTERNHAKEN_FOLLOW_WITH_COUNT && e.kept_count == 2 && e.record.cell_global_count == 1);
+    ACCEPTED(message(asternhaken_facch, 1002, FACCH_FIRST));
+    ACCEPTED(message(asternhaken_facch, 1002, FACCH_SECOND));
+    e = entry(0);
+    CHECK(e.key == DISPATCHER && e.told == ASTERNHAKEN_TOLD_JOINED && e.follow == ASTERNHAKEN_FOLLOW_NO_KEY && e.kept_count == 0);
     ACCEPTED(message(asternhaken_nch, 1003, CLEAR));
     e = entry(0);
-    CHECK(e.told == ASTERNHAKEN_TOLD_CLEAR && e.record.channel == 0x0a4123 && e.record.vstk_rand == 0 && e.record.cipher_key_number == 0);
+    CHECK(e.told == ASTERNHAKEN_TOLD_CLEAR && e.record.channel == 0x0a4123 && e.record.vstk_rand == 0 && e.record.cipher_key_number == 0 && e.follow == 0 && e.kept_count == 0);
     ACCEPTED(asternhaken_tick(state, LENGTH, 1004));
     CHECK(entry(0).key == 0 && entry(0).record.channel == 0);
 }
@@ -181,24 +193,24 @@ static void whole_entries(void)
 
 static void mark(void)
 {
-    static const uint8_t mark_of_2[4] = { 'A', 'H', 'K', 2 };
-    const uint32_t none = UINT32_MAX;
+    static const uint8_t mark_of_3[4] = { 'A', 'H', 'K', 3 };
+    const uint32_t none = UINT32_MAX, no_group_keys = 0;
     memset(state, 0, LENGTH);
     CHECK(!is_set_up());
-    CHECK(asternhaken_setup(state, LENGTH, &none, 1, 0, 1, 1, 1) == ASTERNHAKEN_REFUSED_SETUP && !is_set_up());
+    CHECK(asternhaken_setup(state, LENGTH, &none, 1, &no_group_keys, 1, 0, 1, 1, 1) == ASTERNHAKEN_REFUSED_SETUP && !is_set_up());
     ACCEPTED(asternhaken_tick(state, LENGTH, 5)); /* events answer all the same, and set nothing up */
     CHECK(!is_set_up());
     set_up(1000);
-    CHECK(is_set_up() && !memcmp(state + MARK, mark_of_2, 4) && state[MARK - 1] == 3 && !state[MARK - 2] && !state[MARK - 3]); /* before it the number of keys */
+    CHECK(is_set_up() && !memcmp(state + MARK, mark_of_3, 4) && state[MARK - 1] == 3 && state[MARK - 2] == 2 && state[MARK - 3] == 4); /* before it the number of keys, no bit and no count */
     for (size_t i = 0; i < 4; i++)
         for (unsigned bit = 0; bit < 8; bit++) {
             state[MARK + i] ^= (uint8_t)(1u << bit);
             CHECK(!is_set_up());
             state[MARK + i] ^= (uint8_t)(1u << bit);
         }
-    state[MARK + 3] = 1; /* the layout before this one */
+    state[MARK + 3] = 2; /* the layout before this one */
     CHECK(!is_set_up());
-    state[MARK + 3] = 2;
+    state[MARK + 3] = 3;
     for (size_t i = 0; i < LENGTH; i++) /* nothing else counts */
         if (i < MARK || i >= KEYS) state[i] ^= 0xff;
     CHECK(is_set_up());
@@ -213,9 +225,10 @@ static void mark(void)
     ACCEPTED(asternhaken_handed_over(state, LENGTH, 1000));
     ACCEPTED(asternhaken_reconfigured(state, LENGTH, 1000));
     ACCEPTED(asternhaken_left_idle(state, LENGTH, 1000));
+    ACCEPTED(asternhaken_bit_22(state, LENGTH, 1000, 1));
     ACCEPTED(asternhaken_tick(state, LENGTH, 99000));
     CHECK(asternhaken_tick(state, LENGTH, 0) == ASTERNHAKEN_REFUSED_CLOCK);
-    CHECK(!memcmp(state + MARK, mark_of_2, 4) && is_set_up());
+    CHECK(!memcmp(state + MARK, mark_of_3, 4) && is_set_up());
 }
 
 /* ---- Another length, fewer places, more places ---- */
@@ -295,6 +308,7 @@ static int agrees(void)
         if (i < ASTERNHAKEN_ENTRIES && i < octets_at(COUNT, 4)) {
             due[0] = octets_at(at, 8), due[1] = state[at + 8];
             if (due[1] >= 1 && due[1] <= 3) record_at(at + 16, due + 2);
+            due[32] = state[at + 9], due[33] = state[at + 10];
         }
         same &= !asternhaken_entry_numbers(state, LENGTH, i, got, 40) && !memcmp(due, got, sizeof due);
         for (uint32_t p = 0; p < ASTERNHAKEN_ENTRY_NUMBERS; p++) /* and part by part */
@@ -340,6 +354,7 @@ static void by_events(void)
             CHECK(expired >= 1 && held_count() == held_before - expired);
             ran_out += (unsigned)expired;
         } else if (dice() % 8 == 0) ACCEPTED(asternhaken_joined(state, LENGTH, tick, keys[dice() % 3]));
+        else if (dice() % 8 == 0) ACCEPTED(asternhaken_bit_22(state, LENGTH, tick, (uint32_t)(dice() % 2)));
         else if (dice() % 3 == 0) ACCEPTED(message(asternhaken_facch, tick += (uint32_t)(dice() % 900), facch[dice() % 2]));
         else if (dice() % 2 == 0) ACCEPTED(asternhaken_pch_put(state, LENGTH, tick += (uint32_t)(dice() % 900), &yard_second));
         else ACCEPTED(message(asternhaken_nch, tick += (uint32_t)(dice() % 900), nch[dice() % 3]));

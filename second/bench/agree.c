@@ -7,9 +7,9 @@
 #include <stdlib.h>
 #include <string.h>
 
-enum { PARTS = 35, EXPIRED = 0, DROPPED = 1, COUNT = 2, KEY_OF = 3, TOLD = 4, ENTRIES = 9 };
+enum { PARTS = 37, EXPIRED = 0, DROPPED = 1, COUNT = 2, KEY_OF = 3, TOLD = 4, FOLLOWS = 35, ENTRIES = 9 };
 
-unsigned long refusals_seen[16], told_seen[9];
+unsigned long refusals_seen[16], told_seen[9], follow_seen[4];
 
 static uint64_t part(const struct side *s, const uint8_t *state, uint32_t entry, uint32_t number)
 {
@@ -107,6 +107,7 @@ static uint32_t hand_in(const struct side *s, uint8_t *state, const struct event
     case 5: return s->handed_over(state, length, e->tick);
     case 6: return s->reconfigured(state, length, e->tick);
     case 7: return s->left_idle(state, length, e->tick);
+    case 8: return s->bit_22(state, length, e->tick, e->key);
     default: return s->tick(state, length, e->tick);
     }
 }
@@ -115,10 +116,12 @@ static uint32_t hand_in(const struct side *s, uint8_t *state, const struct event
 static struct event random_event(struct dice *d, uint32_t tick, const uint32_t *keys, uint32_t n_keys)
 {
     struct event e = { 0 };
-    unsigned which = below(d, 56);
-    e.kind = which < 18 ? 0 : which < 34 ? 1 : which < 49 ? 2 : which - 46;
+    unsigned which = below(d, 60);
+    e.kind = which < 18 ? 0 : which < 34 ? 1 : which < 49 ? 2 : which < 55 ? which - 46 : which < 58 ? 8 : 9;
     e.tick = tick + (one_in(d, 50) ? (uint32_t)roll(d) : below(d, one_in(d, 4) ? 200 : 20));
     e.key = one_in(d, 10) ? below(d, 210000000) : keys[below(d, n_keys)];
+    if (e.kind == 8)
+        e.key = one_in(d, 20) ? 2 : below(d, 2);
     if (e.kind == 0)
         e.message = random_nch(d, keys, n_keys);
     if (e.kind == 1)
@@ -137,15 +140,17 @@ static int rising(const void *one, const void *other)
 static int sequence_alike(const struct side *const *sides, uint8_t *const *states, uint8_t *before, unsigned n_sides, struct dice *d, unsigned events)
 {
     static const uint32_t all[6] = { 2468, 2469, 199999998, 0, 77777777, 1 };
-    uint32_t n_keys = 1 + below(d, 5), mine[50], tick = one_in(d, 3) ? (uint32_t)-below(d, 500) : (uint32_t)roll(d);
+    uint32_t n_keys = 1 + below(d, 5), mine[50], sets[50], tick = one_in(d, 3) ? (uint32_t)-below(d, 500) : (uint32_t)roll(d);
     uint32_t n_mine = one_in(d, 8) ? 50 : n_keys, t3206 = 1 + below(d, 1000), t3208 = 1 + below(d, 1000), t3210 = 1 + below(d, 1000);
     for (uint32_t i = 0; i < n_mine; i++) /* with 50 keys, most are not in use */
         mine[i] = i < n_mine - n_keys ? 5000 + i : all[i - (n_mine - n_keys)];
     qsort(mine, n_mine, sizeof *mine, rising);
+    for (uint32_t i = 0; i < n_mine; i++)
+        sets[i] = (uint32_t)roll(d) & (one_in(d, 2) ? 0xFFFE : 0);
     char where[80] = "setup";
     for (unsigned k = 0; k < n_sides; k++) {
         memset(states[k], 0xA5, sides[k]->state_length);
-        if (sides[k]->setup(states[k], sides[k]->state_length, mine, n_mine, tick, t3206, t3208, t3210) != 0)
+        if (sides[k]->setup(states[k], sides[k]->state_length, mine, n_mine, sets, n_mine, tick, t3206, t3208, t3210) != 0)
             return differ(where, "refusal", sides[k], 1, sides[k], 0);
     }
     if (!same_answers(sides, states, n_sides, where))
@@ -169,8 +174,10 @@ static int sequence_alike(const struct side *const *sides, uint8_t *const *state
             return 0;
         if (!refusal) {
             tick = e.tick;
-            for (uint32_t j = 0; j < part(sides[0], states[0], 0, COUNT); j++)
+            for (uint32_t j = 0; j < part(sides[0], states[0], 0, COUNT); j++) {
                 told_seen[part(sides[0], states[0], j, TOLD) % 9]++;
+                follow_seen[part(sides[0], states[0], j, FOLLOWS) % 4]++;
+            }
         }
     }
     return 1;

@@ -16,7 +16,7 @@ int same_reading(const struct side *const *sides, unsigned n_sides, int facch, c
 unsigned messages_alike(const struct side *const *sides, unsigned n_sides, uint64_t seed, unsigned messages);
 unsigned sequences_alike(const struct side *const *sides, unsigned n_sides, uint64_t seed, unsigned sequences, unsigned events);
 
-/* How often each refusal and each told number came up in the random sequences. */
-extern unsigned long refusals_seen[16], told_seen[9];
+/* How often each refusal and each told number came up in the random sequences, and beside 2 and 3 whether the call can be followed. */
+extern unsigned long refusals_seen[16], told_seen[9], follow_seen[4];
 
 #endif

@@ -29,7 +29,7 @@
 extern const struct side *const library;
 
 enum { KEYS = 50, FOREIGN = 123456, FIRST_TICK = 1000, TIMER = 60000, RUN = 2000, COUNTED = 10, LIMIT = 10 };
-enum kind { TICK, NCH, FACCH, PCH, READ_NCH, READ_FACCH };
+enum kind { TICK, BIT_22, NCH, FACCH, PCH, READ_NCH, READ_FACCH };
 
 /* A row of the table: a receiver that holds so many halves, and one or two messages handed in by turns. */
 struct row {
@@ -47,7 +47,7 @@ struct runner {
     const struct readers *readers;
 };
 
-static uint32_t keys[KEYS];
+static uint32_t keys[KEYS], sets[KEYS];
 static uint8_t *working;
 static _Alignas(64) uint64_t numbers[106];
 static _Alignas(64) struct plain_nch nch_record;
@@ -72,6 +72,8 @@ static void make_rows(void)
     for (unsigned i = 0; i < sizeof held / sizeof *held; i++)
         add("tick", TICK, held[i].halves, held[i].spread, none, none);
     for (unsigned i = 0; i < 5; i++)
+        add("bit 22 of COUNT, 0 and 1 by turns", BIT_22, held[i].halves, 0, none, none);
+    for (unsigned i = 0; i < 5; i++)
         add("NCH, no entry of ours", NCH, held[i].halves, 0, clear_call(FOREIGN), clear_call(FOREIGN));
     for (unsigned i = 0; i < 5; i++)
         add("NCH, a half stored and joined in turn", NCH, held[i].halves, 0, first_half(key), second_half_reduced(key));
@@ -95,7 +97,7 @@ static void make_rows(void)
 /* A receiver of fifty keys that holds the row's halves: the first places of both channels, or places spread over all. */
 static int fill(const struct side *s, uint8_t *state, const struct row *r)
 {
-    if (s->setup(state, s->state_length, keys, KEYS, FIRST_TICK, TIMER, TIMER, TIMER) != 0)
+    if (s->setup(state, s->state_length, keys, KEYS, sets, KEYS, FIRST_TICK, TIMER, TIMER, TIMER) != 0)
         return 0;
     for (unsigned i = 0; i < r->halves; i++) {
         unsigned place = r->spread ? i * 98 / r->halves : i;
@@ -121,6 +123,10 @@ static void run(const struct runner *w, const struct row *r, unsigned n)
     case TICK:
         for (unsigned i = 0; i < n; i++)
             s->tick(working, s->state_length, FIRST_TICK + i);
+        break;
+    case BIT_22:
+        for (unsigned i = 0; i < n; i++)
+            s->bit_22(working, s->state_length, FIRST_TICK + i, i % 2);
         break;
     case NCH:
         for (unsigned i = 0; i < n; i += 2) {
@@ -198,6 +204,7 @@ static void check_rows(const struct side *const *sides, unsigned n_sides)
             for (unsigned k = 0; k < n_sides; k++) {
                 const struct side *s = sides[k];
                 uint32_t refusal = r->kind == TICK ? s->tick(states[k], s->state_length, FIRST_TICK + j)
+                    : r->kind == BIT_22 ? s->bit_22(states[k], s->state_length, FIRST_TICK + j, j % 2)
                     : r->kind == PCH ? s->pch(states[k], s->state_length, FIRST_TICK + j, m->entry, 14)
                     : (r->kind == NCH ? s->nch : s->facch)(states[k], s->state_length, FIRST_TICK + j, m->octets, m->n);
                 good = good && refusal == 0;
@@ -231,7 +238,8 @@ static int answers_agree(uint64_t seed, unsigned messages, unsigned sequences)
             printf("%s %u: %lu", n++ ? "," : "", i, refusals_seen[i]);
     printf(". Numbers told:");
     for (unsigned i = 0; i < 9; i++)
-        printf(" %u: %lu%s", i, told_seen[i], i == 8 ? ".\n" : ",");
+        printf(" %u: %lu%s", i, told_seen[i], i == 8 ? "." : ",");
+    printf(" Beside 2 and 3: no key %lu, no count %lu, follow %lu.\n", follow_seen[1], follow_seen[2], follow_seen[3]);
     return 1;
 }
 
@@ -461,7 +469,7 @@ int main(int argc, char **argv)
         }
     }
     for (unsigned i = 0; i < KEYS; i++)
-        keys[i] = (40000 + 997 * i) * 2 + i % 2;
+        keys[i] = (40000 + 997 * i) * 2 + i % 2, sets[i] = 0xFFFE;
     working = aligned_alloc(64, 1 << 15);
     make_rows();
     prepare();

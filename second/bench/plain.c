@@ -17,9 +17,10 @@ enum {
     ACCEPTED, MESSAGE_LENGTH, RAN_OUT, ALLOCATION_LENGTH, REFERENCE, HOPPING, RANDOM_ENTRIES, EMERGENCY_MARKS, PAGING, CLOCK, SETUP,
     RANGE = 12, STATE_LENGTH = 13, RAN_OUT_6, RAN_OUT_7
 };
+enum { NO_KEY = 1, NO_COUNT, FOLLOW };
 enum { NOT_OURS, CLEAR, ONE_PIECE, JOINED, HALF_STORED, HALF_HELD, NO_CHANNEL, UNUSABLE, SECOND_BEFORE_FIRST };
 enum { NCH, FACCH, PCH, CHANNELS };
-enum { KEYS = 50, ENTRIES = 9, PCH_NUMBERS = 14, LONGEST = 60000, LAST_REFERENCE = 99999999, LAST_KEY = 199999999, NLN_UNKNOWN = 4 };
+enum { KEYS = 50, ENTRIES = 9, PCH_NUMBERS = 14, LONGEST = 60000, LAST_REFERENCE = 99999999, LAST_KEY = 199999999, NLN_UNKNOWN = 4, NONE_KEPT = 4, BIT_UNKNOWN = 2 };
 
 /* ---- Bits ---- */
 
@@ -469,14 +470,14 @@ struct record {
 
 struct told {
     uint32_t key;
-    uint8_t number;
+    uint8_t number, place, follow, kept;
     struct record record; /* there only where the number is 1 to 3 */
 };
 
 struct receiver {
     uint32_t tick, timer[CHANNELS];
-    uint32_t n_keys, keys[KEYS];
-    uint8_t nln;
+    uint32_t n_keys, keys[KEYS], sets[KEYS];
+    uint8_t nln, kept, bit;
     uint64_t held[CHANNELS], first[CHANNELS]; /* one bit for each subscription: a half is held; it is a first half */
     uint32_t since[CHANNELS][KEYS];
     struct record halves[CHANNELS][KEYS];
@@ -570,6 +571,17 @@ static uint8_t tell_half(struct receiver *r, unsigned channel, unsigned place, s
     return JOINED;
 }
 
+/* Whether a complete ciphered call can be followed. */
+static inline void tell_follow(const struct receiver *r, struct told *t)
+{
+    t->follow = t->kept = 0;
+    if (t->number != ONE_PIECE && t->number != JOINED)
+        return;
+    t->follow = !(r->sets[t->place] >> t->record.cipher_key_number & 1) ? NO_KEY : r->kept == NONE_KEPT ? NO_COUNT : FOLLOW;
+    if (t->follow == FOLLOW)
+        t->kept = r->kept;
+}
+
 static void call_parts(struct record *x, const struct plain_call *c)
 {
     x->reference = c->reference;
@@ -613,6 +625,7 @@ static uint8_t tell_nch_call(struct receiver *r, struct told *t, const struct pl
     unsigned place = find(r, t->key);
     if (place == KEYS)
         return NOT_OURS;
+    t->place = (uint8_t)place;
     unsigned second = c->cipher_key_number && random && random->segment_id && random->given;
     if (!c->described && !second)
         return NO_CHANNEL;
@@ -637,6 +650,7 @@ static uint8_t tell_reduced(struct receiver *r, struct told *t, const struct pla
         return NOT_OURS;
     if (!random || !random->segment_id || !random->given)
         return UNUSABLE;
+    t->place = (uint8_t)place;
     struct record *x = &t->record;
     memset(x, 0, sizeof *x);
     x->reference = t->key >> 1;
@@ -660,6 +674,8 @@ static uint32_t event_nch(uint8_t *state, size_t state_length, uint32_t tick, co
             r->dropped = drop(r, NCH, 0);
         r->nln = m.nln;
     }
+    if (m.counted)
+        r->kept = m.cell_global_count;
     struct told *t = r->entries;
     unsigned randoms = 0, marks = 0;
     for (unsigned i = 0; i < m.n_calls; i++, t++) {
@@ -668,11 +684,13 @@ static uint32_t event_nch(uint8_t *state, size_t state_length, uint32_t tick, co
         uint8_t emergency = c->described && marks < m.n_marks ? m.marks[marks++] : 0;
         t->key = c->reference * 2 + c->vgcs;
         t->number = tell_nch_call(r, t, &m, c, random, emergency);
+        tell_follow(r, t);
     }
     for (unsigned i = 0; i < m.n_reduced; i++, t++) {
         const struct plain_random *random = randoms < m.n_random ? &m.random[randoms++] : NULL;
         t->key = m.reduced[i];
         t->number = tell_reduced(r, t, &m, random);
+        tell_follow(r, t);
     }
     r->count = m.n_calls + m.n_reduced;
     return ACCEPTED;
@@ -686,6 +704,7 @@ static uint8_t tell_facch(struct receiver *r, struct told *t, const struct plain
         return NOT_OURS;
     if (!c->described && !(c->cipher_key_number && m->rand_given))
         return NO_CHANNEL;
+    t->place = (uint8_t)place;
     struct record *x = &t->record;
     memset(x, 0, sizeof *x);
     call_parts(x, c);
@@ -716,7 +735,10 @@ static uint32_t event_facch(uint8_t *state, size_t state_length, uint32_t tick, 
     accept(r, tick);
     struct told *t = r->entries;
     t->key = m.call.reference * 2 + m.call.vgcs;
+    if (m.counted && r->bit != BIT_UNKNOWN)
+        r->kept = (m.cell_global_count + (m.b22_count && !r->bit)) & 3;
     t->number = tell_facch(r, t, &m);
+    tell_follow(r, t);
     r->count = 1;
     return ACCEPTED;
 }
@@ -790,7 +812,11 @@ static uint32_t event_pch(uint8_t *state, size_t state_length, uint32_t tick, co
     t->key = (uint32_t)entry[0];
     unsigned place = find(r, t->key);
     r->dropped = drop(r, PCH, place == KEYS ? 0 : 1ull << place);
+    if (entry[12])
+        r->kept = (uint8_t)entry[13];
     t->number = tell_pch(r, place, &t->record, entry);
+    t->place = (uint8_t)place;
+    tell_follow(r, t);
     r->count = 1;
     return ACCEPTED;
 }
@@ -825,14 +851,39 @@ static uint32_t drop_channels(uint8_t *state, size_t state_length, uint32_t tick
 static uint32_t event_reselected(uint8_t *state, size_t state_length, uint32_t tick)
 {
     uint32_t refusal = drop_channels(state, state_length, tick, NCH, PCH);
-    if (!refusal)
-        ((struct receiver *)(void *)state)->nln = NLN_UNKNOWN; /* a new cell numbers its notifications anew */
+    if (!refusal) {
+        struct receiver *r = (struct receiver *)(void *)state;
+        r->nln = NLN_UNKNOWN; /* a new cell numbers its notifications anew */
+        r->kept = NONE_KEPT;
+        r->bit = BIT_UNKNOWN;
+    }
     return refusal;
 }
 
 static uint32_t event_handed_over(uint8_t *state, size_t state_length, uint32_t tick)
 {
-    return drop_channels(state, state_length, tick, FACCH, FACCH);
+    uint32_t refusal = drop_channels(state, state_length, tick, FACCH, FACCH);
+    if (!refusal) {
+        struct receiver *r = (struct receiver *)(void *)state;
+        r->kept = NONE_KEPT;
+        r->bit = BIT_UNKNOWN;
+    }
+    return refusal;
+}
+
+static uint32_t event_bit_22(uint8_t *state, size_t state_length, uint32_t tick, uint32_t value)
+{
+    struct receiver *r = (struct receiver *)(void *)state;
+    uint32_t refusal = clock_refusal(r, state_length, tick);
+    if (!refusal && value > 1)
+        refusal = RANGE;
+    if (refusal)
+        return refusal;
+    accept(r, tick);
+    if (r->bit == 1 && !value && r->kept != NONE_KEPT)
+        r->kept = (r->kept + 1) & 3;
+    r->bit = (uint8_t)value;
+    return ACCEPTED;
 }
 
 static uint32_t event_reconfigured(uint8_t *state, size_t state_length, uint32_t tick)
@@ -855,15 +906,15 @@ static uint32_t event_tick(uint8_t *state, size_t state_length, uint32_t tick)
     return ACCEPTED;
 }
 
-static uint32_t setup(uint8_t *state, size_t state_length, const uint32_t *keys, size_t n_keys, uint32_t tick, uint32_t t3206, uint32_t t3208, uint32_t t3210)
+static uint32_t setup(uint8_t *state, size_t state_length, const uint32_t *keys, size_t n_keys, const uint32_t *sets, size_t n_sets, uint32_t tick, uint32_t t3206, uint32_t t3208, uint32_t t3210)
 {
     struct receiver *r = (struct receiver *)(void *)state;
     if (state_length != sizeof *r)
         return STATE_LENGTH;
-    if (n_keys > KEYS || t3206 < 1 || t3206 > LONGEST || t3208 < 1 || t3208 > LONGEST || t3210 < 1 || t3210 > LONGEST)
+    if (n_keys > KEYS || n_sets != n_keys || t3206 < 1 || t3206 > LONGEST || t3208 < 1 || t3208 > LONGEST || t3210 < 1 || t3210 > LONGEST)
         return SETUP;
     for (size_t i = 0; i < n_keys; i++) {
-        if (keys[i] > LAST_KEY || (i && keys[i] <= keys[i - 1]))
+        if (keys[i] > LAST_KEY || sets[i] & ~0xFFFEu || (i && keys[i] <= keys[i - 1]))
             return SETUP;
     }
     memset(r, 0, sizeof *r);
@@ -873,7 +924,10 @@ static uint32_t setup(uint8_t *state, size_t state_length, const uint32_t *keys,
     r->timer[PCH] = t3210;
     r->n_keys = (uint32_t)n_keys;
     memcpy(r->keys, keys, n_keys * sizeof *keys);
+    memcpy(r->sets, sets, n_keys * sizeof *sets);
     r->nln = NLN_UNKNOWN;
+    r->kept = NONE_KEPT;
+    r->bit = BIT_UNKNOWN;
     return ACCEPTED;
 }
 
@@ -933,6 +987,10 @@ static uint32_t read_part(const uint8_t *state, size_t state_length, uint32_t en
             *value = t->key;
         else if (part == 4)
             *value = t->number;
+        else if (part == 35)
+            *value = t->follow;
+        else if (part == 36)
+            *value = t->kept;
         else if (t->number >= CLEAR && t->number <= JOINED)
             *value = record_part(&t->record, part);
     }
@@ -942,7 +1000,7 @@ static uint32_t read_part(const uint8_t *state, size_t state_length, uint32_t en
 #define STRING_(x) #x
 #define STRING(x) STRING_(x)
 const struct side PLAIN = {
-    STRING(PLAIN), sizeof(struct receiver), setup, event_nch, event_facch, event_pch, event_joined, event_reselected, event_handed_over, event_reconfigured, event_left_idle, event_tick,
+    STRING(PLAIN), sizeof(struct receiver), setup, event_nch, event_facch, event_pch, event_joined, event_reselected, event_handed_over, event_reconfigured, event_left_idle, event_bit_22, event_tick,
     read_part, read_nch_numbers, read_facch_numbers
 };
 const struct readers JOIN(PLAIN, _readers) = { read_nch, read_facch, nch_numbers, facch_numbers };

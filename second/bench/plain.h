@@ -40,7 +40,7 @@ struct plain_facch {
 struct side {
     const char *name;
     size_t state_length;
-    uint32_t (*setup)(uint8_t *state, size_t state_length, const uint32_t *keys, size_t n_keys, uint32_t tick, uint32_t t3206, uint32_t t3208, uint32_t t3210);
+    uint32_t (*setup)(uint8_t *state, size_t state_length, const uint32_t *keys, size_t n_keys, const uint32_t *sets, size_t n_sets, uint32_t tick, uint32_t t3206, uint32_t t3208, uint32_t t3210);
     uint32_t (*nch)(uint8_t *state, size_t state_length, uint32_t tick, const uint8_t *octets, size_t n);
     uint32_t (*facch)(uint8_t *state, size_t state_length, uint32_t tick, const uint8_t *octets, size_t n);
     uint32_t (*pch)(uint8_t *state, size_t state_length, uint32_t tick, const uint64_t *entry, size_t n);
@@ -49,6 +49,7 @@ struct side {
     uint32_t (*handed_over)(uint8_t *state, size_t state_length, uint32_t tick);
     uint32_t (*reconfigured)(uint8_t *state, size_t state_length, uint32_t tick);
     uint32_t (*left_idle)(uint8_t *state, size_t state_length, uint32_t tick);
+    uint32_t (*bit_22)(uint8_t *state, size_t state_length, uint32_t tick, uint32_t value);
     uint32_t (*tick)(uint8_t *state, size_t state_length, uint32_t tick);
     uint32_t (*read)(const uint8_t *state, size_t state_length, uint32_t entry, uint32_t part, uint64_t *value);
     uint32_t (*nch_numbers)(const uint8_t *octets, size_t n, uint64_t *numbers, size_t n_numbers);

@@ -19,6 +19,16 @@ pub enum Cause {
     StrangeKey,
 }
 
+/// What is wrong with the sets of group keys of a setup.
+#[derive(Clone, Copy, Debug, PartialEq, Eq, PartialOrd, Ord)]
+pub enum Sets {
+    Fewer,
+    More,
+    /// Key number 0 in one of them, or one above 15.
+    Zero,
+    Above,
+}
+
 #[derive(Clone, Copy, Debug, PartialEq, Eq, PartialOrd, Ord)]
 pub enum Met {
     /// An entry on this channel was told this number.
@@ -33,6 +43,31 @@ pub enum Met {
     Spared,
     /// A lookup among rising keys found the key, or did not, after so many looks.
     Found(bool, u64),
+    /// Beside this number told, 2 or 3, an entry of this channel has no key, no count or follow.
+    Followed(Channel, u64, u64),
+    /// The group key of a complete ciphered call, with a number of 8 or above, is held, or is not.
+    HighKey(bool),
+    /// A call can be followed with a count that its own message, of this channel, changed.
+    Changed(Channel),
+    /// A count of this channel came with no call of ours.
+    Strange(Channel),
+    /// A FACCH count was not taken, since the bit is not known, while a count was kept, or none.
+    NotTaken(bool),
+    /// A FACCH count was taken: as it was sent, or raised.
+    FacchTaken(bool),
+    /// Bit 22 was this, 2 where it was not known, and is that now, while a count was kept, or none.
+    Bit(u64, u64, bool),
+    /// A count of 3 was raised to 0: that of a FACCH message, or the kept one.
+    Wrapped(bool),
+    /// A kept count, or a bit that was known, was forgotten.
+    CountForgotten(Cause),
+    BitForgotten(Cause),
+    /// A message of this channel with a count was refused for the clock.
+    LateCount(Channel),
+    /// A setup was refused for its sets of group keys alone.
+    SetsRefused(Sets),
+    /// A bit above 1 was refused with this number, from a setup on or not.
+    BitRefused(Refusal),
     /// An event of this channel was refused with this number, from a setup on or not.
     Refused(Channel, Refusal),
 }
@@ -42,7 +77,7 @@ use Met::*;
 
 /// How often each is met at least in 10,000 event steps: about a third to a half of what the usual seed gives. 7 on the FACCH is
 /// always a disagreement; 8 is told there alone.
-const LEAST: [(Met, u64); 70] = [
+const LEAST: [(Met, u64); 122] = [
     (Told(Nch, 0), 270),
     (Told(Nch, 1), 80),
     (Told(Nch, 2), 25),
@@ -101,6 +136,58 @@ const LEAST: [(Met, u64); 70] = [
     (Found(false, 4), 10),
     (Found(false, 5), 10),
     (Found(false, 6), 10),
+    (Followed(Nch, 2, 1), 9),
+    (Followed(Nch, 2, 2), 1),
+    (Followed(Nch, 2, 3), 10),
+    (Followed(Nch, 3, 1), 19),
+    (Followed(Nch, 3, 2), 3),
+    (Followed(Nch, 3, 3), 18),
+    (Followed(Facch, 2, 1), 35),
+    (Followed(Facch, 2, 2), 11),
+    (Followed(Facch, 2, 3), 25),
+    (Followed(Facch, 3, 1), 10),
+    (Followed(Facch, 3, 2), 3),
+    (Followed(Facch, 3, 3), 9),
+    (Followed(Pch, 2, 1), 35),
+    (Followed(Pch, 2, 2), 7),
+    (Followed(Pch, 2, 3), 35),
+    (Followed(Pch, 3, 1), 15),
+    (Followed(Pch, 3, 2), 2),
+    (Followed(Pch, 3, 3), 16),
+    (HighKey(true), 3),
+    (HighKey(false), 6),
+    (Changed(Nch), 13),
+    (Changed(Facch), 9),
+    (Changed(Pch), 25),
+    (Strange(Nch), 65),
+    (Strange(Facch), 10),
+    (Strange(Pch), 45),
+    (NotTaken(true), 55),
+    (NotTaken(false), 40),
+    (FacchTaken(false), 55),
+    (FacchTaken(true), 20),
+    (Bit(0, 0, true), 18),
+    (Bit(0, 1, true), 18),
+    (Bit(1, 0, true), 20),
+    (Bit(1, 0, false), 7),
+    (Bit(1, 1, true), 16),
+    (Bit(2, 0, true), 30),
+    (Bit(2, 1, true), 30),
+    (Wrapped(true), 5),
+    (Wrapped(false), 5),
+    (CountForgotten(Reselected), 70),
+    (CountForgotten(HandedOver), 40),
+    (BitForgotten(Reselected), 45),
+    (BitForgotten(HandedOver), 25),
+    (LateCount(Nch), 20),
+    (LateCount(Facch), 14),
+    (LateCount(Pch), 25),
+    (SetsRefused(Sets::Fewer), 11),
+    (SetsRefused(Sets::More), 11),
+    (SetsRefused(Sets::Zero), 6),
+    (SetsRefused(Sets::Above), 15),
+    (BitRefused(9), 3),
+    (BitRefused(12), 30),
     (Refused(Nch, 2), 100),
     (Refused(Nch, 14), 45),
     (Refused(Nch, 15), 90),

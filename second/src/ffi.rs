@@ -15,7 +15,7 @@ pub mod archive {
         };
     }
     exported! {
-        fn asternhaken_setup(state: *mut u8, state_length: usize, keys: *const u32, n_keys: usize, tick: u32, t3206: u32, t3208: u32, t3210: u32);
+        fn asternhaken_setup(state: *mut u8, state_length: usize, keys: *const u32, n_keys: usize, sets: *const u32, n_sets: usize, tick: u32, t3206: u32, t3208: u32, t3210: u32);
         fn asternhaken_nch(state: *mut u8, state_length: usize, tick: u32, octets: *const u8, n: usize);
         fn asternhaken_facch(state: *mut u8, state_length: usize, tick: u32, octets: *const u8, n: usize);
         fn asternhaken_pch(state: *mut u8, state_length: usize, tick: u32, entry: *const u64, n: usize);
@@ -24,6 +24,7 @@ pub mod archive {
         fn asternhaken_handed_over(state: *mut u8, state_length: usize, tick: u32);
         fn asternhaken_reconfigured(state: *mut u8, state_length: usize, tick: u32);
         fn asternhaken_left_idle(state: *mut u8, state_length: usize, tick: u32);
+        fn asternhaken_bit_22(state: *mut u8, state_length: usize, tick: u32, value: u32);
         fn asternhaken_tick(state: *mut u8, state_length: usize, tick: u32);
         fn asternhaken_read(state: *const u8, state_length: usize, entry: u32, part: u32, value: *mut u64);
         fn asternhaken_entry_numbers(state: *const u8, state_length: usize, entry: u32, numbers: *mut u64, n: usize);
@@ -249,13 +250,17 @@ impl State {
         refusal
     }
 
-    pub fn setup(&mut self, keys: &[u32], tick: u32, [t3206, t3208, t3210]: [u32; 3]) -> u32 {
+    pub fn setup(&mut self, keys: &[u32], sets: &[u32], tick: u32, [t3206, t3208, t3210]: [u32; 3]) -> u32 {
         let lent = Lent::new(keys, 0xA5A5_A5A5, 0);
-        let octets: Vec<u8> = keys.iter().flat_map(|key| key.to_le_bytes()).collect();
-        let refusal = self.call(archive::asternhaken_setup as *const (), &[tick, t3206, t3208, t3210], &octets, |state, n| unsafe {
-            archive::asternhaken_setup(state, n, lent.pointer(), keys.len(), tick, t3206, t3208, t3210)
+        let lent_sets = Lent::new(sets, 0x5A5A_5A5A, 0);
+        let octets: Vec<u8> = keys.iter().chain(sets).flat_map(|number| number.to_le_bytes()).collect();
+        let given = [tick, t3206, t3208, t3210, keys.len() as u32];
+        let refusal = self.call(archive::asternhaken_setup as *const (), &given, &octets, |state, n| unsafe {
+            let (keys, sets) = ((lent.pointer(), keys.len()), (lent_sets.pointer(), sets.len()));
+            archive::asternhaken_setup(state, n, keys.0, keys.1, sets.0, sets.1, tick, t3206, t3208, t3210)
         });
         lent.check_all(keys);
+        lent_sets.check_all(sets);
         refusal
     }
 
@@ -314,6 +319,12 @@ impl State {
     pub fn left_idle(&mut self, tick: u32) -> u32 {
         self.call(archive::asternhaken_left_idle as *const (), &[tick], &[], |state, n| unsafe {
             archive::asternhaken_left_idle(state, n, tick)
+        })
+    }
+
+    pub fn bit_22(&mut self, tick: u32, value: u32) -> u32 {
+        self.call(archive::asternhaken_bit_22 as *const (), &[tick, value], &[], |state, n| unsafe {
+            archive::asternhaken_bit_22(state, n, tick, value)
         })
     }
 

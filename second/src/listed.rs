@@ -6,7 +6,7 @@ use crate::messages::{compare_facch, compare_nch, compare_nch_write};
 use crate::pair::Pair;
 use crate::receiver::{Channel, Event, DEFAULT_TIMERS, LAST_KEY, LONGEST_TIMER, MOST_KEYS};
 use crate::rows;
-use crate::state::{FIRST_RECORD_PART, MOST_ENTRIES, RECORD_NUMBERS, STATE_LENGTH};
+use crate::state::{ENTRY_NUMBERS, FIRST_RECORD_PART, MOST_ENTRIES, PARTS, RECORD_NUMBERS, STATE_LENGTH};
 use crate::tally::{hex, Tally};
 use crate::{facch, nch, pch};
 use std::path::{Path, PathBuf};
@@ -74,7 +74,8 @@ fn header(tally: &mut Tally) {
         ("ASTERNHAKEN_LAST_KEY", u64::from(LAST_KEY)),
         ("ASTERNHAKEN_KEYS", MOST_KEYS as u64),
         ("ASTERNHAKEN_ENTRIES", MOST_ENTRIES as u64),
-        ("ASTERNHAKEN_PARTS", (FIRST_RECORD_PART + RECORD_NUMBERS) as u64),
+        ("ASTERNHAKEN_PARTS", PARTS as u64),
+        ("ASTERNHAKEN_ENTRY_NUMBERS", ENTRY_NUMBERS as u64),
         ("ASTERNHAKEN_STATE_LENGTH", STATE_LENGTH as u64),
         ("ASTERNHAKEN_NCH_NUMBERS", nch::NUMBERS as u64),
         ("ASTERNHAKEN_FACCH_NUMBERS", facch::NUMBERS as u64),
@@ -362,7 +363,13 @@ fn events(tally: &mut Tally) {
         let event = match words[0] {
             "setup" => {
                 let numbers: Vec<u32> = words[2..].iter().map(|word| word.parse().unwrap()).collect();
-                let archive = pair.setup(tally, &numbers[2..], tick, [numbers[0], numbers[1], DEFAULT_TIMERS[Channel::Pch as usize]]);
+                let archive = pair.setup(
+                    tally,
+                    &numbers[2..],
+                    &vec![0; numbers.len() - 2],
+                    tick,
+                    [numbers[0], numbers[1], DEFAULT_TIMERS[Channel::Pch as usize]],
+                );
                 tally.same("events.tsv: setup (second is the file)", || row[0].clone(), &u64::from(archive), &head[0]);
                 continue;
             }
@@ -384,7 +391,10 @@ fn events(tally: &mut Tally) {
             })
             .collect();
         let archive = match said.archive {
-            Ok(spoken) => (vec![0, spoken.expired, spoken.dropped, spoken.entries.len() as u64], spoken.entries),
+            Ok(spoken) => (
+                vec![0, spoken.expired, spoken.dropped, spoken.entries.len() as u64],
+                spoken.entries.into_iter().map(|(key, told, record, _)| (key, told, record)).collect(),
+            ),
             Err(refusal) => (vec![u64::from(number_of(refusal)), 0, 0, 0], Vec::new()),
         };
         tally.same("events.tsv (second is the file)", || row[0].clone(), &archive, &(head, expected));

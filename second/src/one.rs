@@ -1,24 +1,27 @@
 //! The one-call receiver: knows one key and one channel, and is fed only what that call sees.
 //!
+//! Of every message it sees the count, with its channel and B22, since the count is the cell's and not a call's; and it sees bit 22 of COUNT.
 //! It has no clock and no store: the age of its half is the sum of the steps of accepted events. What the receiver of document 01 tells
 //! the entries of a subscribed call must be what this one tells them, whatever the other calls do.
 
 use crate::facch::Facch;
 use crate::nch::Nch;
 use crate::pch::Pch;
-use crate::receiver::{facch_entry, nch_entries, pch_entry, Channel, Record};
+use crate::receiver::{facch_entry, nch_entries, pch_entry, Channel, Follow, Record};
 
 /// What a call sees of an accepted event.
 pub enum Seen<'a> {
     Nch(&'a Nch),
     Facch(&'a Facch),
-    /// Of an entry under another key it looks at the key alone.
+    /// Of an entry under another key it looks at the key and the count alone.
     Pch(&'a Pch),
     Joined(u32),
     Reselected,
     HandedOver,
     Reconfigured,
     LeftIdle,
+    /// Bit 22 of COUNT.
+    Bit(bool),
     Nothing,
 }
 
@@ -34,6 +37,12 @@ pub struct One {
     pub key: u32,
     pub channel: Channel,
     timer: u64,
+    /// The numbers of the group keys held for this call.
+    group_keys: Vec<u64>,
+    /// The last count taken in this cell, and how often bit 22 has since gone from 1 to 0.
+    sent: Option<u64>,
+    raised: u64,
+    bit: Option<bool>,
     nln: Option<u64>,
     /// The last NLN of the cell before, until one of this cell is seen; only for counting what was met.
     nln_before: Option<u64>,
@@ -47,7 +56,7 @@ pub struct One {
 pub struct Outcome {
     pub expired: u64,
     pub dropped: u64,
-    pub told: Vec<(u64, Option<Record>)>,
+    pub told: Vec<(u64, Option<Record>, Follow)>,
     /// Joins with a second half that came first, and entries told 7 because references differ.
     pub second_first: u64,
     pub disagreed: u64,
@@ -56,8 +65,21 @@ pub struct Outcome {
 }
 
 impl One {
-    pub fn new(key: u32, channel: Channel, timer: u32) -> One {
-        One { key, channel, timer: u64::from(timer), nln: None, nln_before: None, held: None, second_first: 0, disagreed: 0 }
+    pub fn new(key: u32, set: u32, channel: Channel, timer: u32) -> One {
+        One {
+            key,
+            channel,
+            timer: u64::from(timer),
+            group_keys: (1..16).filter(|number| set & 1 << number != 0).collect(),
+            sent: None,
+            raised: 0,
+            bit: None,
+            nln: None,
+            nln_before: None,
+            held: None,
+            second_first: 0,
+            disagreed: 0,
+        }
     }
 
     /// Key, channel, which half, and for how many ms it stays yet.
@@ -78,6 +100,7 @@ impl One {
         if self.leaves(seen) && self.held.take().is_some() {
             outcome.dropped = 1;
         }
+        self.learn(seen);
         match (self.channel, seen) {
             // A new cell numbers its notifications anew.
             (_, Seen::Reselected) => self.nln_before = self.nln.take().or(self.nln_before),
@@ -89,22 +112,65 @@ impl One {
                 }
                 for entry in nch_entries(message) {
                     if entry.key() == u64::from(self.key) {
-                        outcome.told.push(self.on_nch(entry));
+                        let told = self.on_nch(entry);
+                        outcome.told.push(self.with_follow(told));
                     }
                 }
             }
             (Channel::Facch, Seen::Facch(message)) => {
                 let entry = facch_entry(message);
                 if entry.key() == u64::from(self.key) {
-                    outcome.told.push(self.on_facch(entry));
+                    let told = self.on_facch(entry);
+                    outcome.told.push(self.with_follow(told));
                 }
             }
-            (Channel::Pch, Seen::Pch(given)) if given.key == self.key => outcome.told.push(self.on_pch(given.ciphered, pch_entry(given))),
+            (Channel::Pch, Seen::Pch(given)) if given.key == self.key => {
+                let told = self.on_pch(given.ciphered, pch_entry(given));
+                outcome.told.push(self.with_follow(told));
+            }
             _ => {}
         }
         outcome.second_first = std::mem::take(&mut self.second_first);
         outcome.disagreed = std::mem::take(&mut self.disagreed);
         outcome
+    }
+
+    /// The count of every message, on any channel and of any call, with its B22 on the FACCH, and the bit.
+    fn learn(&mut self, seen: &Seen) {
+        let sent = match seen {
+            Seen::Nch(message) => message.release6.as_ref().and_then(|six| six.cell_global_count),
+            Seen::Pch(given) => given.cell_global_count,
+            Seen::Facch(message) => match (message.release6.as_ref().and_then(|six| six.count.clone()), self.bit) {
+                (Some(count), Some(true)) => Some(count.cell_global_count),
+                (Some(count), Some(false)) if count.b22_count => Some([1, 2, 3, 0][count.cell_global_count as usize]),
+                (Some(count), Some(false)) => Some(count.cell_global_count),
+                _ => None,
+            },
+            _ => None,
+        };
+        if sent.is_some() {
+            (self.sent, self.raised) = (sent, 0);
+        }
+        match seen {
+            Seen::Reselected | Seen::HandedOver => (self.sent, self.bit) = (None, None),
+            Seen::Bit(bit) => {
+                self.raised += u64::from(self.bit == Some(true) && !bit);
+                self.bit = Some(*bit);
+            }
+            _ => {}
+        }
+    }
+
+    fn with_follow(&self, (number, record): (u64, Option<Record>)) -> (u64, Option<Record>, Follow) {
+        let follow = match &record {
+            Some(record) if number != 1 => match self.sent {
+                _ if !self.group_keys.contains(&record.cipher_key_number) => (1, 0),
+                None => (2, 0),
+                Some(sent) => (3, (sent + self.raised) % 4),
+            },
+            _ => (0, 0),
+        };
+        (number, record, follow)
     }
 
     /// Whether the event makes this call discard its half.
@@ -116,7 +182,7 @@ impl One {
             Seen::LeftIdle => self.channel == Channel::Pch,
             Seen::Pch(given) => self.channel == Channel::Pch && given.key != self.key,
             Seen::Nch(message) => self.channel == Channel::Nch && self.nln.is_some() && message.nln.is_some() && message.nln != self.nln,
-            Seen::Facch(_) | Seen::Nothing => false,
+            Seen::Facch(_) | Seen::Bit(_) | Seen::Nothing => false,
         }
     }
 

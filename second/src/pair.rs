@@ -1,7 +1,7 @@
 //! The archive and the second program side by side over one lent state.
 
 use crate::bits::{number_of, Refusal};
-use crate::cover::{Cause, Met};
+use crate::cover::{Cause, Met, Sets};
 use crate::ffi::{self, archive};
 use crate::messages::filled;
 use crate::one::{One, Outcome, Seen};
@@ -9,12 +9,15 @@ use crate::receiver::*;
 use crate::state::*;
 use crate::tally::{hex, Tally};
 use crate::{facch, nch, pch};
+use std::cmp::Ordering;
 
 /// Entries and parts that are asked for after each event: all there can be, and some beyond.
 const ENTRIES_ASKED: u32 = 11;
-const PARTS_ASKED: u32 = 37;
+const PARTS_ASKED: u32 = PARTS as u32 + 2;
 /// So many of the halves that are held are asked for, with the first and the last, and some beyond.
 const HALVES_ASKED: usize = 8;
+/// The place of the cipher key number among the numbers of a record.
+const CIPHER_KEY_NUMBER: usize = 25;
 const BEYOND: [(u32, u32); 6] = [(0, 255), (0, 256 + 4), (256, 4), (u32::MAX, 3), (u32::MAX, 2), (1 << 31, u32::MAX)];
 
 pub struct Pair {
@@ -28,12 +31,12 @@ pub struct Pair {
     log: Vec<String>,
 }
 
-/// An answer in numbers: each entry is its key, the number told, and the numbers of its record.
+/// An answer in numbers: each entry is its key, the number told, the numbers of its record, and whether it can be followed.
 #[derive(Debug, Clone, PartialEq)]
 pub struct Spoken {
     pub expired: u64,
     pub dropped: u64,
-    pub entries: Vec<(u64, u64, Option<[u64; RECORD_NUMBERS]>)>,
+    pub entries: Vec<(u64, u64, Option<[u64; RECORD_NUMBERS]>, Follow)>,
 }
 
 /// What both sides said to one event.
@@ -43,7 +46,7 @@ pub struct Said {
 }
 
 fn spoken(answer: &Answer) -> Spoken {
-    let entries = answer.entries.iter().map(|told| (told.key, told.number, told.record.as_ref().map(numbers_of)));
+    let entries = answer.entries.iter().map(|told| (told.key, told.number, told.record.as_ref().map(numbers_of), told.follow));
     Spoken { expired: answer.expired, dropped: answer.dropped, entries: entries.collect() }
 }
 
@@ -57,6 +60,7 @@ pub fn event_line(tick: u32, event: &Event) -> String {
         Event::HandedOver => format!("handed_over {tick}"),
         Event::Reconfigured => format!("reconfigured {tick}"),
         Event::LeftIdle => format!("left_idle {tick}"),
+        Event::Bit(value) => format!("bit {tick} {value}"),
         Event::Tick => format!("tick {tick}"),
     }
 }
@@ -71,6 +75,7 @@ pub fn feed(state: &mut ffi::State, tick: u32, event: &Event) -> Refusal {
         Event::HandedOver => state.handed_over(tick),
         Event::Reconfigured => state.reconfigured(tick),
         Event::LeftIdle => state.left_idle(tick),
+        Event::Bit(value) => state.bit_22(tick, *value),
         Event::Tick => state.tick(tick),
     }
 }
@@ -110,18 +115,21 @@ impl Pair {
         tally.check(archive == second, || format!("  {what}: the state afterwards\n{}\n  {}", self.tell(), differing(archive, second)));
     }
 
-    pub fn setup(&mut self, tally: &mut Tally, keys: &[u32], tick: u32, timers: Timers) -> Refusal {
-        let line = format!("setup {tick} {timers:?} {keys:?}");
-        let archive = self.archive.setup(keys, tick, timers);
-        let second = self.mirror.setup(keys, tick, timers).err().unwrap_or(0);
+    pub fn setup(&mut self, tally: &mut Tally, keys: &[u32], sets: &[u32], tick: u32, timers: Timers) -> Refusal {
+        let line = format!("setup {tick} {timers:?} {keys:?} {sets:?}");
+        let archive = self.archive.setup(keys, sets, tick, timers);
+        let second = self.mirror.setup(keys, sets, tick, timers).err().unwrap_or(0);
         if second == 0 {
             self.log.clear();
             self.from_setup = true;
-            let each = |&key| CHANNELS.map(|channel| One::new(key, channel, timers[channel as usize]));
-            self.ones = keys.iter().flat_map(each).collect();
+            let each = |(&key, &set)| CHANNELS.map(|channel| One::new(key, set, channel, timers[channel as usize]));
+            self.ones = keys.iter().zip(sets).flat_map(each).collect();
         }
         self.log.push(line);
         tally.count_refusal(archive);
+        if archive != 0 {
+            self.count_sets(tally, keys, sets, timers);
+        }
         tally.same("setup: refusal", || self.story(), &archive, &second);
         self.check_state(tally, "setup");
         self.check_parts(tally);
@@ -133,6 +141,7 @@ impl Pair {
     pub fn event(&mut self, tally: &mut Tally, tick: u32, event: &Event) -> Said {
         self.log.push(event_line(tick, event));
         let step = tick.wrapping_sub(self.mirror.receiver.tick);
+        let (kept, bit) = (self.mirror.receiver.count, self.mirror.receiver.bit);
         let archive = feed(&mut self.archive, tick, event);
         let second = self.mirror.event(tick, event);
         tally.count_refusal(archive);
@@ -160,6 +169,7 @@ impl Pair {
             });
             self.check_ones(tally, step, event, told);
         }
+        self.count_counts(tally, event, kept, bit, &told);
         Said { archive: told, second }
     }
 
@@ -182,7 +192,7 @@ impl Pair {
                 }
                 numbers
             });
-            (self.value(entry, 3), number, record)
+            (self.value(entry, 3), number, record, (self.value(entry, FOLLOW_PART as u32), self.value(entry, FOLLOW_COUNT_PART as u32)))
         });
         Spoken { expired: self.value(0, 0), dropped: self.value(0, 1), entries: entries.collect() }
     }
@@ -248,6 +258,76 @@ impl Pair {
         }
     }
 
+    /// What was met of counts and of the bit, where these were known before the event.
+    fn count_counts(&self, tally: &mut Tally, event: &Event, kept: Option<u64>, bit: Option<bool>, told: &Result<Spoken, Refusal>) {
+        let mut met = |what: Met| tally.cover.count(what, 1);
+        if let (Event::Bit(2..), Err(refusal)) = (event, told) {
+            met(Met::BitRefused(number_of(*refusal)));
+        }
+        if !self.from_setup {
+            return;
+        }
+        // The message's channel and count, and whether its B22 is 1.
+        let sent = match event {
+            Event::Nch(octets) => nch::read(octets).ok().and_then(|read| Some((Channel::Nch, read.0.release6?.cell_global_count?, false))),
+            Event::Pch(numbers) => pch::read(numbers).ok().and_then(|entry| Some((Channel::Pch, entry.cell_global_count?, false))),
+            Event::Facch(octets) => {
+                let count = facch::read(octets).ok().and_then(|read| read.0.release6?.count);
+                count.map(|count| (Channel::Facch, count.cell_global_count, count.b22_count))
+            }
+            _ => None,
+        };
+        let Ok(told) = told else {
+            if let Some((channel, ..)) = sent {
+                met(Met::LateCount(channel));
+            }
+            return;
+        };
+        match (sent, event) {
+            (Some((Channel::Facch, ..)), _) if bit.is_none() => met(Met::NotTaken(kept.is_some())),
+            (Some((channel, count, b22)), _) => {
+                let raised = b22 && bit == Some(false);
+                if channel == Channel::Facch {
+                    met(Met::FacchTaken(raised));
+                }
+                if raised && count == 3 {
+                    met(Met::Wrapped(true));
+                }
+                if told.entries.iter().all(|entry| entry.1 == 0) {
+                    met(Met::Strange(channel));
+                }
+                if self.mirror.receiver.count != kept && told.entries.iter().any(|entry| entry.3 .0 == 3) {
+                    met(Met::Changed(channel));
+                }
+            }
+            (None, Event::Bit(now)) => {
+                met(Met::Bit(bit.map_or(2, u64::from), u64::from(*now), kept.is_some()));
+                if bit == Some(true) && *now == 0 && kept == Some(3) {
+                    met(Met::Wrapped(false));
+                }
+            }
+            (None, Event::Reselected | Event::HandedOver) => {
+                let cause = if *event == Event::Reselected { Cause::Reselected } else { Cause::HandedOver };
+                kept.iter().for_each(|_| met(Met::CountForgotten(cause)));
+                bit.iter().for_each(|_| met(Met::BitForgotten(cause)));
+            }
+            _ => {}
+        }
+    }
+
+    /// Whether a setup was refused for its sets alone, and what is wrong with them.
+    fn count_sets(&self, tally: &mut Tally, keys: &[u32], sets: &[u32], timers: Timers) {
+        if Receiver::setup(keys, &vec![0; keys.len()], 0, timers).is_ok() {
+            let wrong = match sets.len().cmp(&keys.len()) {
+                Ordering::Less => Sets::Fewer,
+                Ordering::Greater => Sets::More,
+                Ordering::Equal if sets.iter().any(|set| set % 2 == 1) => Sets::Zero,
+                Ordering::Equal => Sets::Above,
+            };
+            tally.cover.count(Met::SetsRefused(wrong), 1);
+        }
+    }
+
     /// Each subscribed call on each channel against the one-call receiver, and the counts against the sum of theirs.
     fn check_ones(&mut self, tally: &mut Tally, step: u32, event: &Event, told: &Spoken) {
         if !self.from_setup {
@@ -275,6 +355,7 @@ impl Pair {
             Event::HandedOver => Seen::HandedOver,
             Event::Reconfigured => Seen::Reconfigured,
             Event::LeftIdle => Seen::LeftIdle,
+            Event::Bit(value) => Seen::Bit(*value == 1),
             Event::Tick => Seen::Nothing,
         };
         // A tick and a FACCH message drop nothing, which the counts below show.
@@ -288,10 +369,16 @@ impl Pair {
             Event::HandedOver => (None, Cause::HandedOver),
             Event::Reconfigured => (None, Cause::Reconfigured),
             Event::LeftIdle => (None, Cause::LeftIdle),
-            Event::Tick => (None, Cause::RanOut),
+            Event::Bit(_) | Event::Tick => (None, Cause::RanOut),
         };
         if let Some(channel) = channel {
-            told.entries.iter().for_each(|entry| tally.cover.count(Met::Told(channel, entry.1), 1));
+            for entry in &told.entries {
+                tally.cover.count(Met::Told(channel, entry.1), 1);
+                tally.cover.count(Met::Followed(channel, entry.1, entry.3 .0), 1);
+                if let (2 | 3, Some(8..)) = (entry.1, entry.2.map(|record| record[CIPHER_KEY_NUMBER])) {
+                    tally.cover.count(Met::HighKey(entry.3 .0 != 1), 1);
+                }
+            }
         }
         let (mut expired, mut dropped) = (0, 0);
         let mut strays = Vec::new();
@@ -305,9 +392,13 @@ impl Pair {
             tally.cover.count(Met::Disagreed(one.channel), disagreed);
             tally.cover.count(Met::Spared, spared);
             let here = channel == Some(one.channel);
-            let own: Vec<_> = own.into_iter().map(|(number, record)| (number, record.as_ref().map(numbers_of))).collect();
-            let archive: Vec<_> =
-                told.entries.iter().filter(|entry| here && entry.0 == u64::from(one.key)).map(|entry| (entry.1, entry.2)).collect();
+            let own: Vec<_> = own.into_iter().map(|(number, record, follow)| (number, record.as_ref().map(numbers_of), follow)).collect();
+            let archive: Vec<_> = told
+                .entries
+                .iter()
+                .filter(|entry| here && entry.0 == u64::from(one.key))
+                .map(|entry| (entry.1, entry.2, entry.3))
+                .collect();
             if own != archive {
                 strays.push((one.key, one.channel, archive, own));
             }

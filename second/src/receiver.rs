@@ -1,5 +1,5 @@
 //! The receiver (document 01, "Setup, clock and store" and "What each notified call is told"; document 02, §8, the paging channel,
-//! and §3, what a new cell forgets; §11, keys in rising order).
+//! §3, what a new cell forgets, §11, keys in rising order, and §2, the cell's count and which calls can be followed).
 
 use crate::bits::*;
 use crate::call::{Call, Frequencies};
@@ -257,6 +257,8 @@ pub enum Event {
     HandedOver,
     Reconfigured,
     LeftIdle,
+    /// The present value of bit 22 of COUNT.
+    Bit(u32),
     Tick,
 }
 
@@ -266,7 +268,12 @@ pub struct Told {
     pub key: u64,
     pub number: u64,
     pub record: Option<Record>,
+    /// Whether the call can be followed, and with what count: both 0 beside every number but 2 and 3.
+    pub follow: Follow,
 }
+
+/// 1 no key, 2 no count, 3 follow; and the kept count, which is 0 beside 1 and 2.
+pub type Follow = (u64, u64);
 
 #[derive(Clone, Debug, Default, PartialEq)]
 pub struct Answer {
@@ -283,7 +290,12 @@ pub struct Receiver {
     pub tick: u32,
     pub timers: Timers,
     pub nln: Option<u8>,
+    /// CELL_GLOBAL_COUNT and bit 22 of COUNT, as they are known of this cell.
+    pub count: Option<u64>,
+    pub bit: Option<bool>,
     pub keys: Vec<u32>,
+    /// The group keys held, one set for each key: bit n for key number n.
+    pub sets: Vec<u32>,
     pub halves: BTreeMap<Place, Half>,
     /// Places that the last accepted event filled or freed.
     pub touched: Vec<Place>,
@@ -299,6 +311,7 @@ enum Read {
     HandedOver,
     Reconfigured,
     LeftIdle,
+    Bit(bool),
     Tick,
 }
 
@@ -313,6 +326,8 @@ fn read(event: &Event) -> Result<Read, Refusal> {
         Event::HandedOver => Read::HandedOver,
         Event::Reconfigured => Read::Reconfigured,
         Event::LeftIdle => Read::LeftIdle,
+        Event::Bit(value) if *value > 1 => return Err(RANGE),
+        Event::Bit(value) => Read::Bit(*value == 1),
         Event::Tick => Read::Tick,
     })
 }
@@ -334,13 +349,27 @@ pub fn find(keys: &[u32], key: u64) -> (Option<usize>, u64) {
 }
 
 impl Receiver {
-    pub fn setup(keys: &[u32], tick: u32, timers: Timers) -> Result<Receiver, Refusal> {
+    pub fn setup(keys: &[u32], sets: &[u32], tick: u32, timers: Timers) -> Result<Receiver, Refusal> {
         let rising = keys.windows(2).all(|pair| pair[0] < pair[1]);
         let in_range = timers.iter().all(|timer| (1..=LONGEST_TIMER).contains(timer));
         if keys.len() > MOST_KEYS || keys.iter().any(|&key| key > LAST_KEY) || !rising || !in_range {
             return Err(SETUP);
         }
-        Ok(Receiver { tick, timers, nln: None, keys: keys.to_vec(), halves: BTreeMap::new(), touched: Vec::new() })
+        // Key numbers are 1 to 15, and every key has a set.
+        if sets.len() != keys.len() || sets.iter().any(|set| set & !0xFFFE != 0) {
+            return Err(SETUP);
+        }
+        Ok(Receiver {
+            tick,
+            timers,
+            nln: None,
+            count: None,
+            bit: None,
+            keys: keys.to_vec(),
+            sets: sets.to_vec(),
+            halves: BTreeMap::new(),
+            touched: Vec::new(),
+        })
     }
 
     /// A setup's keys rise. In octets that no setup left they may stand in any order, and twice: the place that the halving finds counts, and
@@ -386,8 +415,9 @@ impl Receiver {
             Read::LeftIdle => self.discard(|_, place, _| place.1 == Channel::Pch),
             Read::Nch(message) => self.see_nln(message.nln),
             Read::Pch(entry) => self.see_key(entry.key),
-            Read::Facch(_) | Read::Tick => 0,
+            Read::Facch(_) | Read::Bit(_) | Read::Tick => 0,
         };
+        self.see_count(&event);
         let mut answer = Answer { expired, dropped, entries: Vec::new() };
         match &event {
             Read::Nch(message) => {
@@ -418,6 +448,40 @@ impl Receiver {
         }
     }
 
+    /// A count is taken from every message that has one, whoever it is for. On the FACCH it goes with bit 22 as it was when it was sent: where
+    /// that was 1 and is 0 now, the count has since been raised; where the bit is not known, nobody can say, and the count is not taken.
+    fn see_count(&mut self, event: &Read) {
+        match event {
+            Read::Nch(message) => self.count = message.release6.as_ref().and_then(|six| six.cell_global_count).or(self.count),
+            Read::Pch(entry) => self.count = entry.cell_global_count.or(self.count),
+            Read::Facch(message) => {
+                let sent = message.release6.as_ref().and_then(|six| six.count.as_ref());
+                if let (Some(sent), Some(bit)) = (sent, self.bit) {
+                    self.count = Some((sent.cell_global_count + u64::from(sent.b22_count && !bit)) % 4);
+                }
+            }
+            Read::Bit(bit) => {
+                if self.bit == Some(true) && !bit {
+                    self.count = self.count.map(|count| (count + 1) % 4);
+                }
+                self.bit = Some(*bit);
+            }
+            Read::Reselected | Read::HandedOver => (self.count, self.bit) = (None, None),
+            _ => {}
+        }
+    }
+
+    /// Whether a complete ciphered call of this subscription can be followed.
+    fn follow(&self, place: usize, record: &Record) -> Follow {
+        let number = record.cipher_key_number;
+        let held = (1..=15).contains(&number) && self.sets[place] >> number & 1 == 1;
+        match self.count {
+            _ if !held => (1, 0),
+            None => (2, 0),
+            Some(count) => (3, count),
+        }
+    }
+
     /// A PCH entry says that the PCH is now used for its key, whoever subscribed it: halves under any other are dropped there.
     fn see_key(&mut self, key: u32) -> u64 {
         let own = self.place_of(u64::from(key));
@@ -435,7 +499,11 @@ impl Receiver {
             (Some(_), Class::NoChannel) => (6, None),
             (Some(_), Class::Unusable) => (7, None),
         };
-        Told { key, number, record }
+        let follow = match (place, number, &record) {
+            (Some(place), 2 | 3, Some(record)) => self.follow(place, record),
+            _ => (0, 0),
+        };
+        Told { key, number, record, follow }
     }
 
     /// A half meets what its place holds.

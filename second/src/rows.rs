@@ -40,10 +40,13 @@ fn answer(said: &Result<Spoken, Refusal>) -> String {
         Err(refusal) => format!("{} {} 0 0", number_of(*refusal), bit_of(*refusal)),
         Ok(spoken) => {
             let mut line = words(&[0, 0, spoken.dropped, spoken.expired]);
-            for (key, told, record) in &spoken.entries {
+            for (key, told, record, follow) in &spoken.entries {
                 line += &format!(" | {key} {told}");
                 if let Some(record) = record {
                     line += &format!(" {}", words(&call_record(*key, record)));
+                    if *told != 1 {
+                        line += &format!(" {} {}", follow.0, follow.1);
+                    }
                 }
             }
             line
@@ -86,6 +89,7 @@ fn event(words: &[&str]) -> Event {
         "handed_over" => Event::HandedOver,
         "reconfigured" => Event::Reconfigured,
         "idle" => Event::LeftIdle,
+        "bit" => Event::Bit(words[2].parse().unwrap()),
         "tick" => Event::Tick,
         other => panic!("what is ev {other}?"),
     }
@@ -107,8 +111,10 @@ pub fn run(tally: &mut Tally) {
             "setup" => {
                 let given = numbers(&words[2..3 + CHANNELS.len()]);
                 let timers = CHANNELS.map(|channel| given[1 + channel as usize] as u32);
-                let keys: Vec<u32> = words[4 + CHANNELS.len()..].iter().map(|key| key.parse().unwrap()).collect();
-                let refusal = pair.setup(tally, &keys, given[0] as u32, timers).to_string();
+                let mut lists = words[4 + CHANNELS.len()..].split(|&word| word == "/");
+                let mut list = || lists.next().unwrap().iter().map(|key| key.parse().unwrap()).collect::<Vec<u32>>();
+                let (keys, sets) = (list(), list());
+                let refusal = pair.setup(tally, &keys, &sets, given[0] as u32, timers).to_string();
                 // The pair has held the second program's refusal against this one.
                 (refusal.clone(), refusal)
             }

@@ -1,5 +1,5 @@
 //! Hand-written scenes: each sentence of document 01's "Setup, clock and store" and "What each notified call is told", and of document 02's §8,
-//! §3, §4, §1 and §11, with the outcome that it asks for. The outcome is asked of both sides.
+//! §3, §4, §1, §11 and §2, with the outcome that it asks for. The outcome is asked of both sides.
 
 use crate::bits::missing;
 use crate::draft::{CallDraft, FacchDraft, Hops, NchDraft, PchDraft, SevenDraft, SixDraft};
@@ -42,6 +42,12 @@ const SMS_PRIVACY: u32 = 28;
 const CELL_GLOBAL_COUNT: u32 = 32;
 const HR_AMR_CONFIG: u32 = 34;
 
+const FOLLOW: u32 = 35;
+const KEPT: u32 = 36;
+
+/// Key numbers 1 to 15.
+const EVERY_KEY: u32 = 0xFFFE;
+
 const HERE: u64 = 0x0A_4123;
 const THERE: u64 = 0x5B_8456;
 const HOPPING: u64 = 0x8B_1FFF;
@@ -62,7 +68,7 @@ impl<'a> Scene<'a> {
 
     fn with(tally: &'a mut Tally, name: &'static str, keys: &[u32], tick: u32, timers: Timers) -> Scene<'a> {
         let mut pair = Pair::of(&[0x5A; STATE_LENGTH], 0);
-        let refusal = pair.setup(tally, keys, tick, timers);
+        let refusal = pair.setup(tally, keys, &vec![EVERY_KEY; keys.len()], tick, timers);
         tally.same("scene: setup", || name.to_string(), &refusal, &0);
         Scene { tally, name, pair, said: None, line: 0 }
     }
@@ -219,6 +225,146 @@ pub fn run(tally: &mut Tally) {
     pch_drops(tally);
     pch_refusals(tally);
     ran_out(tally);
+    counts(tally);
+}
+
+/// Document 02, §2: the kept count, the bit, and whether a call can be followed.
+fn counts(tally: &mut Tally) {
+    /// Says of a call in one piece on the NCH whether it can be followed.
+    fn follows(s: &mut Scene, tick: u32, follow: u64, kept: u64) {
+        s.nch(tick, nch(vec![call(VGCS).on(HERE)], &[(0, Some(5))])).told(&[2]).has(&[(0, FOLLOW, follow), (0, KEPT, kept)]);
+    }
+    let facch_count = |count, b22| FacchDraft::of(clear(STRANGER)).count(count, b22);
+
+    for (sets, refusal) in [
+        (vec![0, 2, 1 << 15, EVERY_KEY], 0),
+        (vec![0, 2, 1, 4], 10),
+        (vec![0, 0, 0, 1 << 16], 10),
+        (vec![1 << 31, 0, 0, 0], 10),
+        (vec![2, 2, 2], 10),
+        (vec![2, 2, 2, 2, 2], 10),
+        (vec![], 10),
+    ] {
+        let mut pair = Pair::of(&[0x5A; STATE_LENGTH], 0);
+        let archive = pair.setup(tally, &SUBSCRIBED, &sets, 7, [5_000; 3]);
+        tally.same("scene: sets of a setup (archive, document)", || format!("{sets:?}"), &archive, &refusal);
+    }
+
+    let mut s = Scene::new(tally, "§2: no count is kept at the start; an NCH or PCH count is taken as it is, before the entries are told");
+    follows(&mut s, 1_000, 2, 0);
+    s.nch(1_000, with_count(2, nch(vec![call(VGCS).on(HERE)], &[(0, Some(5))]))).told(&[2]);
+    s.has(&[(0, FOLLOW, 3), (0, KEPT, 2), (0, COUNTED, 1), (0, CELL_GLOBAL_COUNT, 2)]).has_octet(KEPT_COUNT, 2);
+    follows(&mut s, 1_000, 3, 2);
+    s.has(&[(0, COUNTED, 0), (0, CELL_GLOBAL_COUNT, 0)]);
+    s.pch(1_001, PchDraft::reduced(STRANGER).count(3)).told(&[0]);
+    follows(&mut s, 1_002, 3, 3);
+    s.nch(1_003, with_count(0, empty())).told(&[]);
+    follows(&mut s, 1_003, 3, 0);
+    s.nch(1_004, with_count(1, nch(vec![clear(VGCS).on(HERE)], &[]))).told(&[1]).has(&[
+        (0, FOLLOW, 0),
+        (0, KEPT, 0),
+        (0, CELL_GLOBAL_COUNT, 1),
+    ]);
+
+    let mut s = Scene::new(tally, "§2: a FACCH count goes with the bit, and is not taken while that is unknown");
+    s.facch(1_000, facch_count(1, 0)).told(&[0]);
+    follows(&mut s, 1_000, 2, 0);
+    s.nch(1_000, with_count(3, empty())).told(&[]);
+    s.facch(1_000, facch_count(1, 1)).told(&[0]);
+    follows(&mut s, 1_000, 3, 3);
+    s.event(1_001, Event::Bit(0)).told(&[]).has_octet(BIT_22, 0);
+    follows(&mut s, 1_001, 3, 3);
+    s.facch(1_001, facch_count(1, 0)).told(&[0]);
+    follows(&mut s, 1_001, 3, 1);
+    s.facch(1_001, facch_count(3, 1)).told(&[0]);
+    follows(&mut s, 1_001, 3, 0);
+    s.event(1_002, Event::Bit(1)).told(&[]);
+    s.facch(1_002, facch_count(2, 1)).told(&[0]);
+    follows(&mut s, 1_002, 3, 2);
+    s.facch(1_002, facch_count(1, 0)).told(&[0]);
+    follows(&mut s, 1_002, 3, 1);
+    s.event(1_003, Event::Bit(0)).told(&[]);
+    follows(&mut s, 1_003, 3, 2);
+    s.facch(1_003, facch_first(VGCS).rand(5).count(1, 1)).told(&[2]);
+    s.has(&[(0, FOLLOW, 3), (0, KEPT, 2), (0, CELL_GLOBAL_COUNT, 1), (0, B22_COUNT, 1)]);
+
+    let mut s = Scene::new(tally, "§2: each change from 1 to 0 raises the kept count, modulo 4; unknown to 0 is none");
+    s.nch(1_000, with_count(2, empty())).told(&[]);
+    for (bit, kept) in [(0, 2), (0, 2), (1, 2), (1, 2), (0, 3), (1, 3), (0, 0), (1, 0), (0, 1)] {
+        s.event(1_001, Event::Bit(bit)).told(&[]);
+        follows(&mut s, 1_001, 3, kept);
+    }
+    s.event(1_002, Event::Bit(2)).refuses(12);
+    s.event(1_000, Event::Bit(2)).refuses(9);
+    s.event(1_002, Event::Bit(u32::MAX)).refuses(12);
+    let mut s = Scene::new(tally, "§2: where no count is kept there is none to raise");
+    s.event(1_000, Event::Bit(1)).told(&[]);
+    s.event(1_000, Event::Bit(0)).told(&[]);
+    follows(&mut s, 1_000, 2, 0);
+
+    for event in [Event::Reselected, Event::HandedOver] {
+        let mut s = Scene::new(tally, "§2: reselection and handover forget the count and the bit");
+        s.event(1_000, Event::Bit(1)).told(&[]);
+        s.nch(1_000, with_count(2, empty())).told(&[]);
+        s.event(1_001, event).told(&[]).has_octet(KEPT_COUNT, 4).has_octet(BIT_22, 2);
+        follows(&mut s, 1_002, 2, 0);
+        s.facch(1_002, facch_count(1, 0)).told(&[0]);
+        follows(&mut s, 1_002, 2, 0);
+        s.nch(1_003, with_count(2, empty())).told(&[]);
+        s.event(1_003, Event::Bit(0)).told(&[]);
+        follows(&mut s, 1_003, 3, 2);
+    }
+    let mut s = Scene::new(tally, "§2: nothing else forgets them, and a refused message's count is not taken");
+    s.event(1_000, Event::Bit(1)).told(&[]);
+    s.nch(1_000, with_count(2, with_nln(1, empty()))).told(&[]);
+    for event in [Event::Reconfigured, Event::LeftIdle, Event::Joined(LAST), Event::Tick] {
+        s.event(1_001, event).told(&[]);
+    }
+    s.nch(1_002, with_nln(2, empty())).told(&[]);
+    s.nch(1_002, with_count(3, nch(vec![clear(OTHER)], &[(0, None)]))).refuses(6);
+    s.event(1_001, Event::Reselected).refuses(9);
+    follows(&mut s, 1_003, 3, 2);
+    s.event(1_003, Event::Bit(0)).told(&[]);
+    follows(&mut s, 1_003, 3, 3);
+
+    let mut s = Scene::new(tally, "§2: a joined call, with the count as it stands after this message's own");
+    s.nch(1_000, with_count(1, first(VGCS))).told(&[4]).has(&[(0, FOLLOW, 0), (0, KEPT, 0)]);
+    s.nch(1_001, with_count(3, second(VGCS, 7))).told(&[3]).has(&[(0, FOLLOW, 3), (0, KEPT, 3), (0, CELL_GLOBAL_COUNT, 3)]);
+    s.pch(1_002, pch_reduced(VGCS, 9)).told(&[4]);
+    s.pch(1_003, pch_first(VGCS)).told(&[3]).has(&[(0, FOLLOW, 3), (0, KEPT, 3), (0, COUNTED, 0)]);
+
+    let mut pair = Pair::of(&[0x5A; STATE_LENGTH], 0);
+    pair.setup(tally, &SUBSCRIBED, &[EVERY_KEY, 1 << 3, EVERY_KEY & !(1 << 3), 0], 1_000, [5_000; 3]);
+    let mut s = Scene { tally, name: "§2: no key goes before no count, and by the call's own subscription", pair, said: None, line: 0 };
+    let one_piece = |key, cipher| nch(vec![CallDraft { cipher, ..call(key).on(HERE) }], &[(0, Some(5))]);
+    for (count, kept) in [(None, None), (Some(2), Some(2))] {
+        if let Some(count) = count {
+            s.nch(1_001, with_count(count, empty())).told(&[]);
+        }
+        let known = if kept.is_some() { 3 } else { 2 };
+        for (key, cipher, follow) in [
+            (VBS, 1, known),
+            (VBS, 15, known),
+            (VGCS, 3, known),
+            (VGCS, 2, 1),
+            (VGCS, 4, 1),
+            (OTHER, 3, 1),
+            (OTHER, 4, known),
+            (LAST, 3, 1),
+        ] {
+            s.nch(1_001, one_piece(key, cipher)).told(&[2]);
+            s.has(&[(0, FOLLOW, follow), (0, KEPT, if follow == 3 { kept.unwrap_or(0) } else { 0 })]);
+        }
+    }
+
+    for (count, bit, kept) in [(4, 1, None), (200, 1, None), (3, 1, Some(0)), (3, 2, Some(3)), (3, 255, Some(3)), (3, 0, Some(3))] {
+        let mut s = Scene::new(tally, "§2: octets that no setup left: a count above 3, or a bit above 1, is not known");
+        s.with_octets(&[(KEPT_COUNT, count), (BIT_22, bit)]);
+        s.event(1_000, Event::Bit(0)).told(&[]);
+        follows(&mut s, 1_000, if kept.is_some() { 3 } else { 2 }, kept.unwrap_or(0));
+        s.with_octets(&[(KEPT_COUNT, count), (BIT_22, bit)]);
+        s.event(1_001, Event::Reselected).told(&[]).has_octet(KEPT_COUNT, 4).has_octet(BIT_22, 2);
+    }
 }
 
 /// Document 02, §1: the receiver says where the bits ran out. (Octets, number, bit.)
@@ -294,10 +440,11 @@ fn setups(tally: &mut Tally) {
     for (name, keys, timers, expected) in setups {
         // Whatever the state held: a receiver with a half, or octets that no setup left.
         let mut used = Pair::of(&[0x5A; STATE_LENGTH], 0);
-        used.setup(tally, &SUBSCRIBED, 1_000, [5_000, 4_000, 3_000]);
+        used.setup(tally, &SUBSCRIBED, &[0, 2, 4, EVERY_KEY], 1_000, [5_000, 4_000, 3_000]);
         used.event(tally, 1_000, &Event::Nch(first(VGCS).octets()));
         for mut pair in [Pair::of(&[0xFF; STATE_LENGTH], 1), used] {
-            let refusal = pair.setup(tally, keys, 7, *timers);
+            let sets: Vec<u32> = (0..keys.len() as u32).map(|i| 2 << (i % 15)).collect();
+            let refusal = pair.setup(tally, keys, &sets, 7, *timers);
             tally.same("scene: setup (archive, document)", || name.to_string(), &refusal, expected);
         }
     }
@@ -326,7 +473,7 @@ fn setups(tally: &mut Tally) {
     for length in [0, STATE_LENGTH - 1, STATE_LENGTH + 1] {
         let mut state = ffi::State::new(&vec![0x5A; length], 3);
         let refusals = [
-            state.setup(&[0, 0], 1, [0; 3]),
+            state.setup(&[0, 0], &[1], 1, [0; 3]),
             state.nch(1 << 31, &[]),
             state.facch(1 << 31, &[]),
             state.pch(1 << 31, &[u64::MAX; 14]),
@@ -336,6 +483,7 @@ fn setups(tally: &mut Tally) {
             state.handed_over(1 << 31),
             state.reconfigured(1 << 31),
             state.left_idle(1 << 31),
+            state.bit_22(1 << 31, 2),
             state.tick(1 << 31),
             state.read(0, 0).0,
             state.numbers(archive::asternhaken_entry_numbers, 0, 40).0,
@@ -345,7 +493,7 @@ fn setups(tally: &mut Tally) {
         ];
         refusals.iter().for_each(|&refusal| tally.count_refusal(refusal));
         let untouched = state.octets().iter().all(|&octet| octet == 0x5A);
-        tally.same("scene: a state of a wrong length", || format!("{length} octets"), &(refusals, untouched), &([13; 16], true));
+        tally.same("scene: a state of a wrong length", || format!("{length} octets"), &(refusals, untouched), &([13; 17], true));
     }
 }
 
@@ -412,6 +560,7 @@ fn clock(tally: &mut Tally) {
         Event::HandedOver,
         Event::Reconfigured,
         Event::LeftIdle,
+        Event::Bit(1),
         Event::Tick,
     ];
     for event in events {
@@ -513,7 +662,7 @@ fn nln(tally: &mut Tally) {
 
     let mut s = Scene::new(tally, "events other than a reselection leave the NLN");
     s.nch(1_000, with_nln(1, empty())).told(&[]);
-    for event in [Event::HandedOver, Event::Reconfigured, Event::LeftIdle, Event::Tick, Event::Joined(LAST)] {
+    for event in [Event::HandedOver, Event::Reconfigured, Event::LeftIdle, Event::Bit(0), Event::Tick, Event::Joined(LAST)] {
         s.event(1_000, event).told(&[]);
     }
     s.facch(1_000, FacchDraft::of(clear(STRANGER))).told(&[0]);
@@ -835,7 +984,19 @@ fn records(tally: &mut Tally) {
 fn reading(tally: &mut Tally) {
     let mut s = Scene::new(tally, "what is not there reads as 0, and an answer stays until the next accepted event");
     s.nch(1_000, nch(vec![clear(VGCS).on(HERE), clear(STRANGER)], &[])).told(&[1, 0]);
-    s.has(&[(0, 2, 2), (9, 2, 2), (u32::MAX, 2, 2), (2, 3, 0), (9, 4, 0), (u32::MAX, 3, 0), (0, 35, 0), (0, u32::MAX, 0), (1, CHANNEL, 0)]);
+    s.has(&[
+        (0, 2, 2),
+        (9, 2, 2),
+        (u32::MAX, 2, 2),
+        (2, 3, 0),
+        (9, 4, 0),
+        (u32::MAX, 3, 0),
+        (0, FOLLOW, 0),
+        (0, KEPT, 0),
+        (0, 37, 0),
+        (0, u32::MAX, 0),
+        (1, CHANNEL, 0),
+    ]);
     s.event(1_000, Event::Nch(vec![0x2B; 19])).refuses(1).has(&[(0, 2, 2), (0, CHANNEL, HERE)]);
     s.event(1_001, Event::Tick).told(&[]).has(&[(0, 2, 0), (0, 3, 0), (0, 4, 0), (0, CHANNEL, 0)]);
 }
@@ -937,8 +1098,7 @@ fn strange_octets(tally: &mut Tally) {
     s.event(1_000, Event::Tick).says(1, 0, &[]);
 
     let mut s = Scene::new(tally, "unused octets are not looked at and stay");
-    let unused =
-        (NLN + 1..N_KEYS).chain(MARK..KEYS).chain(KINDS + PLACES..TICKS).chain(COUNT + 4..ENTRIES).chain(ENTRIES + 9..ENTRIES + 16);
+    let unused = (MARK..KEYS).chain(KINDS + PLACES..TICKS).chain(COUNT + 4..ENTRIES).chain(ENTRIES + 11..ENTRIES + 16);
     let octets: Vec<(usize, u8)> = unused.map(|place| (place, 0xEE)).collect();
     s.with_octets(&octets);
     s.nch(1_000, first(VGCS)).told(&[4]);

@@ -18,11 +18,15 @@ const fn behind(end: usize) -> usize {
 /// Where everything stands: the tick, the timers, then one block behind the other.
 pub const TIMERS: usize = 4;
 pub const NLN: usize = TIMERS + 4 * CHANNELS.len();
-/// How many keys there are, the last octet before the mark; between it and the NLN, octets that are not used.
-pub const N_KEYS: usize = MARK - 1;
-pub const MARK: usize = behind(NLN + 1) - SET_UP.len();
+/// What is known of the cell beside the NLN: the kept count, and bit 22 of COUNT.
+pub const KEPT_COUNT: usize = NLN + 1;
+pub const BIT_22: usize = KEPT_COUNT + 1;
+/// How many keys there are, the last octet before the mark.
+pub const N_KEYS: usize = BIT_22 + 1;
+pub const MARK: usize = N_KEYS + 1;
 pub const KEYS: usize = behind(MARK + SET_UP.len());
-pub const KINDS: usize = behind(KEYS + 4 * MOST_KEYS);
+pub const SETS: usize = behind(KEYS + 4 * MOST_KEYS);
+pub const KINDS: usize = behind(SETS + 4 * MOST_KEYS);
 pub const TICKS: usize = behind(KINDS + PLACES);
 pub const RECORDS: usize = behind(TICKS + 4 * PLACES);
 pub const EXPIRED: usize = behind(RECORDS + RECORD_OCTETS * PLACES);
@@ -32,22 +36,30 @@ pub const ENTRIES: usize = behind(COUNT + 4);
 pub const STATE_LENGTH: usize = ENTRIES + ENTRY_OCTETS * MOST_ENTRIES;
 
 /// These are the numbers of docs/STATE.md.
-const _: () = assert!(NLN == 16 && N_KEYS == 19 && MARK == 20 && KEYS == 24 && KINDS == 224 && TICKS == 376 && RECORDS == 976);
-const _: () = assert!(EXPIRED == 9_376 && COUNT == 9_384 && ENTRIES == 9_392 && STATE_LENGTH == 10_040);
+const _: () = assert!(NLN == 16 && KEPT_COUNT == 17 && BIT_22 == 18 && N_KEYS == 19 && MARK == 20 && KEYS == 24 && SETS == 224);
+const _: () = assert!(KINDS == 424 && TICKS == 576 && RECORDS == 1_176);
+const _: () = assert!(EXPIRED == 9_576 && COUNT == 9_584 && ENTRIES == 9_592 && STATE_LENGTH == 10_240);
 
 /// The mark that an accepted setup leaves: three letters and the number of this layout. Nothing but `is_set_up` looks at it.
-pub const SET_UP: [u8; 4] = *b"AHK\x02";
+pub const SET_UP: [u8; 4] = *b"AHK\x03";
 
 const UNUSED_KEY: u32 = u32::MAX;
 const NO_NLN: u8 = 4;
+const NO_COUNT: u8 = 4;
+const NO_BIT: u8 = 2;
 /// The next expiry where no half is held.
 pub const NEVER: u64 = 4_294_967_295;
 
 /// The header's parts of a record run from 5 on, in the order in which the octets of a record stand.
 pub const FIRST_RECORD_PART: usize = 5;
 pub const RECORD_NUMBERS: usize = 30;
-/// A whole entry has its key and the number told before its record; a half has key, channel, which half and ms left.
-pub const ENTRY_NUMBERS: usize = 2 + RECORD_NUMBERS;
+/// Behind them: whether the call can be followed, and with which count.
+pub const FOLLOW_PART: usize = FIRST_RECORD_PART + RECORD_NUMBERS;
+pub const FOLLOW_COUNT_PART: usize = FOLLOW_PART + 1;
+pub const PARTS: usize = FOLLOW_COUNT_PART + 1;
+/// A whole entry has its key and the number told before its record, and whether it can be followed behind it; a half has key, channel, which
+/// half and ms left.
+pub const ENTRY_NUMBERS: usize = 2 + RECORD_NUMBERS + 2;
 pub const HELD_NUMBERS: usize = 4 + RECORD_NUMBERS;
 /// Four wide numbers, then twenty flags, then six small numbers.
 fn width(number: usize) -> usize {
@@ -202,7 +214,14 @@ pub fn decode(octets: &[u8]) -> Receiver {
         tick: get_u32(octets, 0),
         timers: CHANNELS.map(|channel| get_u32(octets, TIMERS + 4 * channel as usize)),
         nln: Some(octets[NLN]).filter(|&nln| nln != NO_NLN),
+        count: Some(u64::from(octets[KEPT_COUNT])).filter(|&count| count < 4),
+        bit: match octets[BIT_22] {
+            0 => Some(false),
+            1 => Some(true),
+            _ => None,
+        },
         keys: (0..MOST_KEYS.min(octets[N_KEYS] as usize)).map(|i| get_u32(octets, KEYS + 4 * i)).collect(),
+        sets: (0..MOST_KEYS).map(|i| get_u32(octets, SETS + 4 * i)).collect(),
         halves,
         touched: Vec::new(),
     }
@@ -220,31 +239,42 @@ impl Mirror {
     }
 
     /// An accepted setup writes every octet; a refused one none.
-    pub fn setup(&mut self, keys: &[u32], tick: u32, timers: Timers) -> Result<(), Refusal> {
-        self.receiver = Receiver::setup(keys, tick, timers)?;
+    pub fn setup(&mut self, keys: &[u32], sets: &[u32], tick: u32, timers: Timers) -> Result<(), Refusal> {
+        self.receiver = Receiver::setup(keys, sets, tick, timers)?;
         self.octets.fill(0);
         put(&mut self.octets, 0, 4, u64::from(tick));
         for (i, timer) in timers.into_iter().enumerate() {
             put(&mut self.octets, TIMERS + 4 * i, 4, u64::from(timer));
         }
         self.octets[NLN] = NO_NLN;
+        self.octets[KEPT_COUNT] = NO_COUNT;
+        self.octets[BIT_22] = NO_BIT;
         self.octets[N_KEYS] = keys.len() as u8;
         self.octets[MARK..KEYS].copy_from_slice(&SET_UP);
         for i in 0..MOST_KEYS {
             let key = keys.get(i).copied().unwrap_or(UNUSED_KEY);
             put(&mut self.octets, KEYS + 4 * i, 4, u64::from(key));
+            put(&mut self.octets, SETS + 4 * i, 4, u64::from(sets.get(i).copied().unwrap_or(0)));
         }
         Ok(())
     }
 
-    /// An accepted event writes its tick, the NLN where it changed, the places it filled or freed, and the answer.
+    /// An accepted event writes its tick, what it changed of the cell, the places it filled or freed, and the answer.
     pub fn event(&mut self, tick: u32, event: &Event) -> Result<Answer, Refusal> {
-        let nln = self.receiver.nln;
+        let (nln, count, bit) = (self.receiver.nln, self.receiver.count, self.receiver.bit);
         let answer = self.receiver.event(tick, event)?;
         let octets = &mut self.octets;
         put(octets, 0, 4, u64::from(tick));
         if self.receiver.nln != nln {
             octets[NLN] = self.receiver.nln.unwrap_or(NO_NLN);
+        }
+        // What is forgotten is written even where it was not known: octets that no setup left have more than one way to say that.
+        let forgets = matches!(event, Event::Reselected | Event::HandedOver);
+        if self.receiver.count != count || forgets {
+            octets[KEPT_COUNT] = self.receiver.count.map_or(NO_COUNT, |count| count as u8);
+        }
+        if self.receiver.bit != bit || forgets {
+            octets[BIT_22] = self.receiver.bit.map_or(NO_BIT, u8::from);
         }
         for &place in &self.receiver.touched {
             let number = place_number(place);
@@ -266,6 +296,8 @@ impl Mirror {
             let at = ENTRIES + ENTRY_OCTETS * i;
             put(octets, at, 8, told.key);
             put(octets, at + 8, 1, told.number);
+            put(octets, at + 9, 1, told.follow.0);
+            put(octets, at + 10, 1, told.follow.1);
             if let Some(record) = &told.record {
                 put_record(octets, at + 16, record);
             }
@@ -280,7 +312,7 @@ impl Mirror {
 
     /// All numbers of an entry: its parts one after the other.
     pub fn entry(&self, entry: u32) -> Vec<u64> {
-        (3..FIRST_RECORD_PART + RECORD_NUMBERS).map(|part| self.read(entry, part as u32)).collect()
+        (3..PARTS).map(|part| self.read(entry, part as u32)).collect()
     }
 
     /// The halves that are held, by subscription and channel: key, channel, which half, ms left, record. Which half is told as its octet stands.
@@ -324,6 +356,8 @@ pub fn read(octets: &[u8], entry: u32, part: u32) -> u64 {
         3 => get(octets, at, 8),
         4 => told,
         FIRST_RECORD_PART..=34 if (1..=3).contains(&told) => get_number(octets, at + 16, part - FIRST_RECORD_PART),
+        FOLLOW_PART => u64::from(octets[at + 9]),
+        FOLLOW_COUNT_PART => u64::from(octets[at + 10]),
         _ => 0,
     }
 }

@@ -100,6 +100,15 @@ pub fn lookup(tally: &mut Tally, keys: &[u32], key: u32) -> (u32, u64, u64) {
     archive
 }
 
+/// Group keys for each: mostly the one that the pool's calls have, alone or with others; sometimes all but it, none, or any.
+fn sets(rng: &mut Rng, keys: &[u32]) -> Vec<u32> {
+    let mut set = || {
+        let any = rng.next() as u32 & 0xFFFE;
+        rng.pick(&[1 << 3, 1 << 3, 3 << 3, 0xFFFE, 0xFFFE & !(1 << 3), 1 << 4, 0, any, any])
+    };
+    keys.iter().map(|_| set()).collect()
+}
+
 const TIMES: [u32; 9] = [1, 2, 3, 10, 100, 5_000, 10_000, 59_999, 60_000];
 
 fn first_tick(rng: &mut Rng) -> u32 {
@@ -117,7 +126,7 @@ fn doubtful_setup(tally: &mut Tally, rng: &mut Rng, pair: &mut Pair, good: &[u32
     let mut timers = [5_000; CHANNELS.len()];
     // What is put in at any place mostly breaks the order, which is a ground of its own.
     let sorted = rng.one_in(2);
-    match rng.below(8) {
+    match rng.below(12) {
         0 | 1 => timers[rng.below(3) as usize] = rng.pick(&[0, 60_001, u32::MAX]),
         7 if keys.len() > 1 => {
             let place = rng.below(keys.len() as u64 - 1) as usize;
@@ -133,13 +142,32 @@ fn doubtful_setup(tally: &mut Tally, rng: &mut Rng, pair: &mut Pair, good: &[u32
         }
         4 => keys = (0..49 + rng.below(4) as u32).map(|i| 7 * i).collect(),
         5 => keys = (0..rng.pick(&[51, 100, 255, 256, 257, 306])).collect(),
+        8..=11 => return doubtful_sets(tally, rng, pair, &keys),
         _ => timers = timers.map(|_| rng.pick(&[1, 60_000])),
     }
     if sorted {
         keys.sort_unstable();
     }
+    let sets = sets(rng, &keys);
     let tick = rng.next() as u32;
-    pair.setup(tally, &keys, tick, timers);
+    pair.setup(tally, &keys, &sets, tick, timers);
+}
+
+/// A setup of which the sets alone may be wrong: not one for each key, or with a key number that there is not, in one of them.
+fn doubtful_sets(tally: &mut Tally, rng: &mut Rng, pair: &mut Pair, keys: &[u32]) {
+    let mut sets = sets(rng, keys);
+    match rng.below(6) {
+        0 => sets.push(rng.pick(&[0, 2])),
+        1 => drop(sets.pop()),
+        2 => sets.resize(rng.pick(&[0, 1, 50, 51]), 2),
+        _ if !sets.is_empty() => {
+            let place = rng.below(sets.len() as u64) as usize;
+            sets[place] |= rng.pick(&[1, 1, 1 << 16, 1 << 16, 1 << 17, 1 << 24, 1 << 31]);
+        }
+        _ => {}
+    }
+    let tick = rng.next() as u32;
+    pair.setup(tally, keys, &sets, tick, [5_000; CHANNELS.len()]);
 }
 
 fn from_setup(tally: &mut Tally, rng: &mut Rng) -> u64 {
@@ -152,7 +180,8 @@ fn from_setup(tally: &mut Tally, rng: &mut Rng) -> u64 {
     }
     lookups(tally, rng);
     let timers = CHANNELS.map(|_| rng.pick(&TIMES));
-    pair.setup(tally, &keys, first_tick(rng), timers);
+    let sets = sets(rng, &keys);
+    pair.setup(tally, &keys, &sets, first_tick(rng), timers);
     events(tally, rng, &mut pair, &pool, STEPS_OF_A_SEQUENCE);
     if rng.one_in(3) {
         doubtful_setup(tally, rng, &mut pair, &keys);
@@ -165,7 +194,8 @@ fn events(tally: &mut Tally, rng: &mut Rng, pair: &mut Pair, pool: &Pool, count:
     let mut story: Vec<Event> = Vec::new();
     for _ in 0..count {
         if story.is_empty() && rng.one_in(40) {
-            story = new_cell(rng, &pair.mirror.receiver, pool);
+            let tale = if rng.one_in(3) { new_count } else { new_cell };
+            story = tale(rng, &pair.mirror.receiver, pool);
             story.reverse();
         }
         let event = story.pop().unwrap_or_else(|| event(rng, pair, pool));
@@ -211,7 +241,7 @@ fn event(rng: &mut Rng, pair: &Pair, pool: &Pool) -> Event {
     if !receiver.halves.is_empty() && rng.one_in(12) {
         return losing(rng, receiver);
     }
-    match rng.below(54) {
+    match rng.below(58) {
         0..=17 => {
             let mut draft = pool.nch(rng);
             // Once there was an NLN, most messages repeat it or have none, or no NCH half would live long.
@@ -263,6 +293,7 @@ fn event(rng: &mut Rng, pair: &Pair, pool: &Pool) -> Event {
             Event::Pch(if rng.below(13) < 3 { doubtful_pch(rng, numbers) } else { with_leftovers(rng, numbers) })
         }
         51 => Event::LeftIdle,
+        54..=57 => Event::Bit(if rng.one_in(6) { rng.pick(&[2, 3, 256, 1 << 31, u32::MAX]) } else { rng.below(2) as u32 }),
         _ => Event::Tick,
     }
 }
@@ -358,7 +389,8 @@ fn meeting(rng: &mut Rng, receiver: &Receiver) -> Event {
     let (reference, service) = (call.reference, call.service);
     let call = if second { call } else { call.on(rng.below(1 << 24)) };
     let vstk_rand = second.then(|| rng.below(1 << 36));
-    let count = rng.one_in(2).then(|| rng.below(4));
+    // Where no count is kept, mostly none comes with it, or few joined calls would be told so.
+    let count = rng.one_in(if receiver.count.is_some() { 2 } else { 8 }).then(|| rng.below(4));
     match channel {
         Channel::Nch => {
             let mut six = SixDraft { count, reduced: Vec::new(), random: vec![(u64::from(second), vstk_rand)] };
@@ -412,6 +444,45 @@ fn new_cell(rng: &mut Rng, receiver: &Receiver, pool: &Pool) -> Vec<Event> {
     vec![with_nln(nln), movement, Event::Nch(half.octets()), with_nln((nln + 1 + rng.below(3)) % 4)]
 }
 
+/// A call in one piece on the FACCH, with the cipher key number that the pool's calls have, or with any.
+fn one_piece(rng: &mut Rng, receiver: &Receiver, pool: &Pool) -> FacchDraft {
+    let cipher = if rng.one_in(2) { 1 + rng.below(15) } else { 3 };
+    let call = CallDraft::plain(some_key(rng, receiver, pool), cipher).on(rng.below(1 << 24) & !0x1000);
+    FacchDraft::of(call).rand(rng.below(1 << 36))
+}
+
+/// A move, often with a bit that was known before it; then, with a count kept or none, bit 22 at 1 and at 0, or its first value, or a FACCH
+/// count while it is not known; and a call in one piece, which shows what is kept.
+fn new_count(rng: &mut Rng, receiver: &Receiver, pool: &Pool) -> Vec<Event> {
+    let count = |rng: &mut Rng| {
+        let six = SixDraft { count: Some(rng.below(4)), ..SixDraft::default() };
+        Event::Nch(NchDraft { six: Some(six), ..NchDraft::default() }.octets())
+    };
+    let mut story = Vec::new();
+    if rng.one_in(2) {
+        story.push(Event::Bit(rng.below(2) as u32));
+    }
+    story.push(if rng.one_in(2) { Event::Reselected } else { Event::HandedOver });
+    let which = rng.below(4);
+    if which < 2 {
+        story.push(Event::Bit(1));
+    }
+    if rng.one_in(2) {
+        story.push(count(rng));
+    }
+    match which {
+        0 | 1 => story.push(Event::Bit(0)),
+        2 => story.push(Event::Bit(rng.below(2) as u32)),
+        _ => story.push(Event::Facch(one_piece(rng, receiver, pool).count(rng.below(4), rng.below(2)).octets())),
+    }
+    if rng.one_in(4) {
+        story.push(count(rng));
+    }
+    let call = one_piece(rng, receiver, pool);
+    story.push(Event::Facch(if rng.one_in(2) { call.count(rng.below(4), rng.below(2)) } else { call }.octets()));
+    story
+}
+
 /// An event that takes a half away which is held, each cause as often as another.
 fn losing(rng: &mut Rng, receiver: &Receiver) -> Event {
     let which = rng.below(receiver.halves.len() as u64) as usize;
@@ -456,8 +527,16 @@ fn from_any_octets(tally: &mut Tally, rng: &mut Rng) -> u64 {
         octets[MARK + rng.below(4) as usize] ^= rng.pick(&[0, 0, 1, 2, 3, 128]);
     }
     let mut pair = Pair::of(&octets, rng.next() as usize);
+    // First what shows the kept count and the sets that stand there, before a message brings a count.
+    let receiver = &pair.mirror.receiver;
+    let (tick, first) = match rng.below(3) {
+        0 => (receiver.tick, Event::Facch(one_piece(rng, receiver, &pool).octets())),
+        1 if !receiver.halves.is_empty() => (receiver.tick, meeting(rng, receiver)),
+        _ => (tick(rng, receiver), event(rng, &pair, &pool)),
+    };
+    pair.event(tally, tick, &first);
     events(tally, rng, &mut pair, &pool, count);
-    count
+    count + 1
 }
 
 /// Keys of the pool, twice or in any place, and any number of them; halves of any kind with flags of any number; an answer of any length.
@@ -468,6 +547,8 @@ fn strange_state(rng: &mut Rng, pool: &Pool, octets: &mut [u8]) {
         put(octets, TIMERS + 4 * channel, rng.pick(&[0, 1, 100, 5_000, 100_000, 1 << 31, u32::MAX]));
     }
     octets[NLN] = rng.pick(&[0, 1, 2, 3, 4, 4, 5, 6, 255]);
+    octets[KEPT_COUNT] = rng.pick(&[0, 1, 2, 3, 3, 4, 5, 6, 7, 255]);
+    octets[BIT_22] = rng.pick(&[0, 1, 1, 2, 255]);
     let mut keys: Vec<u32> = Vec::new();
     for _ in 0..MOST_KEYS {
         keys.push(match rng.below(4) {
@@ -480,7 +561,11 @@ fn strange_state(rng: &mut Rng, pool: &Pool, octets: &mut [u8]) {
     if !rng.one_in(4) {
         keys.sort_unstable();
     }
-    keys.iter().enumerate().for_each(|(subscription, &key)| put(octets, KEYS + 4 * subscription, key));
+    for (subscription, &key) in keys.iter().enumerate() {
+        put(octets, KEYS + 4 * subscription, key);
+        let any = rng.next() as u32;
+        put(octets, SETS + 4 * subscription, rng.pick(&[1 << 3, u32::MAX, !(1 << 3), 1, any]));
+    }
     octets[N_KEYS] = rng.pick(&[0, 1, 5, 20, 49, 50, 50, 50, 51, 64, 128, 255]);
     for place in 0..PLACES {
         let subscription = place / CHANNELS.len();
@@ -498,7 +583,7 @@ fn strange_state(rng: &mut Rng, pool: &Pool, octets: &mut [u8]) {
             octets[at + 25] = if key % 2 == 1 { rng.pick(&[1, 2, 255]) } else { 0 };
             octets[at + 26] = 0;
             octets[at + 44] = 5;
-            octets[at + 45] = 3;
+            octets[at + 45] = rng.pick(&[3, 3, 3, 3, 3, 0, 0, 0, 16, 19, 31, 31, 32]);
         }
     }
     put(octets, COUNT, rng.pick(&[0, 1, 2, 8, 9, 10, 255, 256, 1 << 31, u32::MAX]));
@@ -530,7 +615,7 @@ fn wrong_lengths(tally: &mut Tally, rng: &mut Rng) -> u64 {
     if rng.one_in(2) {
         keys.resize(51, 7);
     }
-    let refusal = state.setup(&keys, tick, [rng.pick(&[0, 5_000]), 5_000, 5_000]);
+    let refusal = state.setup(&keys, &vec![2; keys.len() / 2 * 2], tick, [rng.pick(&[0, 5_000]), 5_000, 5_000]);
     tally.count_refusal(refusal);
     let untouched = state.octets() == octets;
     let input = || format!("setup with a state of {length} octets");

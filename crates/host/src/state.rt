@@ -1,7 +1,7 @@
 // The receiver on a lent state: setup, the events, and reading the answer.
 ghost use mathlib.Core.Path.{_≡_};
 ghost use Rattle.bits.specs.Field.{pick};
-ghost use Rattle.receiver.specs.Step.{nch, facch, pch, joined, reselected, handedOver, reconfigured, leftIdle, tick};
+ghost use Rattle.receiver.specs.Step.{nch, facch, pch, joined, reselected, handedOver, reconfigured, leftIdle, bit22, tick};
 ghost use Rattle.layout.specs.Layout.{isState, lastOf};
 ghost use Rattle.layout.specs.Setup.{SetUp};
 ghost use Rattle.layout.specs.Parts.{partOf};
@@ -12,12 +12,13 @@ use receiver::Setup;
 pub extern "C" fn asternhaken_setup(
     state: &mut [u8],
     keys: &[u32],
+    sets: &[u32],
     first: u32,
     t3206: u32,
     t3208: u32,
     t3210: u32,
 ) -> u32
-    ensures { λ r. ⌜ SetUp (now (state .entry)) (record { tick = first; t3206 = t3206; t3208 = t3208; t3210 = t3210 }) (now (keys .entry)) (now (state .exit)) r ⌝ }
+    ensures { λ r. ⌜ SetUp (now (state .entry)) (record { tick = first; t3206 = t3206; t3208 = t3208; t3210 = t3210 }) (now (keys .entry)) (now (sets .entry)) (now (state .exit)) r ⌝ }
 {
     layout::setup::setup(
         state,
@@ -28,6 +29,7 @@ pub extern "C" fn asternhaken_setup(
             t3210,
         },
         keys,
+        sets,
     ) as u32
 }
 
@@ -85,6 +87,13 @@ pub extern "C" fn asternhaken_left_idle(state: &mut [u8], time: u32) -> u32
     ensures { λ r. ⌜ Fed (now (state .entry)) (leftIdle time) (now (state .exit)) r ⌝ }
 {
     lent::events::left_idle(state, time)
+}
+
+#[no_mangle]
+pub extern "C" fn asternhaken_bit_22(state: &mut [u8], time: u32, value: u32) -> u32
+    ensures { λ r. ⌜ Fed (now (state .entry)) (bit22 time value) (now (state .exit)) r ⌝ }
+{
+    lent::events::bit_22(state, time, value)
 }
 
 #[no_mangle]

@@ -6,7 +6,7 @@ use borrow.Author.Tests.{eqb-true, le-leb, lt-leb}
 use Rattle.csn1.specs.Format.{ground}
 use Rattle.receiver.specs.declared.Receiver.{Receiver}
 use Rattle.receiver.specs.Model.{wrapSub, lateStep, late, lastKey}
-use Rattle.receiver.specs.Step.{Event, Happening, heardNch, heardFacch, heardPch, joins, moves, passes, groundsOf, refusalOf, stepOf}
+use Rattle.receiver.specs.Step.{Event, Happening, heardNch, heardFacch, heardPch, joins, moves, bitIs, passes, groundsOf, refusalOf, stepOf}
 use Rattle.isolation.specs.Promises.{Ground}
 use Rattle.receiver.proofs.Cases.{by-test}
 use Rattle.receiver.proofs.Refusals.{refusal-sound}
@@ -32,4 +32,5 @@ on-ground (heardFacch s) n q = q
 on-ground (heardPch ns) n q = q
 on-ground (joins k) n q = (λ h. q ∙ rw (le-leb k lastKey h), λ h. q ∙ rw (lt-leb k lastKey h))
 on-ground (moves m) n q = q
+on-ground (bitIs b) n q = (λ h. q ∙ rw (le-leb b 1 h), λ h. q ∙ rw (lt-leb b 1 h))
 on-ground passes n q = q

@@ -64,7 +64,7 @@ module _ (key : ℕ) (c : Channel) (timer : ℕ) where
   unfoldable pub holds : List Moment → Option Half
   holds [] = none
   holds (wait t ∷ past) = aged timer t (holds past)
-  holds (happens x ∷ past) = sparedBy key c (lastKnown past) x (holds past)
+  holds (happens x w ∷ past) = sparedBy key c (lastKnown past) x (holds past)
   holds (entry e ∷ past) = meetOne c (holds past) e .held
 
 -- ## One moment
@@ -213,7 +213,7 @@ free-none (some h) f = absurd (f h refl)
 
 no-age : (c : Channel) (h : Half) (m : Moment) → Begins c h m → h .age ≡ 0
 no-age c h (wait t) b = absurd b
-no-age c h (happens x) b = absurd b
+no-age c h (happens x w) b = absurd b
 no-age c h (entry e) b = b .1
 
 -- a half is held where it stands, and stands where it is held
@@ -246,9 +246,9 @@ module _ (key : ℕ) (c : Channel) (timer : ℕ) (long : 1 ≤ timer) where
   stands-on (wait t) past a h q =
       let w = waited timer t (holds key c timer past) h q in
       inl (tt, w .enough, w .young, a .stands (younger t h) (w .stood))
-  stands-on (happens x) past a h q =
+  stands-on (happens x v) past a h q =
       let w = cause-kept key c (lastKnown past) x (holds key c timer past) h q in
-      still (happens x) past h refl (w .0) (a .stands h (w .1))
+      still (happens x v) past h refl (w .0) (a .stands h (w .1))
   stands-on (entry e) past a h q = go (left c (kindOn c e) (holds key c timer past) e h q)
     where
       go : Left c (kindOn c e) (holds key c timer past) e h → Standing key c timer (entry e ∷ past) h
@@ -258,7 +258,7 @@ module _ (key : ℕ) (c : Channel) (timer : ℕ) (long : 1 ≤ timer) where
   held-on : (m : Moment) (past : List Moment) → Agrees key c timer past → (h : Half) → Standing key c timer (m ∷ past) h → holds key c timer (m ∷ past) ≡ some h
   unfolding holds Standing meetOne
   held-on (wait t) past a h (inl s) = ap (aged timer t) (a .held (younger t h) (s .3)) ∙ waits timer t h (s .1) (s .2)
-  held-on (happens x) past a h (inl s) = cause-keeps key c (lastKnown past) x (holds key c timer past) (s .0) ∙ a .held h (unaged past h (s .3))
+  held-on (happens x w) past a h (inl s) = cause-keeps key c (lastKnown past) x (holds key c timer past) (s .0) ∙ a .held h (unaged past h (s .3))
   held-on (entry e) past a h (inl s) =
       ap (λ (b : Option Half). meetKind c (kindOn c e) b e .held) (a .held h (unaged past h (s .3)))
       ∙ not-joined c (kindOn c e) e (h .which) (h .age) (h .entry) (s .0)
@@ -268,7 +268,7 @@ module _ (key : ℕ) (c : Channel) (timer : ℕ) (long : 1 ≤ timer) where
       ∙ ap (λ (x : Record). some (record { which = h .which; age = 0; entry = x })) (s .0 .0)
       ∙ ap (λ (n : ℕ). some (record { which = h .which; age = n; entry = h .entry })) (sym (s .0 .1))
   held-on (wait t) past a h (inr s) = absurd (s .0)
-  held-on (happens x) past a h (inr s) = absurd (s .0)
+  held-on (happens x w) past a h (inr s) = absurd (s .0)
 
   agrees : (past : List Moment) → Agrees key c timer past
   unfolding holds Standing
@@ -287,7 +287,7 @@ module _ (key : ℕ) (c : Channel) (timer : ℕ) (long : 1 ≤ timer) where
 -- ## The one-call receiver goes by the moments
 
 module _ (key : ℕ) (c : Channel) (timer : ℕ) where
-  abbrev standingAt : List Moment → One
+  abbrev pub standingAt : List Moment → One
   standingAt past = record { held = holds key c timer past; cell = lastKnown past }
 
   entries-held : (past : List Moment) (es : List Record) → heldAfter c (holds key c timer past) es ≡ holds key c timer (followed past (map entry es))
@@ -316,7 +316,7 @@ module _ (key : ℕ) (c : Channel) (timer : ℕ) where
   after-moments past [] = refl
   after-moments past (v ∷ vs) = ap (λ (s : One). oneAfter key c timer s vs) (step-moments past v) ∙ after-moments (afterEvent past v) vs
 
-  one-after : (vs : List Seen) → oneAfter key c timer fresh vs ≡ standingAt (pastOf [] vs)
+  pub one-after : (vs : List Seen) → oneAfter key c timer fresh vs ≡ standingAt (pastOf [] vs)
   unfolding holds
   one-after vs = after-moments [] vs
 

@@ -19,13 +19,15 @@ use Rattle.receiver.specs.declared.Answer.{Answer}
 use Rattle.receiver.specs.declared.Rule.{Rule}
 use Rattle.receiver.specs.Channels.{keyCount, places, Channel, numberOf, hasPages}
 use Rattle.receiver.specs.Model.{emptySlot, noNln, longestTimer, wrapSub, lateStep, late, keysOf, indexOf, spares, timerAt, keptOf, sweptSlots}
-use Rattle.receiver.specs.Step.{Event, Cause, nothing, joining, paged, moving, numbered, Content, contentOf, changes, cellAfter, taking, sparing}
+use Rattle.receiver.specs.Step.{Event, Cause, nothing, joining, paged, moving, numbered, Content, contentOf, changes, cellAfter, taking, sparing, setAt}
 use Rattle.receiver.specs.Step.{ruleBy, ruleOf, groundsOf, refusalOf, refusedWith, acceptedAs, stepOf}
-use Rattle.isolation.specs.One.{showsNln, hears, goneBy, forgottenBy, Half, Known, One, Said, Sight, sightOf, stepBetween, accepts, sees, seen, aged, knownAfter}
-use Rattle.isolation.specs.One.{heldAfter, saidOf, sparedBy, spared, passed, stepOne, stepSaid, runOne, runEach, oneAfter}
+use Rattle.isolation.specs.One.{showsNln, hears, goneBy, Half, Known, One, Said, Sight, sightOf, stepBetween, accepts, sees, seen, aged, knownAfter}
+use Rattle.isolation.specs.One.{heldAfter, saidOf, sparedBy, spared, passed, knownThen, stepOne, stepSaid, runOne, runEach, oneAfter}
 use Rattle.isolation.specs.Calls.{channelIn, clockAfter}
-use Rattle.isolation.specs.Promises.{under, answersOn, answers, answersEach, Ticks, after, heldOf, slotIn}
-use Rattle.isolation.proofs.Tables.{same, shows-same, drops-same, forgets-same, shown, showing, heard-same, sight-same}
+use Rattle.isolation.specs.Promises.{under, answersOn, answers, answersEach, Ticks, after, heldOf, slotIn, countKept, bitKnown}
+use Rattle.isolation.proofs.Tables.{same, shows-same, drops-same, shown, showing, heard-same, sight-same}
+use Rattle.isolation.proofs.Cells.{known, known-same}
+use Rattle.isolation.proofs.LowCounts.{low-news}
 use Rattle.isolation.proofs.Places.{place-lt, timerIn, timer-at, spares-at}
 use Rattle.receiver.proofs.Keys.{same-index}
 use Rattle.isolation.proofs.Meets.{Sound}
@@ -33,16 +35,16 @@ use Rattle.isolation.proofs.Dropping.{kept-held, kept-sound}
 use Rattle.receiver.proofs.Cases.{by-test}
 use Rattle.isolation.proofs.Standing.{placeAt, length-all, other-channel, entries}
 use Rattle.receiver.proofs.Loops.{getD-mapAt, length-mapAt}
-use Rattle.receiver.proofs.Accepted.{Low, low, few, told-back}
+use Rattle.receiver.proofs.Accepted.{low, few, told-back}
 
 -- ## What a call sees of the receiver
 
--- the NLN as a channel shows it, where one is known
-abbrev pub known : Channel → Cell → Known
-known c l = record { nln = pick (showsNln c) (pick (eqb (l .nln) noNln) none (some (l .nln))) none }
-
 abbrev pub view : ℕ → Channel → Receiver → One
 view key c r = record { held = heldOf (r .tick) (slotIn key c r); cell = known c (r .cell) }
+
+-- its set of group keys
+abbrev pub setIn : ℕ → Receiver → ℕ
+setIn key r = setAt (r .sets) (indexOf (keysOf r) key)
 
 -- what setup and events keep
 pub record Good (key : ℕ) (c : Channel) (r : Receiver) : Type 0 where
@@ -75,11 +77,11 @@ all-gone true n h l = rw (ne-eqb n keyCount (λ q. omega arith))
 all-gone false n h l = refl
 
 -- w: the channel shows an NLN, z: none was seen
-renumbered : (key : ℕ) (c : Channel) (w z : Bool) (l n : ℕ) (h : Option Half)
-    → sparedBy key c (record { nln = pick w (pick z none (some l)) none }) (pick w (numbered n) nothing) h ≡ pick (both w (both (not z) (not (eqb l n)))) none h
-renumbered key c true true l n h = refl
-renumbered key c true false l n h = refl
-renumbered key c false z l n h = refl
+renumbered : (key : ℕ) (c : Channel) (w z : Bool) (l n : ℕ) (count bit : Option ℕ) (h : Option Half)
+    → sparedBy key c (record { nln = pick w (pick z none (some l)) none; count = count; bit = bit }) (pick w (numbered n) nothing) h ≡ pick (both w (both (not z) (not (eqb l n)))) none h
+renumbered key c true true l n count bit h = refl
+renumbered key c true false l n count bit h = refl
+renumbered key c false z l n count bit h = refl
 
 -- b: the channel shows a key of the PCH
 paged-away : (key : ℕ) (c : Channel) (l : Known) (b : Bool) (k : ℕ) (h : Option Half)
@@ -98,33 +100,8 @@ spared-same key r subscribed c x h = by-cause x ∙ ap (λ (b : Bool). pick b h 
     by-cause (moving m) = rw (drops-same c m) (all-gone (goneBy c m) (indexOf (keysOf r) key) h subscribed)
     by-cause (numbered n) =
         rw (shows-same c)
-        (renumbered key c (showsNln c) (eqb (r .cell .nln) noNln) (r .cell .nln) n h
+        (renumbered key c (showsNln c) (eqb (r .cell .nln) noNln) (r .cell .nln) n (countKept (r .cell)) (bitKnown (r .cell)) h
         ∙ all-gone (both (showsNln c) (changes (r .cell) n)) (indexOf (keysOf r) key) h subscribed)
-
--- ## What is known of the cell
-
--- w: the channel shows an NLN, f: it is forgotten
-forgotten : (w f : Bool) (n : ℕ)
-    → _≡_ {A = Known} (record { nln = pick w (pick (eqb (pick f noNln n) noNln) none (some (pick f noNln n))) none }) (record { nln = pick f none (pick w (pick (eqb n noNln) none (some n)) none) })
-forgotten true true n = refl
-forgotten false true n = refl
-forgotten w false n = refl
-
-seen-next : (w : Bool) (l n : ℕ) → n < noNln
-    → record { nln = pick w (pick (eqb n noNln) none (some n)) none } ≡ knownAfter (record { nln = pick w (pick (eqb l noNln) none (some l)) none }) (pick w (numbered n) nothing)
-seen-next true l n z = rw (ne-eqb n noNln (λ e. omega arith))
-seen-next false l n z = refl
-
-page-tells-nothing : (b : Bool) (l : Known) (k : ℕ) → l ≡ knownAfter l (pick b (paged k) nothing)
-page-tells-nothing true l k = refl
-page-tells-nothing false l k = refl
-
-known-same : (c : Channel) (l : Cell) (x : Cause) → Low x → known c (cellAfter l x) ≡ knownAfter (known c l) (shown c x)
-known-same c l nothing z = refl
-known-same c l (joining k) z = refl
-known-same c l (paged k) z = page-tells-nothing (hasPages c) (known c l) k
-known-same c l (moving m) z = rw (forgets-same m) (forgotten (showsNln c) (forgottenBy m) (l .nln))
-known-same c l (numbered n) z = rw (shows-same c) (seen-next (showsNln c) (l .nln) n z)
 
 -- ## The entries of an event
 
@@ -140,6 +117,10 @@ same-seen key c e = sight-same key c (e .happening)
 abbrev pub acceptedOf : Receiver → Event → Answer
 acceptedOf r e = acceptedAs r (e .tick) (contentIn e)
 
+-- what is known of the cell when the entries come
+abbrev pub cellThen : Receiver → Event → Cell
+cellThen r e = cellAfter (r .cell) (contentIn e .cause) (contentIn e .news)
+
 abbrev pub sweptBy : Receiver → Event → List Slot
 sweptBy r e = sweptSlots r (e .tick) (ruleOf r e)
 
@@ -149,7 +130,7 @@ leftIn key c r e = getD (sweptBy r e) (placeAt (keysOf r) key c) emptySlot
 -- what they do at the place of a call, beside what they do at its own receiver
 record Acts (key : ℕ) (c : Channel) (r : Receiver) (e : Event) : Type 0 where
   held : heldOf (e .tick) (slotIn key c (acceptedOf r e .receiver)) ≡ heldAfter c (heldOf (e .tick) (leftIn key c r e)) (seenIn key c e .entries)
-  said : answersOn key c e (acceptedOf r e) ≡ saidOf c (heldOf (e .tick) (leftIn key c r e)) (seenIn key c e .entries)
+  said : answersOn key c e (acceptedOf r e) ≡ saidOf c (setIn key r) (known c (cellThen r e)) (heldOf (e .tick) (leftIn key c r e)) (seenIn key c e .entries)
   sound : Sound (e .tick) (timerIn c r) (slotIn key c (acceptedOf r e .receiver))
 
 pub length-swept : (r : Receiver) (now : ℕ) (rule : Rule) → length (r .slots) ≡ places → length (sweptSlots r now rule) ≡ places
@@ -169,12 +150,15 @@ module _ (key : ℕ) (c : Channel) (r : Receiver) (g : Good key c r) (e : Event)
   unfolding answersOn
   acts-own z n =
       let a : numberOf (contentIn e .channel) ≡ numberOf c = sym (eqb-true (numberOf c) (numberOf (contentIn e .channel)) n) in
-      let x = entries (keysOf r) (e .tick) key c (g .subscribed) (timerIn c r) k (g .long) (sweptBy r e) (contentIn e .entries) (length-swept r (e .tick) (ruleOf r e) (g .places)) p in
+      let x =
+      entries (keysOf r) (e .tick) key c (g .subscribed) (r .sets) (cellThen r e) (timerIn c r) k (g .long) (sweptBy r e) (contentIn e .entries)
+      (length-swept r (e .tick) (ruleOf r e) (g .places)) p in
       record {
         held = rw (same-seen key c e, n, a) (x .held);
         said =
             rw (heard-same c (e .happening), same-seen key c e, n)
-            (ap (under key) (told-back (keysOf r) (numberOf (contentIn e .channel)) (e .tick) (sweptBy r e) (contentIn e .entries) (few (e .happening) z)) ∙ rw a (x .said));
+            (ap (under key) (told-back (keysOf r) (r .sets) (cellThen r e) (numberOf (contentIn e .channel)) (e .tick) (sweptBy r e) (contentIn e .entries) (few (e .happening) z))
+            ∙ rw a (x .said));
         sound = rw a (x .sound);
       }
 
@@ -214,6 +198,13 @@ not-answered : (key : ℕ) (c : Channel) (r : Receiver) (e : Event) → answersO
 unfolding answersOn under
 not-answered key c r e = by-test (hears c (channelIn e)) (λ p. rw p) (λ p. rw p)
 
+-- what is known of the cell, to a call that knew it before
+cell-same : (key : ℕ) (c : Channel) (r : Receiver) (o : One) → known c (r .cell) ≡ o .cell → (e : Event) → groundsOf (e .happening) .number ≡ 0
+    → known c (cellThen r e) ≡ knownThen o (seenIn key c e)
+cell-same key c r o q e z =
+    known-same c (r .cell) (contentIn e .cause) (contentIn e .news) (low (e .happening) z) (low-news (e .happening) z)
+    ∙ ap₂ (λ (l : Known) (v : Sight). knownAfter l (v .cause) (v .news)) q (sym (same-seen key c e))
+
 module _ (key : ℕ) (c : Channel) (r : Receiver) (g : Good key c r) (e : Event) (k : e .tick < 2 ^ 32) (a : Accepted r e) where
   pub left-sound : Sound (e .tick) (timerIn c r) (leftIn key c r e)
   left-sound =
@@ -230,18 +221,22 @@ module _ (key : ℕ) (c : Channel) (r : Receiver) (g : Good key c r) (e : Event)
   acted : Acts key c r e
   acted = acts key c r g e k left-sound (a .allowed)
 
+  -- what is known of the cell then
+  pub then-same : known c (cellThen r e) ≡ knownThen (view key c r) (seenIn key c e)
+  then-same = cell-same key c r (view key c r) refl e (a .allowed)
+
   step-view : view key c (acceptedOf r e .receiver) ≡ stepOne key c (timerIn c r) (view key c r) (sees key c (r .tick) e)
   unfolding stepOne
   step-view =
       λ i.
       record {
         held = (acted .held ∙ ap (λ (h : Option Half). heldAfter c h (seenIn key c e .entries)) left-same) i;
-        cell = (known-same c (r .cell) (contentIn e .cause) (low (e .happening) (a .allowed)) ∙ ap (λ (v : Sight). knownAfter (known c (r .cell)) (v .cause)) (sym (same-seen key c e))) i;
+        cell = then-same i;
       }
 
-  pub step-said : answersOn key c e (acceptedOf r e) ≡ stepSaid key c (timerIn c r) (view key c r) (sees key c (r .tick) e)
+  pub step-said : answersOn key c e (acceptedOf r e) ≡ stepSaid key c (timerIn c r) (setIn key r) (view key c r) (sees key c (r .tick) e)
   unfolding stepSaid
-  step-said = acted .said ∙ ap (λ (h : Option Half). saidOf c h (seenIn key c e .entries)) left-same
+  step-said = acted .said ∙ ap₂ (λ (l : Known) (h : Option Half). saidOf c (setIn key r) l h (seenIn key c e .entries)) then-same left-same
 
   pub step-good : Good key c (acceptedOf r e .receiver)
   step-good =
@@ -257,7 +252,7 @@ module _ (key : ℕ) (c : Channel) (r : Receiver) (g : Good key c r) (e : Event)
 -- ## Any events
 
 pub isolated : (key : ℕ) (c : Channel) (r : Receiver) → Good key c r → (es : List Event) → Ticks es
-    → answersEach key c r es ≡ runEach key c (timerIn c r) (view key c r) (r .tick) es
+    → answersEach key c r es ≡ runEach key c (timerIn c r) (setIn key r) (view key c r) (r .tick) es
 unfolding answersEach runEach
 isolated key c r g [] t = refl
 isolated key c r g (e ∷ es) t =
@@ -267,7 +262,7 @@ isolated key c r g (e ∷ es) t =
     let q = isolated key c (acceptedOf r e .receiver) (step-good key c r g e (t .0) a) es (t .1) in
     rw (stepped r e p, p)
     (ap₂ (λ (x : List Said) (y : List (List Said)). x ∷ y) (step-said key c r g e (t .0) a)
-    (q ∙ ap (λ (o : One). runEach key c (timerIn c r) o (e .tick) es) (step-view key c r g e (t .0) a))))
+    (q ∙ ap (λ (o : One). runEach key c (timerIn c r) (setIn key r) o (e .tick) es) (step-view key c r g e (t .0) a))))
     (λ p. rw (not-stepped r e p, p, not-answered key c r e) (ap (λ (y : List (List Said)). [] ∷ y) (isolated key c r g es (t .1))))
 
 -- all in one list
@@ -276,14 +271,14 @@ unfolding answersEach answers flatten
 answers-flat key c r [] = refl
 answers-flat key c r (e ∷ es) = ap (λ (l : List Said). answersOn key c e (stepOf r e) ++ l) (answers-flat key c (stepOf r e .receiver) es)
 
-pub says-flat : (key : ℕ) (c : Channel) (timer : ℕ) (o : One) (last : ℕ) (es : List Event)
-    → flatten (runEach key c timer o last es) ≡ runOne key c timer o (seen key c last es)
+pub says-flat : (key : ℕ) (c : Channel) (timer set : ℕ) (o : One) (last : ℕ) (es : List Event)
+    → flatten (runEach key c timer set o last es) ≡ runOne key c timer set o (seen key c last es)
 unfolding runEach seen runOne flatten
-says-flat key c timer o last [] = refl
-says-flat key c timer o last (e ∷ es) =
+says-flat key c timer set o last [] = refl
+says-flat key c timer set o last (e ∷ es) =
     by-test (accepts last e)
-    (λ p. rw p (ap (λ (l : List Said). stepSaid key c timer o (sees key c last e) ++ l) (says-flat key c timer (stepOne key c timer o (sees key c last e)) (e .tick) es)))
-    (λ p. rw p (says-flat key c timer o last es))
+    (λ p. rw p (ap (λ (l : List Said). stepSaid key c timer set o (sees key c last e) ++ l) (says-flat key c timer set (stepOne key c timer o (sees key c last e)) (e .tick) es)))
+    (λ p. rw p (says-flat key c timer set o last es))
 
 pub viewed : (key : ℕ) (c : Channel) (r : Receiver) → Good key c r → (es : List Event) → Ticks es
     → view key c (after r es) ≡ oneAfter key c (timerIn c r) (view key c r) (seen key c (r .tick) es)
@@ -297,6 +292,18 @@ viewed key c r g (e ∷ es) t =
     ap (λ (b : Answer). view key c (after (b .receiver) es)) (stepped r e p)
     ∙ rw p (q ∙ ap (λ (o : One). oneAfter key c (timerIn c r) o (seen key c (e .tick) es)) (step-view key c r g e (t .0) a)))
     (λ p. ap (λ (b : Answer). view key c (after (b .receiver) es)) (not-stepped r e p) ∙ rw p (viewed key c r g es (t .1)))
+
+-- what is known of the cell, to any call, subscribed or not
+pub cell-viewed : (key : ℕ) (c : Channel) (timer : ℕ) (r : Receiver) (o : One) → known c (r .cell) ≡ o .cell → (es : List Event)
+    → known c (after r es .cell) ≡ oneAfter key c timer o (seen key c (r .tick) es) .cell
+unfolding after oneAfter seen stepOne
+cell-viewed key c timer r o q [] = q
+cell-viewed key c timer r o q (e ∷ es) =
+    by-test (accepts (r .tick) e)
+    (λ p.
+    ap (λ (b : Answer). known c (after (b .receiver) es .cell)) (stepped r e p)
+    ∙ rw p (cell-viewed key c timer (acceptedOf r e .receiver) (stepOne key c timer o (sees key c (r .tick) e)) (cell-same key c r o q e (accepted r e p .allowed)) es))
+    (λ p. ap (λ (b : Answer). known c (after (b .receiver) es .cell)) (not-stepped r e p) ∙ rw p (cell-viewed key c timer r o q es))
 
 -- what accepted events keep
 pub after-keeps : (P : Receiver → Type 0) → ((r : Receiver) (e : Event) → e .tick < 2 ^ 32 → Accepted r e → P r → P (acceptedOf r e .receiver))

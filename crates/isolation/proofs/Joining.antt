@@ -13,7 +13,7 @@ use Rattle.receiver.specs.declared.Record.{Record}
 use Rattle.receiver.specs.Model.{agree, joinedOf}
 use Rattle.receiver.specs.Channels.{Channel}
 use Rattle.receiver.specs.Step.{Cause, nothing, joining, paged, moving, numbered}
-use Rattle.isolation.specs.One.{mayLead, goneBy, Kind, clear, piece, first, second, bare, unusable, kindOn, Which, theFirst, theSecond, Half, One, Said, Heard, met, meetKind, says, newHalf, meetOne, Sight, aged, changed, heldAfter, saidOf, sparedBy, spared}
+use Rattle.isolation.specs.One.{mayLead, goneBy, Kind, clear, piece, first, second, bare, unusable, kindOn, Which, theFirst, theSecond, Half, Known, One, Said, Heard, saying, saidBy, met, meetKind, says, newHalf, meetOne, Sight, aged, changed, heldAfter, saidOf, sparedBy, spared}
 use Rattle.isolation.specs.History.{Opposite}
 use Rattle.isolation.specs.Promises.{Opposite-held, joinedWith}
 
@@ -27,21 +27,21 @@ record Met-opposite (k : Kind) (h : Option Half) (e : Record) : Type 0 where
   agrees : agree (half .entry) e ≡ true
 
 -- of two opposite halves
-told-three : (w : Bool) (j : Record) (h : Half) → met w j h .said .number ≡ 3 → w ≡ true
+told-three : (w : Bool) (j : Record) (h : Half) → met w j h .number ≡ 3 → w ≡ true
 told-three true j h q = refl
 told-three false j h q = absurd (omega arith)
 
-opposite-first : (w : Which) (a : ℕ) (x e : Record) (c : Channel) → meetKind c first (some (record { which = w; age = a; entry = x })) e .said .number ≡ 3
+opposite-first : (w : Which) (a : ℕ) (x e : Record) (c : Channel) → meetKind c first (some (record { which = w; age = a; entry = x })) e .number ≡ 3
     → Opposite first w × (agree x e ≡ true)
 opposite-first theFirst a x e c q = absurd (omega arith)
 opposite-first theSecond a x e c q = (tt, told-three (agree x e) (joinedOf e x) (record { which = theSecond; age = a; entry = x }) q)
 
-opposite-second : (w : Which) (a : ℕ) (x e : Record) (c : Channel) → meetKind c second (some (record { which = w; age = a; entry = x })) e .said .number ≡ 3
+opposite-second : (w : Which) (a : ℕ) (x e : Record) (c : Channel) → meetKind c second (some (record { which = w; age = a; entry = x })) e .number ≡ 3
     → Opposite second w × (agree x e ≡ true)
 opposite-second theFirst a x e c q = (tt, told-three (agree x e) (joinedOf x e) (record { which = theFirst; age = a; entry = x }) q)
 opposite-second theSecond a x e c q = absurd (omega arith)
 
-three : (c : Channel) (k : Kind) (h : Option Half) (e : Record) → meetKind c k h e .said .number ≡ 3 → Met-opposite k h e
+three : (c : Channel) (k : Kind) (h : Option Half) (e : Record) → meetKind c k h e .number ≡ 3 → Met-opposite k h e
 three c clear h e q = absurd (omega arith)
 three c piece h e q = absurd (omega arith)
 three c first none e q = absurd (omega arith)
@@ -50,7 +50,7 @@ three c first (some h) e q =
     record { half = h; held = refl; opposite = o .0; agrees = o .1 }
 three c second none e q = absurd (early (mayLead c) q)
   where
-    early : (b : Bool) → pick b (says 4 (newHalf theSecond e)) (says 8 none) .said .number ≡ 3 → ⊥
+    early : (b : Bool) → pick b (says 4 (newHalf theSecond e)) (says 8 none) .number ≡ 3 → ⊥
     early true p = omega arith
     early false p = omega arith
 three c second (some h) e q =
@@ -61,7 +61,7 @@ three c unusable h e q = absurd (omega arith)
 
 -- and then it is joined, and nothing is held
 abbrev joined : Half → Record → Heard
-joined h e = record { said = record { number = 3; told = joinedWith h e }; held = none }
+joined h e = record { number = 3; told = joinedWith h e; held = none }
 
 joins-with : (c : Channel) (k : Kind) (w : Which) (a : ℕ) (x e : Record) → Opposite k w → agree x e ≡ true
     → meetKind c k (some (record { which = w; age = a; entry = x })) e ≡ joined (record { which = w; age = a; entry = x }) e
@@ -139,12 +139,12 @@ module _ (timer : ℕ) (long : 1 ≤ timer) where
 
 -- ## The k-th entry
 
-said-at : (c : Channel) (h : Option Half) (es : List Record) (k : ℕ) (d : Said) (e : Record) → k < length es
-    → getD (saidOf c h es) k d ≡ meetOne c (heldAfter c h (take k es)) (getD es k e) .said
+said-at : (c : Channel) (set : ℕ) (w : Known) (h : Option Half) (es : List Record) (k : ℕ) (d : Said) (e : Record) → k < length es
+    → getD (saidOf c set w h es) k d ≡ saidBy set w (meetOne c (heldAfter c h (take k es)) (getD es k e))
 unfolding saidOf heldAfter
-said-at c h [] k d e l = absurd (omega arith)
-said-at c h (x ∷ es) zero d e l = refl
-said-at c h (x ∷ es) (suc k) d e l = said-at c (meetOne c h x .held) es k d e (omega arith)
+said-at c set w h [] k d e l = absurd (omega arith)
+said-at c set w h (x ∷ es) zero d e l = refl
+said-at c set w h (x ∷ es) (suc k) d e l = said-at c set w (meetOne c h x .held) es k d e (omega arith)
 
 held-at : (c : Channel) (h : Option Half) (es : List Record) (k : ℕ) (e : Record) → k < length es
     → heldAfter c h (take (suc k) es) ≡ meetOne c (heldAfter c h (take k es)) (getD es k e) .held
@@ -153,12 +153,12 @@ held-at c h [] k e l = absurd (omega arith)
 held-at c h (x ∷ es) zero e l = refl
 held-at c h (x ∷ es) (suc k) e l = held-at c (meetOne c h x .held) es k e (omega arith)
 
-module _ (c : Channel) (timer : ℕ) (long : 1 ≤ timer) (h : Option Half) (y : Young timer h) (es : List Record) (k : ℕ) (l : k < length es) (d : Said) (z : Record) where
-  pub joins-only : getD (saidOf c h es) k d .number ≡ 3 → Opposite-held c timer (heldAfter c h (take k es)) (getD es k z)
+module _ (c : Channel) (set : ℕ) (w : Known) (timer : ℕ) (long : 1 ≤ timer) (h : Option Half) (y : Young timer h) (es : List Record) (k : ℕ) (l : k < length es) (d : Said) (z : Record) where
+  pub joins-only : getD (saidOf c set w h es) k d .number ≡ 3 → Opposite-held c timer (heldAfter c h (take k es)) (getD es k z)
   unfolding meetOne
   joins-only q =
       let b : Option Half = heldAfter c h (take k es) in
-      let o = three c (kindOn c (getD es k z)) b (getD es k z) (sym (ap (λ (s : Said). s .number) (said-at c h es k d z l)) ∙ q) in
+      let o = three c (kindOn c (getD es k z)) b (getD es k z) (sym (ap (λ (s : Said). s .number) (said-at c set w h es k d z l)) ∙ q) in
       record {
         half = o .half;
         held = o .held;
@@ -168,10 +168,10 @@ module _ (c : Channel) (timer : ℕ) (long : 1 ≤ timer) (h : Option Half) (y :
       }
 
   pub joins-then : (o : Opposite-held c timer (heldAfter c h (take k es)) (getD es k z))
-      → (getD (saidOf c h es) k d ≡ record { number = 3; told = joinedWith (o .half) (getD es k z) }) × (heldAfter c h (take (suc k) es) ≡ none)
+      → (getD (saidOf c set w h es) k d ≡ saying set w 3 (joinedWith (o .half) (getD es k z))) × (heldAfter c h (take (suc k) es) ≡ none)
   unfolding meetOne
   joins-then o =
       let e : Record = getD es k z in
       let q : meetOne c (heldAfter c h (take k es)) e ≡ joined (o .half) e =
       ap (λ (b : Option Half). meetOne c b e) (o .held) ∙ joins-with c (kindOn c e) (o .half .which) (o .half .age) (o .half .entry) e (o .opposite) (o .agrees) in
-      (said-at c h es k d z l ∙ ap (λ (x : Heard). x .said) q, held-at c h es k z l ∙ ap (λ (x : Heard). x .held) q)
+      (said-at c set w h es k d z l ∙ ap (saidBy set w) q, held-at c h es k z l ∙ ap (λ (x : Heard). x .held) q)

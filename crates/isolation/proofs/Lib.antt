@@ -6,6 +6,8 @@ pub mod Dropping
 pub mod Standing
 pub mod Isolation
 pub mod Beginning
+pub mod LowCounts
+pub mod Cells
 pub mod Totals
 pub mod Calls
 pub mod Replies
@@ -15,3 +17,4 @@ pub mod Promises
 pub mod Shared
 pub mod Grounds
 pub mod History
+pub mod Kept

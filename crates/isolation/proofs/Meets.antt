@@ -89,7 +89,7 @@ class-kind c e = rw (asks-same c) (by-segments (hasSegments c))
 -- ## What an entry meets
 
 abbrev pub heardOf : ℕ → Met → Heard
-heardOf now m = record { said = record { number = m .number; told = m .told }; held = heldOf now (m .held) }
+heardOf now m = record { number = m .number; told = m .told; held = heldOf now (m .held) }
 
 -- what is met by its class
 abbrev meetClass : ℕ → ℕ → ℕ → Slot → Record → Met

@@ -15,7 +15,7 @@ use Rattle.receiver.specs.declared.Slot.{Slot}
 use Rattle.receiver.specs.Channels.{Channel, onPch}
 use Rattle.receiver.specs.Model.{keyOf, isHeld}
 use Rattle.receiver.specs.Entries.{pchEntry, pchEntries}
-use Rattle.receiver.specs.Step.{Event, Happening, heardNch, heardFacch, heardPch, joins, moves, passes, Cause, nothing, joining, paged, moving, numbered}
+use Rattle.receiver.specs.Step.{Event, Happening, heardNch, heardFacch, heardPch, joins, moves, bitIs, passes, Cause, nothing, joining, paged, moving, numbered}
 use Rattle.isolation.specs.One.{goneBy, Half, Known, One, Seen, mine, sightOf, stepBetween, accepts, sees, seen, changed, heldAfter, sparedBy, stepOne, oneAfter, fresh}
 use Rattle.isolation.specs.Calls.{timerOf}
 use Rattle.isolation.specs.Promises.{halfOf, heldOf, slotIn, At-most-one-PCH-half-is-held}
@@ -67,6 +67,7 @@ module _ (timer : ℕ) where
     one-event o p d (heardFacch s) q = ⊎-elim (λ w. inl (stays-none a o _ refl w)) (λ w. inr (stays-none b p _ refl w)) q
     one-event o p d (joins k) q = ⊎-elim (λ w. inl (stays-none a o _ refl w)) (λ w. inr (stays-none b p _ refl w)) q
     one-event o p d (moves m) q = ⊎-elim (λ w. inl (stays-none a o _ refl w)) (λ w. inr (stays-none b p _ refl w)) q
+    one-event o p d (bitIs v) q = ⊎-elim (λ w. inl (stays-none a o _ refl w)) (λ w. inr (stays-none b p _ refl w)) q
     one-event o p d passes q = ⊎-elim (λ w. inl (stays-none a o _ refl w)) (λ w. inr (stays-none b p _ refl w)) q
 
     -- ## Any events
@@ -93,10 +94,10 @@ held-there : (now : ℕ) (s : Slot) (h : Option Half) → heldOf now s ≡ h →
 held-there now s h e p q = is-held s p (not-held (s .half) _ (s .«record») (e ∙ q))
 
 pub at-most-one-pch-half-is-held : At-most-one-PCH-half-is-held
-at-most-one-pch-half-is-held s keys t z es ts a b ha hb p q =
+at-most-one-pch-half-is-held s keys sets t z es ts a b ha hb p q =
     by-test (eqb a b) (eqb-true a b)
     (λ n.
-    let r = state s keys t z es ts in
-    let x = held-there (r .tick) (slotIn a onPch r) _ (ap (λ (o : One). o .held) (call-is s keys t z es ts a ha onPch)) (rw (starts s keys z) at p) in
-    let y = held-there (r .tick) (slotIn b onPch r) _ (ap (λ (o : One). o .held) (call-is s keys t z es ts b hb onPch)) (rw (starts s keys z) at q) in
+    let r = state s keys sets t z es ts in
+    let x = held-there (r .tick) (slotIn a onPch r) _ (ap (λ (o : One). o .held) (call-is s keys sets t z es ts a ha onPch)) (rw (starts s keys sets z) at p) in
+    let y = held-there (r .tick) (slotIn b onPch r) _ (ap (λ (o : One). o .held) (call-is s keys sets t z es ts b hb onPch)) (rw (starts s keys sets z) at q) in
     absurd (⊎-elim x y (all-events (timerOf onPch s) a b (eqb-false a b n) fresh fresh (s .tick) es (inl refl))))

@@ -1,17 +1,17 @@
 -- What the receiver and the one-call receiver share, said in propositions. Assumes nothing.
 use mathlib.Core.Path.{_≡_, refl, ap}
 use mathlib.Core.Bool.{Bool, true, false}
-use Prim.Native.Nat.{ℕ, zero, suc, _+_, _*_, _≤_}
+use Prim.Native.Nat.{ℕ, zero, suc, _+_, _*_, _/_, _%_, _^_, _≤_}
 use native.Mathlib.Omega.{arith}
-use lib.Dec.{eqb}
-use borrow.Author.Tests.{eqb-true, eq-eqb, le-leb, lt-leb}
+use lib.Dec.{leb, eqb}
+use borrow.Author.Tests.{eqb-true, eq-eqb, leb-true, le-leb, lt-leb}
 use Rattle.bits.proofs.Answers.{both-true}
 use Rattle.csn1.specs.Told.{asBit}
 use Rattle.call.specs.declared.Call.{Call}
 use Rattle.receiver.specs.Model.{sameReference, agree, joinedOf}
 use Rattle.isolation.specs.Promises.{Same-reference, A-key-is-twice-the-reference-plus-the-service, A-key-tells-reference-and-service-apart}
 use Rattle.isolation.specs.Promises.{A-call-is-ciphered-by-its-key-number, Full-references-agree-in-all-bits, A-record-is-its-three-parts}
-use Rattle.isolation.specs.Promises.{The-rest-is-of-the-first-half, The-rand-is-of-the-second-half, The-count-is-of-the-second-half-or-the-first}
+use Rattle.isolation.specs.Promises.{The-rest-is-of-the-first-half, The-rand-is-of-the-second-half, The-count-is-of-the-second-half-or-the-first, A-set-holds-the-key-numbers-of-its-bits}
 use Rattle.receiver.proofs.Cases.{by-test}
 
 -- ## Keys
@@ -122,3 +122,14 @@ the-rand-is-of-the-second-half first second p = rw p
 pub the-count-is-of-the-second-half-or-the-first : The-count-is-of-the-second-half-or-the-first
 unfolding joinedOf
 the-count-is-of-the-second-half-or-the-first first second = (λ p. rw p, λ p. rw p)
+
+-- ## Group keys
+
+pub a-set-holds-the-key-numbers-of-its-bits : A-set-holds-the-key-numbers-of-its-bits
+a-set-holds-the-key-numbers-of-its-bits set n = (
+  λ q.
+      let a = both-true (leb 1 n) _ q in
+      let b = both-true (leb n 15) _ (a .1) in
+      (leb-true 1 n (a .0), leb-true n 15 (b .0), eqb-true (set / 2 ^ n % 2) 1 (b .1)),
+  λ w. rw (le-leb 1 n (w .0), le-leb n 15 (w .1), eq-eqb (set / 2 ^ n % 2) 1 (w .2)),
+)

@@ -11,13 +11,15 @@ use borrow.Author.Tests.{eqb-true, eqb-false, lt-ltb}
 use Rattle.receiver.specs.declared.Record.{Record}
 use Rattle.receiver.specs.declared.Slot.{Slot}
 use Rattle.receiver.specs.declared.Told.{Told}
+use Rattle.receiver.specs.declared.Cell.{Cell}
 use Rattle.receiver.specs.Model.{emptySlot, keyOf, indexOf, meetOf}
-use Rattle.receiver.specs.Step.{placeOf, ours, metAt, slotsAfter, toldOf, allAfter, allTold}
+use Rattle.receiver.specs.Step.{placeOf, ours, metAt, setAt, slotsAfter, toldOf, allAfter, allTold}
 use Rattle.receiver.specs.Channels.{keyCount, places, placeOn, Channel, numberOf}
-use Rattle.isolation.specs.One.{Half, Said, Heard, meetOne, mine, heldAfter, saidOf}
+use Rattle.isolation.specs.One.{Half, Said, Heard, Following, saidBy, meetOne, mine, heldAfter, saidOf}
 use Rattle.isolation.specs.Promises.{under, heldOf}
 use Rattle.isolation.proofs.Places.{place-lt, same-place, same-side}
 use Rattle.receiver.proofs.Keys.{same-index}
+use Rattle.isolation.proofs.Cells.{known, follow-same}
 use Rattle.isolation.proofs.Meets.{meet-same, Sound, meet-sound}
 use Rattle.receiver.proofs.Cases.{by-test}
 
@@ -30,7 +32,7 @@ placeAt keys key c = placeOn (indexOf keys key) (numberOf c)
 
 -- an answer as one call hears it
 abbrev pub saidIn : Told → Said
-saidIn t = record { number = t .number; told = t .«record» }
+saidIn t = record { number = t .number; told = t .«record»; follow = t .follow; kept = t .kept }
 
 module _ (keys : List ℕ) (now : ℕ) where
   length-after : (ch : ℕ) (l : List Slot) (e : Record) → length (slotsAfter keys ch now l e) ≡ length l
@@ -78,21 +80,29 @@ module _ (keys : List ℕ) (now : ℕ) where
           → heldOf now (getD (slotsAfter keys (numberOf c) now l e) (placeAt keys key c) emptySlot) ≡ meetOne c (heldOf now (getD l (placeAt keys key c) emptySlot)) e .held
       our-held l e n h p = ap (heldOf now) (our-slot l e n p) ∙ ap (λ (x : Heard). x .held) (meet-same c now (getD l (placeAt keys key c) emptySlot) e h)
 
-      pub told-key : (l : List Slot) (e : Record) → toldOf keys (numberOf c) now l e .key ≡ keyOf (e .call)
-      unfolding toldOf
-      told-key l e = by-test (ours keys e) (λ p. rw p) (λ p. rw p)
+      module _ (sets : List ℕ) (cell : Cell) where
+        -- the set of its group keys
+        abbrev own : ℕ
+        own = setAt sets (indexOf keys key)
 
-      pub our-said : (l : List Slot) (e : Record) → getD l (placeAt keys key c) emptySlot .half ≤ 2 → keyOf (e .call) ≡ key
-          → saidIn (toldOf keys (numberOf c) now l e) ≡ meetOne c (heldOf now (getD l (placeAt keys key c) emptySlot)) e .said
-      unfolding toldOf
-      our-said l e h p =
-          rw (p, lt-ltb (indexOf keys key) keyCount subscribed) (ap (λ (x : Heard). x .said) (meet-same c now (getD l (placeAt keys key c) emptySlot) e h))
+        pub told-key : (l : List Slot) (e : Record) → toldOf keys sets cell (numberOf c) now l e .key ≡ keyOf (e .call)
+        unfolding toldOf
+        told-key l e = by-test (ours keys e) (λ p. rw p) (λ p. rw p)
 
-      module _ (timer : ℕ) (t : now < 2 ^ 32) (some : 1 ≤ timer) where
+        pub our-said : (l : List Slot) (e : Record) → getD l (placeAt keys key c) emptySlot .half ≤ 2 → keyOf (e .call) ≡ key
+            → saidIn (toldOf keys sets cell (numberOf c) now l e) ≡ saidBy own (known c cell) (meetOne c (heldOf now (getD l (placeAt keys key c) emptySlot)) e)
+        unfolding toldOf
+        our-said l e h p =
+            let m = meetOf (numberOf c) now (getD l (placeAt keys key c) emptySlot) e in
+            rw (p, lt-ltb (indexOf keys key) keyCount subscribed)
+            (ap (λ (f : Following). record { number = m .number; told = m .told; follow = f .follow; kept = f .kept }) (follow-same own cell (m .number) (m .told .call .cipher))
+            ∙ ap (saidBy own (known c cell)) (meet-same c now (getD l (placeAt keys key c) emptySlot) e h))
+
+      module _ (sets : List ℕ) (cell : Cell) (timer : ℕ) (t : now < 2 ^ 32) (some : 1 ≤ timer) where
         -- what the entries do to the half and are told, beside what they do at the one-call receiver
         pub record Same (l : List Slot) (es : List Record) : Type 0 where
           pub held : heldOf now (getD (allAfter keys (numberOf c) now l es) (placeAt keys key c) emptySlot) ≡ heldAfter c (heldOf now (getD l (placeAt keys key c) emptySlot)) (mine key es)
-          pub said : under key (allTold keys (numberOf c) now l es) ≡ saidOf c (heldOf now (getD l (placeAt keys key c) emptySlot)) (mine key es)
+          pub said : under key (allTold keys sets cell (numberOf c) now l es) ≡ saidOf c (own sets cell) (known c cell) (heldOf now (getD l (placeAt keys key c) emptySlot)) (mine key es)
           pub sound : Sound now timer (getD (allAfter keys (numberOf c) now l es) (placeAt keys key c) emptySlot)
 
         hit : (l : List Slot) (e : Record) (es : List Record) → length l ≡ places → Sound now timer (getD l (placeAt keys key c) emptySlot) → eqb (keyOf (e .call)) key ≡ true
@@ -103,7 +113,10 @@ module _ (keys : List ℕ) (now : ℕ) where
             let h = our-held l e n (p .half) k in
             record {
               held = rw q (r .held ∙ ap (λ (x : Option Half). heldAfter c x (mine key es)) h);
-              said = rw (told-key l e, q) (ap₂ (λ (x : Said) (y : List Said). x ∷ y) (our-said l e (p .half) k) (r .said ∙ ap (λ (x : Option Half). saidOf c x (mine key es)) h));
+              said =
+                  rw (told-key sets cell l e, q)
+                  (ap₂ (λ (x : Said) (y : List Said). x ∷ y) (our-said sets cell l e (p .half) k)
+                  (r .said ∙ ap (λ (x : Option Half). saidOf c (own sets cell) (known c cell) x (mine key es)) h));
               sound = r .sound;
             }
 
@@ -113,7 +126,7 @@ module _ (keys : List ℕ) (now : ℕ) where
             let h = other-key l e (eqb-false (keyOf (e .call)) key q) in
             record {
               held = rw q (r .held ∙ ap (λ (s : Slot). heldAfter c (heldOf now s) (mine key es)) h);
-              said = rw (told-key l e, q) (r .said ∙ ap (λ (s : Slot). saidOf c (heldOf now s) (mine key es)) h);
+              said = rw (told-key sets cell l e, q) (r .said ∙ ap (λ (s : Slot). saidOf c (own sets cell) (known c cell) (heldOf now s) (mine key es)) h);
               sound = r .sound;
             }
 

@@ -6,12 +6,14 @@ use Prim.Native.Nat.{ℕ}
 use lib.Dec.{eqb}
 use Rattle.bits.specs.Field.{pick}
 use Rattle.nch.specs.Told.{readOf}
+use Rattle.facch.specs.Told.{readOf as readFacch}
 use Rattle.pch.specs.Entry.{readOf as readPch}
 use Rattle.receiver.specs.declared.Move.{Move}
 use Rattle.receiver.specs.declared.Move.the-variants.{Reselection, Handover, Reconfiguration, LeftIdle}
-use Rattle.receiver.specs.Channels.{asks, leads, Channel, onNch, onFacch, onPch, numberOf, hasNln, hasPages, drops, forgets}
-use Rattle.receiver.specs.Step.{Happening, heardNch, heardFacch, heardPch, joins, moves, passes, Cause, nothing, joining, paged, moving, numbered, numbering, Content, contentOf}
-use Rattle.isolation.specs.One.{hasSegments, mayLead, showsNln, showsPages, hears, goneBy, forgottenBy, listedIn, Sight, mine, nlnSeen, pageSeen, causeSeen, sightOf}
+use Rattle.receiver.specs.Channels.{asks, leads, Channel, onNch, onFacch, onPch, numberOf, hasNln, hasPages, drops, forgets, forgetsCount}
+use Rattle.receiver.specs.Count.{counting, countingOver}
+use Rattle.receiver.specs.Step.{Happening, heardNch, heardFacch, heardPch, joins, moves, bitIs, passes, Cause, nothing, joining, paged, moving, numbered, numbering, Content, contentOf}
+use Rattle.isolation.specs.One.{hasSegments, mayLead, showsNln, showsPages, hears, goneBy, forgottenBy, countForgottenBy, listedIn, Sight, mine, nlnSeen, pageSeen, causeSeen, countSeen, overSeen, newsSeen, sightOf}
 use Rattle.receiver.specs.Model.{keyOf}
 
 -- ## The tables
@@ -71,6 +73,12 @@ forgets-same Handover = refl
 forgets-same Reconfiguration = refl
 forgets-same LeftIdle = refl
 
+pub forgets-count-same : (m : Move) → forgetsCount m ≡ countForgottenBy m
+forgets-count-same Reselection = refl
+forgets-count-same Handover = refl
+forgets-count-same Reconfiguration = refl
+forgets-count-same LeftIdle = refl
+
 -- ## What is seen of an event
 
 -- what a channel shows of what may discard halves
@@ -83,7 +91,7 @@ shown c (numbered n) = pick (hasNln c) (numbered n) nothing
 
 -- what is seen of what is in an event
 abbrev pub showing : ℕ → Channel → Content → Sight
-showing key c x = record { cause = shown c (x .cause); entries = pick (same c (x .channel)) (mine key (x .entries)) [] }
+showing key c x = record { cause = shown c (x .cause); news = x .news; entries = pick (same c (x .channel)) (mine key (x .entries)) [] }
 
 -- w: the channel shows an NLN, b: the message has one
 nln-same : (c : Channel) (w b : Bool) (n : ℕ) → hasNln c ≡ w → nlnSeen w b n ≡ shown c (numbering b n)
@@ -104,6 +112,7 @@ listed-same (heardFacch s) = refl
 listed-same (heardPch ns) = refl
 listed-same (joins k) = refl
 listed-same (moves m) = refl
+listed-same (bitIs b) = refl
 listed-same passes = refl
 
 -- the channel on which they are heard
@@ -116,8 +125,27 @@ cause-same c (heardFacch s) = refl
 cause-same c (heardPch ns) = page-same c (showsPages c) (keyOf (readPch ns .«record» .call)) (pages-same c)
 cause-same c (joins k) = refl
 cause-same c (moves m) = refl
+cause-same c (bitIs b) = refl
 cause-same c passes = refl
+
+-- b: the message has a count
+count-same : (b : Bool) (n : ℕ) → countSeen b n ≡ counting b n
+count-same true n = refl
+count-same false n = refl
+
+over-same : (b b22 : Bool) (n : ℕ) → overSeen b b22 n ≡ countingOver b b22 n
+over-same true b22 n = refl
+over-same false b22 n = refl
+
+news-same : (h : Happening) → newsSeen h ≡ contentOf h .news
+news-same (heardNch s) = count-same (readOf s .«record» .release6 .hasCount) (readOf s .«record» .release6 .cellcount)
+news-same (heardFacch s) = over-same (readFacch s .«record» .release6 .hasCount) (readFacch s .«record» .release6 .b22) (readFacch s .«record» .release6 .cellcount)
+news-same (heardPch ns) = count-same (readPch ns .«record» .hasCount) (readPch ns .«record» .cellcount)
+news-same (joins k) = refl
+news-same (moves m) = refl
+news-same (bitIs b) = refl
+news-same passes = refl
 
 pub sight-same : (key : ℕ) (c : Channel) (h : Happening) → sightOf key c h ≡ showing key c (contentOf h)
 unfolding sightOf
-sight-same key c h = rw (listed-same h, cause-same c h, ← hears-same c (contentOf h .channel))
+sight-same key c h = rw (listed-same h, cause-same c h, news-same h, ← hears-same c (contentOf h .channel))

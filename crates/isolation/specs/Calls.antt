@@ -1,5 +1,5 @@
 -- The answer to an event, put together from the receivers of the single calls. Written apart from the receiver, as One is: no place, no sweep and no step of it
--- is used. Beside what One shares with the receiver: the timer of a channel (byChannel), the subscribed keys (firstOf), and how an answer
+-- is used. Beside what One shares with the receiver: the timer of a channel (byChannel), the subscribed keys (firstOf), each with its set of group keys (setAt), and how an answer
 -- is laid out (Told, noTold). Assumes nothing.
 use mathlib.Core.List.{List, [], _∷_}
 use mathlib.Core.Bool.{Bool}
@@ -17,8 +17,8 @@ use Rattle.receiver.specs.declared.Setup.{Setup}
 use Rattle.receiver.specs.Channels.{Channel, everyChannel, byChannel}
 use Rattle.receiver.specs.Halving.{firstOf}
 use Rattle.receiver.specs.Model.{noRecord, keyOf, mapAt}
-use Rattle.receiver.specs.Step.{Event, groundsOf, noTold}
-use Rattle.isolation.specs.One.{Half, One, Said, mine, listedIn, sightOf, stepBetween, accepts, seen, meetOne, heldAfter, spared, passed, oneAfter, fresh}
+use Rattle.receiver.specs.Step.{Event, groundsOf, setAt, noTold}
+use Rattle.isolation.specs.One.{Half, Known, One, Said, mine, listedIn, sightOf, stepBetween, accepts, seen, meetOne, heldAfter, knownThen, saidBy, spared, passed, oneAfter, fresh}
 
 -- T3206 runs on the NCH, T3208 on the FACCH, T3210 on the PCH
 abbrev pub timerOf : Channel → Setup → ℕ
@@ -54,11 +54,15 @@ abbrev pub subscribed : List ℕ → ℕ → Bool
 subscribed keys key = ltb (firstOf keys key) (length keys)
 
 abbrev pub notOurs : Said
-notOurs = record { number = 0; told = noRecord }
+notOurs = record { number = 0; told = noRecord; follow = 0; kept = 0 }
 
 -- what is said to an entry, under its key
 abbrev pub named : ℕ → Said → Told
-named key w = record { key = key; number = w .number; «record» = w .told }
+named key w = record { key = key; number = w .number; «record» = w .told; follow = w .follow; kept = w .kept }
+
+-- the set of group keys of a subscribed key
+abbrev pub setUnder : List ℕ → List ℕ → ℕ → ℕ
+setUnder keys groups key = setAt groups (firstOf keys key)
 
 -- an answer, the receiver that it leaves aside
 pub record Reply : Type 0 where
@@ -95,18 +99,25 @@ module _ (s : Setup) (es : List Event) where
     abbrev pub leftBy : ℕ → Channel → Option Half
     leftBy key c = spared key c (callAt key c) (sightOf key c (e .happening))
 
-    -- what it says to an entry, having taken its own of the earlier ones
-    abbrev pub saidUnder : ℕ → List Record → Record → Said
-    saidUnder key earlier x = meetOne (channelIn e) (heldAfter (channelIn e) (leftBy key (channelIn e)) (mine key earlier)) x .said
+    -- what is known of the cell then
+    abbrev pub knownOn : ℕ → Channel → Known
+    knownOn key c = knownThen (callAfter key c) (sightOf key c (e .happening))
+
+    -- what it says to an entry, having taken its own of the earlier ones; with its set of group keys
+    abbrev pub saidUnder : ℕ → ℕ → List Record → Record → Said
+    saidUnder key group earlier x =
+        saidBy group (knownOn key (channelIn e)) (meetOne (channelIn e) (heldAfter (channelIn e) (leftBy key (channelIn e)) (mine key earlier)) x)
 
     -- 9 goes before the rest
     abbrev pub groundBy : Refusal
     groundBy = pick (ltb (stepBetween lastTick (e .tick)) (2 ^ 31)) (groundsOf (e .happening)) (ground 9)
 
-    -- the keys come last: no call knows them
-    module _ (keys : List ℕ) where
+    -- the keys come last: no call knows them, and of the sets each knows its own
+    module _ (keys groups : List ℕ) where
       abbrev pub toldTo : List Record → Record → Told
-      toldTo earlier x = named (keyOf (x .call)) (pick (subscribed keys (keyOf (x .call))) (saidUnder (keyOf (x .call)) earlier x) notOurs)
+      toldTo earlier x =
+          named (keyOf (x .call))
+          (pick (subscribed keys (keyOf (x .call))) (saidUnder (keyOf (x .call)) (setUnder keys groups (keyOf (x .call))) earlier x) notOurs)
 
       -- expired are the halves that time took, dropped those that the event took of the rest; the k-th entry comes behind the first k
       abbrev pub acceptedBy : Reply

@@ -9,16 +9,17 @@ use lib.ListN.{take}
 use Rattle.receiver.specs.declared.Record.{Record}
 use Rattle.receiver.specs.Model.{agree}
 use Rattle.receiver.specs.Channels.{Channel}
+use Rattle.receiver.specs.Count.{News}
 use Rattle.receiver.specs.Step.{Cause, nothing, joining, paged, moving, numbered}
-use Rattle.isolation.specs.One.{mayLead, goneBy, Kind, clear, piece, first, second, bare, unusable, kindOn, Which, theFirst, theSecond, Half, Known, knownAfter, Seen}
+use Rattle.isolation.specs.One.{mayLead, goneBy, Kind, clear, piece, first, second, bare, unusable, kindOn, Which, theFirst, theSecond, Half, Known, unknown, knownAfter, Seen}
 
 -- ## Moments
 
 pub data Moment : Type 0 where
   -- milliseconds from one accepted event to the next
   wait : ℕ → Moment
-  -- what an event is before its entries: nothing, a join, an entry of the PCH, a move of the mobile, a message's NLN
-  happens : Cause → Moment
+  -- what an event is before its entries: nothing, a join, an entry of the PCH, a move of the mobile, a message's NLN; and what it tells of the cell's count
+  happens : Cause → News → Moment
   entry : Record → Moment
 
 -- a past, its latest moment first, followed by moments in order
@@ -28,7 +29,7 @@ followed past (m ∷ ms) = followed (m ∷ past) ms
 
 -- an event before its entries, as far as its first k, and the whole of it
 abbrev pub opened : List Moment → Seen → List Moment
-opened past v = happens (v .sight .cause) ∷ wait (v .step) ∷ past
+opened past v = happens (v .sight .cause) (v .sight .news) ∷ wait (v .step) ∷ past
 
 abbrev pub untilEntry : List Moment → Seen → ℕ → List Moment
 untilEntry past v k = followed (opened past v) (map entry (take k (v .sight .entries)))
@@ -41,17 +42,17 @@ unfoldable pub pastOf : List Moment → List Seen → List Moment
 pastOf past [] = past
 pastOf past (v ∷ vs) = pastOf (afterEvent past v) vs
 
--- what is known of the cell: the last NLN seen
+-- what is known of the cell: the last NLN seen, the kept count and bit 22
 abbrev pub lastKnown : List Moment → Known
-lastKnown [] = record { nln = none }
+lastKnown [] = unknown
 lastKnown (wait t ∷ past) = lastKnown past
-lastKnown (happens x ∷ past) = knownAfter (lastKnown past) x
+lastKnown (happens x w ∷ past) = knownAfter (lastKnown past) x w
 lastKnown (entry e ∷ past) = lastKnown past
 
 -- the sum of the steps
 abbrev pub took : Moment → ℕ
 took (wait t) = t
-took (happens x) = 0
+took (happens x w) = 0
 took (entry e) = 0
 
 abbrev pub elapsed : List Moment → ℕ
@@ -99,7 +100,7 @@ Leaves key c l (numbered n) = Same-nln (l .nln) n
 -- the moment after a past does not discard the half w of entry e: its cause leaves it, and no entry joined with it. Time is counted apart.
 abbrev pub Spares : ℕ → Channel → List Moment → Which → Record → Moment → Type 0
 Spares key c past w e (wait t) = Unit {0}
-Spares key c past w e (happens x) = Leaves key c (lastKnown past) x
+Spares key c past w e (happens x v) = Leaves key c (lastKnown past) x
 Spares key c past w e (entry x) = Opposite (kindOn c x) w → agree e x ≡ true → ⊥
 
 -- ## The half that stands
@@ -107,7 +108,7 @@ Spares key c past w e (entry x) = Opposite (kindOn c x) w → agree e x ≡ true
 -- the moment is the coming of the half
 abbrev pub Begins : Channel → Half → Moment → Type 0
 Begins c h (wait t) = ⊥
-Begins c h (happens x) = ⊥
+Begins c h (happens x w) = ⊥
 Begins c h (entry e) = (e ≡ h .entry) × (h .age ≡ 0) × Storable c (kindOn c e) (h .which)
 
 abbrev pub younger : ℕ → Half → Half

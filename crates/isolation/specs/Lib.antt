@@ -1,4 +1,5 @@
 pub mod One
 pub mod Calls
 pub mod History
+pub mod Kept
 pub mod Promises

@@ -1,7 +1,7 @@
 -- The receiver of one call on one channel, and what it sees of the events. It is written apart from the receiver, with tables of its own for what tells the
--- channels apart and for what each event shows, discards and forgets. What both share, and no more: the types Record, Channel (with byChannel, a value for each), Move, Event, Happening and Cause; a message
+-- channels apart and for what each event shows, discards and forgets. What both share, and no more: the types Record, Channel (with byChannel, a value for each), Move, Event, Happening, Cause and News; a message
 -- as it is read, and its entries (readOf, nchEntries, facchEntries, pchEntries, noRecord); an entry's key (keyOf), whether it is ciphered (isCiphered), the comparison of references
--- (agree) and the joined record (joinedOf); and what beside the clock refuses an event (groundsOf). Assumes nothing.
+-- (agree) and the joined record (joinedOf); whether a set of group keys has a key number (holds); and what beside the clock refuses an event (groundsOf). Assumes nothing.
 use mathlib.Core.List.{List, [], _∷_, _++_}
 use mathlib.Core.Bool.{Bool, true, false, not}
 use mathlib.Core.Option.{Option, none, some}
@@ -17,8 +17,9 @@ use Rattle.receiver.specs.Model.{noRecord, keyOf, isCiphered, agree, joinedOf}
 use Rattle.receiver.specs.declared.Move.{Move}
 use Rattle.receiver.specs.declared.Move.the-variants.{Reselection, Handover, Reconfiguration, LeftIdle}
 use Rattle.receiver.specs.Channels.{byChannel, Channel, onNch, onFacch, onPch}
+use Rattle.receiver.specs.Count.{News, noNews, counts, countsOver, bits, holds}
 use Rattle.receiver.specs.Entries.{nchEntries, facchEntries, pchEntries}
-use Rattle.receiver.specs.Step.{Event, Happening, heardNch, heardFacch, heardPch, joins, moves, passes, Cause, nothing, joining, paged, moving, numbered, groundsOf}
+use Rattle.receiver.specs.Step.{Event, Happening, heardNch, heardFacch, heardPch, joins, moves, bitIs, passes, Cause, nothing, joining, paged, moving, numbered, groundsOf}
 
 -- ## What tells the channels apart: NCH, FACCH, PCH
 
@@ -61,6 +62,10 @@ goneBy onPch = byMove true false false true
 -- it makes the NLN unknown
 abbrev pub forgottenBy : Move → Bool
 forgottenBy = byMove true false false false
+
+-- it makes the cell's count and bit 22 unknown
+abbrev pub countForgottenBy : Move → Bool
+countForgottenBy = byMove true true false false
 
 -- ## What an entry is (document 01, "What each notified call is told")
 
@@ -111,9 +116,11 @@ pub record Half : Type 0 where
   pub age : ℕ
   pub entry : Record
 
--- what is known of the cell: the last NLN seen
+-- what is known of the cell: the last NLN seen, the kept count, the present value of bit 22
 pub record Known : Type 0 where
   pub nln : Option ℕ
+  pub count : Option ℕ
+  pub bit : Option ℕ
 
 pub record One : Type 0 where
   pub held : Option Half
@@ -121,19 +128,17 @@ pub record One : Type 0 where
 
 -- ## What it is told
 
-pub record Said : Type 0 where
+-- an entry, and what is held then
+pub record Heard : Type 0 where
   pub number : ℕ
   pub told : Record
-
-pub record Heard : Type 0 where
-  pub said : Said
   pub held : Option Half
 
 abbrev pub says : ℕ → Option Half → Heard
-says n h = record { said = record { number = n; told = noRecord }; held = h }
+says n h = record { number = n; told = noRecord; held = h }
 
 abbrev pub tells : ℕ → Record → Option Half → Heard
-tells n e h = record { said = record { number = n; told = e }; held = h }
+tells n e h = record { number = n; told = e; held = h }
 
 abbrev pub newHalf : Which → Record → Option Half
 newHalf w e = some (record { which = w; age = 0; entry = e })
@@ -171,11 +176,44 @@ meetKind c unusable h e = says 7 h
 unfoldable pub meetOne : Channel → Option Half → Record → Heard
 meetOne c h e = meetKind c (kindOn c e) h e
 
+-- ## Whether it can be followed
+
+-- 1 no key, 2 no count, 3 follow, with the kept count; 0 and 0 where nothing is said of it
+pub record Following : Type 0 where
+  pub follow : ℕ
+  pub kept : ℕ
+
+-- k: the group key is held; then the kept count
+abbrev pub following : Bool → Option ℕ → Following
+following false n = record { follow = 1; kept = 0 }
+following true none = record { follow = 2; kept = 0 }
+following true (some n) = record { follow = 3; kept = n }
+
+-- only a ciphered call that is complete, in one piece or joined, can be followed
+abbrev pub followingAt : ℕ → Bool → Option ℕ → Following
+followingAt number k n = pick (eqb number 2) (following k n) (pick (eqb number 3) (following k n) (record { follow = 0; kept = 0 }))
+
+pub record Said : Type 0 where
+  pub number : ℕ
+  pub told : Record
+  pub follow : ℕ
+  pub kept : ℕ
+
+-- what an entry is told of a call with a set of group keys, by what is known of the cell
+abbrev pub saying : ℕ → Known → ℕ → Record → Said
+saying group l number e =
+    let f = followingAt number (holds group (e .call .cipher)) (l .count) in
+    record { number = number; told = e; follow = f .follow; kept = f .kept }
+
+abbrev pub saidBy : ℕ → Known → Heard → Said
+saidBy group l w = saying group l (w .number) (w .told)
+
 -- ## What it sees
 
--- what an accepted event is to the call: what may discard its half, and the entries of its own on its channel
+-- what an accepted event is to the call: what may discard its half, what it tells of the cell's count, and the entries of its own on its channel
 pub record Sight : Type 0 where
   pub cause : Cause
+  pub news : News
   pub entries : List Record
 
 pub record Seen : Type 0 where
@@ -203,6 +241,7 @@ listedIn (heardFacch s) = record { channel = onFacch; entries = facchEntries (re
 listedIn (heardPch ns) = record { channel = onPch; entries = pchEntries (readPch ns .«record») }
 listedIn (joins k) = noneListed
 listedIn (moves m) = noneListed
+listedIn (bitIs b) = noneListed
 listedIn passes = noneListed
 
 -- a message's NLN; w: the channel shows it, b: the message has one
@@ -223,14 +262,34 @@ causeSeen c (heardFacch s) = nothing
 causeSeen c (heardPch ns) = pageSeen (showsPages c) (keyOf (readPch ns .«record» .call))
 causeSeen c (joins k) = joining k
 causeSeen c (moves m) = moving m
+causeSeen c (bitIs b) = nothing
 causeSeen c passes = nothing
+
+-- a message's count, on a channel without and with B22; b: the message has one
+abbrev pub countSeen : Bool → ℕ → News
+countSeen true n = counts n
+countSeen false n = noNews
+
+abbrev pub overSeen : Bool → Bool → ℕ → News
+overSeen true b22 n = countsOver b22 n
+overSeen false b22 n = noNews
+
+-- what an event tells of the cell's count: every channel sees it
+abbrev pub newsSeen : Happening → News
+newsSeen (heardNch s) = countSeen (readOf s .«record» .release6 .hasCount) (readOf s .«record» .release6 .cellcount)
+newsSeen (heardFacch s) = overSeen (readFacch s .«record» .release6 .hasCount) (readFacch s .«record» .release6 .b22) (readFacch s .«record» .release6 .cellcount)
+newsSeen (heardPch ns) = countSeen (readPch ns .«record» .hasCount) (readPch ns .«record» .cellcount)
+newsSeen (joins k) = noNews
+newsSeen (moves m) = noNews
+newsSeen (bitIs b) = bits b
+newsSeen passes = noNews
 
 -- the call's own among the entries, where its channel is theirs
 abbrev pub entriesSeen : ℕ → Channel → Listed → List Record
 entriesSeen key c l = pick (hears c (l .channel)) (mine key (l .entries)) []
 
 unfoldable pub sightOf : ℕ → Channel → Happening → Sight
-sightOf key c h = record { cause = causeSeen c h; entries = entriesSeen key c (listedIn h) }
+sightOf key c h = record { cause = causeSeen c h; news = newsSeen h; entries = entriesSeen key c (listedIn h) }
 
 -- the step from one tick to another on a 32-bit counter that wraps
 abbrev pub stepBetween : ℕ → ℕ → ℕ
@@ -261,21 +320,62 @@ abbrev pub changed : Option ℕ → ℕ → Bool
 changed none n = false
 changed (some l) n = not (eqb l n)
 
-abbrev pub knownAfter : Known → Cause → Known
-knownAfter l nothing = l
-knownAfter l (joining k) = l
-knownAfter l (paged k) = l
-knownAfter l (moving m) = record { nln = pick (forgottenBy m) none (l .nln) }
-knownAfter l (numbered n) = record { nln = some n }
+-- what is forgotten, and the NLN
+abbrev pub knownBy : Known → Cause → Known
+knownBy l nothing = l
+knownBy l (joining k) = l
+knownBy l (paged k) = l
+knownBy l (moving m) =
+    record {
+      nln = pick (forgottenBy m) none (l .nln);
+      count = pick (countForgottenBy m) none (l .count);
+      bit = pick (countForgottenBy m) none (l .bit);
+    }
+knownBy l (numbered n) = record { nln = some n; count = l .count; bit = l .bit }
+
+-- a count raised by one, modulo 4
+abbrev pub next : ℕ → ℕ
+next n = (n + 1) % 4
+
+-- a FACCH count, by the bit as it is now: not taken where it is not known, and raised where B22 was 1 and it is 0
+abbrev pub overTaken : Option ℕ → Bool → ℕ → Option ℕ
+overTaken none b22 n = none
+overTaken (some b) true n = some (pick (eqb b 0) (next n) n)
+overTaken (some b) false n = some n
+
+-- the count that comes, or else the one before it
+abbrev pub orKept : Option ℕ → Option ℕ → Option ℕ
+orKept none kept = kept
+orKept (some n) kept = some n
+
+-- the bit goes from 1 to 0
+abbrev pub turnsTo : Option ℕ → ℕ → Bool
+turnsTo none b = false
+turnsTo (some l) b = both (eqb l 1) (eqb b 0)
+
+-- t: it does
+abbrev pub raisedBy : Bool → Option ℕ → Option ℕ
+raisedBy false kept = kept
+raisedBy true none = none
+raisedBy true (some n) = some (next n)
+
+abbrev pub knownWith : Known → News → Known
+knownWith l noNews = l
+knownWith l (counts n) = record { nln = l .nln; count = some n; bit = l .bit }
+knownWith l (countsOver b22 n) = record { nln = l .nln; count = orKept (overTaken (l .bit) b22 n) (l .count); bit = l .bit }
+knownWith l (bits b) = record { nln = l .nln; count = raisedBy (turnsTo (l .bit) b) (l .count); bit = some b }
+
+abbrev pub knownAfter : Known → Cause → News → Known
+knownAfter l x w = knownWith (knownBy l x) w
 
 -- its entries in order
 unfoldable pub heldAfter : Channel → Option Half → List Record → Option Half
 heldAfter c h [] = h
 heldAfter c h (e ∷ es) = heldAfter c (meetOne c h e .held) es
 
-unfoldable pub saidOf : Channel → Option Half → List Record → List Said
-saidOf c h [] = []
-saidOf c h (e ∷ es) = meetOne c h e .said ∷ saidOf c (meetOne c h e .held) es
+unfoldable pub saidOf : Channel → ℕ → Known → Option Half → List Record → List Said
+saidOf c group l h [] = []
+saidOf c group l h (e ∷ es) = saidBy group l (meetOne c h e) ∷ saidOf c group l (meetOne c h e .held) es
 
 -- what is left of the half before the entries
 abbrev pub sparedBy : ℕ → Channel → Known → Cause → Option Half → Option Half
@@ -291,32 +391,41 @@ spared key c s v = sparedBy key c (s .cell) (v .cause) (s .held)
 abbrev pub passed : ℕ → One → ℕ → One
 passed timer s d = record { held = aged timer d (s .held); cell = s .cell }
 
+-- what is known of the cell when the entries come: the message's own count is taken before
+abbrev pub knownThen : One → Sight → Known
+knownThen s v = knownAfter (s .cell) (v .cause) (v .news)
+
 unfoldable pub stepOne : ℕ → Channel → ℕ → One → Seen → One
 stepOne key c timer s v =
     record {
       held = heldAfter c (spared key c (passed timer s (v .step)) (v .sight)) (v .sight .entries);
-      cell = knownAfter (s .cell) (v .sight .cause);
+      cell = knownThen s (v .sight);
     }
 
-unfoldable pub stepSaid : ℕ → Channel → ℕ → One → Seen → List Said
-stepSaid key c timer s v = saidOf c (spared key c (passed timer s (v .step)) (v .sight)) (v .sight .entries)
+-- with its set of group keys
+unfoldable pub stepSaid : ℕ → Channel → ℕ → ℕ → One → Seen → List Said
+stepSaid key c timer group s v = saidOf c group (knownThen s (v .sight)) (spared key c (passed timer s (v .step)) (v .sight)) (v .sight .entries)
 
-unfoldable pub runOne : ℕ → Channel → ℕ → One → List Seen → List Said
-runOne key c timer s [] = []
-runOne key c timer s (v ∷ vs) = stepSaid key c timer s v ++ runOne key c timer (stepOne key c timer s v) vs
+unfoldable pub runOne : ℕ → Channel → ℕ → ℕ → One → List Seen → List Said
+runOne key c timer group s [] = []
+runOne key c timer group s (v ∷ vs) = stepSaid key c timer group s v ++ runOne key c timer group (stepOne key c timer s v) vs
 
 -- the same with what it says to each event in a list of its own, which is empty for a refused one
-unfoldable pub runEach : ℕ → Channel → ℕ → One → ℕ → List Event → List (List Said)
-runEach key c timer o last [] = []
-runEach key c timer o last (e ∷ es) =
-    pick (accepts last e) (stepSaid key c timer o (sees key c last e) ∷ runEach key c timer (stepOne key c timer o (sees key c last e)) (e .tick) es)
-    ([] ∷ runEach key c timer o last es)
+unfoldable pub runEach : ℕ → Channel → ℕ → ℕ → One → ℕ → List Event → List (List Said)
+runEach key c timer group o last [] = []
+runEach key c timer group o last (e ∷ es) =
+    pick (accepts last e)
+    (stepSaid key c timer group o (sees key c last e) ∷ runEach key c timer group (stepOne key c timer o (sees key c last e)) (e .tick) es)
+    ([] ∷ runEach key c timer group o last es)
 
 -- the one-call receiver after what it saw
 unfoldable pub oneAfter : ℕ → Channel → ℕ → One → List Seen → One
 oneAfter key c timer s [] = s
 oneAfter key c timer s (v ∷ vs) = oneAfter key c timer (stepOne key c timer s v) vs
 
--- at the start nothing is held and no NLN is known
+-- at the start nothing is held, and nothing is known of the cell
+abbrev pub unknown : Known
+unknown = record { nln = none; count = none; bit = none }
+
 abbrev pub fresh : One
-fresh = record { held = none; cell = record { nln = none } }
+fresh = record { held = none; cell = unknown }

@@ -4,9 +4,9 @@ use mathlib.Core.Path.{_≡_}
 use mathlib.Core.List.{List, [], _∷_, _++_}
 use mathlib.Core.Bool.{Bool, true, false, not}
 use mathlib.Core.Option.{Option, none, some}
-use Prim.Native.Nat.{ℕ, zero, suc, _+_, _*_, _<_, _≤_}
+use Prim.Native.Nat.{ℕ, zero, suc, _+_, _*_, _/_, _%_, _^_, _<_, _≤_}
 use lib.ListN.{length, take, getD}
-use lib.Dec.{eqb}
+use lib.Dec.{ltb, eqb}
 use Rattle.bits.specs.Field.{both, pick}
 use Rattle.csn1.specs.Told.{asBit}
 use Rattle.call.specs.declared.Call.{Call}
@@ -22,17 +22,20 @@ use Rattle.receiver.specs.declared.Setup.{Setup}
 use Rattle.receiver.specs.Channels.{placeOn, Channel, onPch, numberOf}
 use Rattle.receiver.specs.Halving.{firstOf}
 use Rattle.receiver.specs.Model.{noRecord, emptySlot, wrapSub, keyOf, keysOf, indexOf, isHeld, sweptSlots, isCiphered, agree, joinedOf, keep, startedOf}
-use Rattle.receiver.specs.Step.{Event, Happening, heardNch, heardFacch, heardPch, joins, moves, passes, refusalOf, ruleOf, stepOf}
-use Rattle.isolation.specs.One.{kindOn, Which, theFirst, theSecond, Half, One, Said, Seen, seen, sees, sightOf, heldAfter, spared, passed, stepSaid, runOne, runEach, oneAfter, fresh, hears}
-use Rattle.isolation.specs.Calls.{timerOf, notOurs, lastTick, Reply, replyBy, channelIn}
+use Rattle.receiver.specs.declared.Cell.{Cell}
+use Rattle.receiver.specs.Count.{holds}
+use Rattle.receiver.specs.Step.{Event, Happening, heardNch, heardFacch, heardPch, joins, moves, bitIs, passes, refusalOf, ruleOf, stepOf}
+use Rattle.isolation.specs.One.{kindOn, Which, theFirst, theSecond, Half, One, Said, Seen, seen, sees, sightOf, heldAfter, spared, passed, stepSaid, saying, knownThen, runOne, runEach, oneAfter, fresh, hears}
+use Rattle.isolation.specs.Calls.{timerOf, notOurs, setUnder, lastTick, knownOn, Reply, replyBy, channelIn}
 use Rattle.isolation.specs.History.{Moment, untilEntry, pastOf, Opposite, Came-and-stayed}
+use Rattle.isolation.specs.Kept.{since, lastBit, keptCount}
 
 -- ## 1. Isolation
 
 -- the answers under a key among the told entries
 unfoldable pub under : ℕ → List Told → List Said
 under key [] = []
-under key (t ∷ ts) = pick (eqb (t .key) key) (record { number = t .number; told = t .«record» } ∷ under key ts) (under key ts)
+under key (t ∷ ts) = pick (eqb (t .key) key) (record { number = t .number; told = t .«record»; follow = t .follow; kept = t .kept } ∷ under key ts) (under key ts)
 
 -- an event's answers are on the channel of its message, by the one-call receiver's own table
 unfoldable pub answersOn : ℕ → Channel → Event → Answer → List Said
@@ -56,26 +59,26 @@ Ticks (e ∷ es) = (e .tick < 4294967296) × Ticks es
 -- exactly those of the one-call receiver run on what that call sees.
 abbrev pub No-call-disturbs-another : Type 0
 No-call-disturbs-another =
-    (s : Setup) (keys : List ℕ)
+    (s : Setup) (keys groups : List ℕ)
     → s .tick < 4294967296
-    → startedOf s keys .refusal .number ≡ 0
+    → startedOf s keys groups .refusal .number ≡ 0
     → (key : ℕ)
     → firstOf keys key < length keys
     → (c : Channel) (es : List Event)
     → Ticks es
-    → answers key c (startedOf s keys .receiver) es ≡ runOne key c (timerOf c s) fresh (seen key c (s .tick) es)
+    → answers key c (startedOf s keys groups .receiver) es ≡ runOne key c (timerOf c s) (setUnder keys groups key) fresh (seen key c (s .tick) es)
 
 -- The same event by event: no answer may stand at another event than its own.
 abbrev pub No-call-disturbs-another-at-any-event : Type 0
 No-call-disturbs-another-at-any-event =
-    (s : Setup) (keys : List ℕ)
+    (s : Setup) (keys groups : List ℕ)
     → s .tick < 4294967296
-    → startedOf s keys .refusal .number ≡ 0
+    → startedOf s keys groups .refusal .number ≡ 0
     → (key : ℕ)
     → firstOf keys key < length keys
     → (c : Channel) (es : List Event)
     → Ticks es
-    → answersEach key c (startedOf s keys .receiver) es ≡ runEach key c (timerOf c s) fresh (s .tick) es
+    → answersEach key c (startedOf s keys groups .receiver) es ≡ runEach key c (timerOf c s) (setUnder keys groups key) fresh (s .tick) es
 
 -- ## 2. When the one-call receiver joins
 
@@ -103,19 +106,23 @@ abbrev pub entryAt : Seen → ℕ → Record
 entryAt v k = getD (v .sight .entries) k noRecord
 
 -- what the k-th entry is told
-abbrev pub saidAt : ℕ → Channel → ℕ → One → Seen → ℕ → Said
-saidAt key c timer s v k = getD (stepSaid key c timer s v) k (record { number = 0; told = noRecord })
+abbrev pub saidAt : ℕ → Channel → ℕ → ℕ → One → Seen → ℕ → Said
+saidAt key c timer group s v k = getD (stepSaid key c timer group s v) k notOurs
+
+-- the joined record, and whether it can be followed then
+abbrev pub saidJoined : ℕ → One → Seen → Half → Record → Said
+saidJoined group s v h e = saying group (knownThen s (v .sight)) 3 (joinedWith h e)
 
 -- An entry is told 3 exactly where it meets the opposite half; then it is told the joined record, and the place is free.
 abbrev pub An-entry-joins-exactly-where-the-opposite-half-is-held : Type 0
 An-entry-joins-exactly-where-the-opposite-half-is-held =
-    (key : ℕ) (c : Channel) (timer : ℕ)
+    (key : ℕ) (c : Channel) (timer group : ℕ)
     → 1 ≤ timer
     → (s : One) (v : Seen) (k : ℕ)
     → k < length (v .sight .entries)
-    → (saidAt key c timer s v k .number ≡ 3 → Opposite-held c timer (heldBefore key c timer s v k) (entryAt v k))
+    → (saidAt key c timer group s v k .number ≡ 3 → Opposite-held c timer (heldBefore key c timer s v k) (entryAt v k))
     × ((o : Opposite-held c timer (heldBefore key c timer s v k) (entryAt v k))
-    → (saidAt key c timer s v k ≡ record { number = 3; told = joinedWith (o .half) (entryAt v k) }) × (heldBefore key c timer s v (suc k) ≡ none))
+    → (saidAt key c timer group s v k ≡ saidJoined group s v (o .half) (entryAt v k)) × (heldBefore key c timer s v (suc k) ≡ none))
 
 -- the opposite half came in the past, nothing discarded it since, and their references agree
 pub record Opposite-in-history (key : ℕ) (c : Channel) (timer : ℕ) (past : List Moment) (e : Record) : Type 0 where
@@ -136,27 +143,28 @@ What-is-held-came-and-stayed =
 -- After any events, the k-th entry of the next one is told 3 exactly where the opposite half came and nothing discarded it since.
 abbrev pub An-entry-joins-exactly-where-the-opposite-half-came-and-stayed : Type 0
 An-entry-joins-exactly-where-the-opposite-half-came-and-stayed =
-    (key : ℕ) (c : Channel) (timer : ℕ)
+    (key : ℕ) (c : Channel) (timer group : ℕ)
     → 1 ≤ timer
     → (vs : List Seen) (v : Seen) (k : ℕ)
     → k < length (v .sight .entries)
-    → (saidAt key c timer (oneAfter key c timer fresh vs) v k .number ≡ 3
+    → (saidAt key c timer group (oneAfter key c timer fresh vs) v k .number ≡ 3
     → Opposite-in-history key c timer (untilEntry (pastOf [] vs) v k) (entryAt v k))
     × ((o : Opposite-in-history key c timer (untilEntry (pastOf [] vs) v k) (entryAt v k))
-    → saidAt key c timer (oneAfter key c timer fresh vs) v k ≡ record { number = 3; told = joinedWith (o .half) (entryAt v k) })
+    → saidAt key c timer group (oneAfter key c timer fresh vs) v k ≡ saidJoined group (oneAfter key c timer fresh vs) v (o .half) (entryAt v k))
 
 -- ## 3. A refused event
 
 abbrev pub A-refused-event-changes-nothing : Type 0
 A-refused-event-changes-nothing = (r : Receiver) (e : Event) → (stepOf r e .refusal .number ≡ 0 → ⊥) → stepOf r e .receiver ≡ r
 
--- the number that an event in time carries: its message's own, 4 exactly where a joined key is above 199,999,999, none otherwise
+-- the number that an event in time carries: its message's own, 4 exactly where a joined key is above 199,999,999, 12 exactly where a bit is above 1, none otherwise
 abbrev pub Ground : Happening → ℕ → Type 0
 Ground (heardNch s) n = n ≡ readOf s .refusal .number
 Ground (heardFacch s) n = n ≡ readFacch s .refusal .number
 Ground (heardPch ns) n = n ≡ readPch ns .refusal .number
 Ground (joins k) n = (k ≤ 199999999 → n ≡ 0) × (199999999 < k → n ≡ 4)
 Ground (moves m) n = n ≡ 0
+Ground (bitIs b) n = (b ≤ 1 → n ≡ 0) × (1 < b → n ≡ 12)
 Ground passes n = n ≡ 0
 
 -- a step of 2^31 or more is 9 whatever else is wrong; else the number is on the event's own ground; and it is the one that `refusalOf` names
@@ -189,14 +197,14 @@ slotIn key c r = getD (r .slots) (placeOn (indexOf (keysOf r) key) (numberOf c))
 -- After any events the place of a call holds what its own receiver holds, and the wrapped difference of the ticks is the sum of the accepted steps.
 abbrev pub The-wrapped-difference-is-the-sum : Type 0
 The-wrapped-difference-is-the-sum =
-    (s : Setup) (keys : List ℕ)
+    (s : Setup) (keys groups : List ℕ)
     → s .tick < 4294967296
-    → startedOf s keys .refusal .number ≡ 0
+    → startedOf s keys groups .refusal .number ≡ 0
     → (key : ℕ)
     → firstOf keys key < length keys
     → (c : Channel) (es : List Event)
     → Ticks es
-    → heldOf (after (startedOf s keys .receiver) es .tick) (slotIn key c (after (startedOf s keys .receiver) es))
+    → heldOf (after (startedOf s keys groups .receiver) es .tick) (slotIn key c (after (startedOf s keys groups .receiver) es))
     ≡ oneAfter key c (timerOf c s) fresh (seen key c (s .tick) es) .held
 
 -- ## 5. Counts of what was lost
@@ -232,20 +240,20 @@ abbrev pub A-reply-and-a-receiver-are-an-answer : Type 0
 A-reply-and-a-receiver-are-an-answer = (a b : Answer) → replyOf a ≡ replyOf b → a .receiver ≡ b .receiver → a ≡ b
 
 -- the answer to the next event, after a setup and events
-abbrev pub replyTo : Setup → List ℕ → List Event → Event → Reply
-replyTo s keys es e = replyOf (stepOf (after (startedOf s keys .receiver) es) e)
+abbrev pub replyTo : Setup → List ℕ → List ℕ → List Event → Event → Reply
+replyTo s keys groups es e = replyOf (stepOf (after (startedOf s keys groups .receiver) es) e)
 
 -- For every accepted setup and after any events, the whole answer to the next event is what the receivers of the single calls give.
 abbrev pub The-answer-is-the-calls : Type 0
 The-answer-is-the-calls =
-    (s : Setup) (keys : List ℕ)
+    (s : Setup) (keys groups : List ℕ)
     → s .tick < 4294967296
-    → startedOf s keys .refusal .number ≡ 0
+    → startedOf s keys groups .refusal .number ≡ 0
     → (es : List Event)
     → Ticks es
     → (e : Event)
     → e .tick < 4294967296
-    → replyTo s keys es e ≡ replyBy s es e keys
+    → replyTo s keys groups es e ≡ replyBy s es e keys groups
 
 -- ## 7. When a call is told 3
 
@@ -253,33 +261,33 @@ The-answer-is-the-calls =
 abbrev pub ownEntry : ℕ → Channel → Event → ℕ → Record
 ownEntry key c e k = getD (sightOf key c (e .happening) .entries) k noRecord
 
-abbrev pub heardAt : Setup → List ℕ → List Event → Event → ℕ → Channel → ℕ → Said
-heardAt s keys es e key c k = getD (answersOn key c e (stepOf (after (startedOf s keys .receiver) es) e)) k notOurs
+abbrev pub heardAt : Setup → List ℕ → List ℕ → List Event → Event → ℕ → Channel → ℕ → Said
+heardAt s keys groups es e key c k = getD (answersOn key c e (stepOf (after (startedOf s keys groups .receiver) es) e)) k notOurs
 
 -- what the call saw before that entry
 abbrev pub pastAt : Setup → List Event → Event → ℕ → Channel → ℕ → List Moment
 pastAt s es e key c k = untilEntry (pastOf [] (seen key c (s .tick) es)) (sees key c (lastTick s es) e) k
 
 -- For every accepted setup and after any events, the k-th entry of a subscribed call in the next accepted event is told 3 exactly where the opposite half
--- came and nothing discarded it since; then it is told the joined record.
+-- came and nothing discarded it since; then it is told the joined record, and whether it can be followed with what is known of the cell then.
 abbrev pub A-call-joins-exactly-when : Type 0
 A-call-joins-exactly-when =
-    (s : Setup) (keys : List ℕ)
+    (s : Setup) (keys groups : List ℕ)
     → s .tick < 4294967296
-    → startedOf s keys .refusal .number ≡ 0
+    → startedOf s keys groups .refusal .number ≡ 0
     → (key : ℕ)
     → firstOf keys key < length keys
     → (c : Channel) (es : List Event)
     → Ticks es
     → (e : Event)
     → e .tick < 4294967296
-    → replyTo s keys es e .refusal .number ≡ 0
+    → replyTo s keys groups es e .refusal .number ≡ 0
     → (k : ℕ)
     → k < length (sightOf key c (e .happening) .entries)
-    → (heardAt s keys es e key c k .number ≡ 3
+    → (heardAt s keys groups es e key c k .number ≡ 3
     → Opposite-in-history key c (timerOf c s) (pastAt s es e key c k) (ownEntry key c e k))
     × ((o : Opposite-in-history key c (timerOf c s) (pastAt s es e key c k) (ownEntry key c e k))
-    → heardAt s keys es e key c k ≡ record { number = 3; told = joinedWith (o .half) (ownEntry key c e k) })
+    → heardAt s keys groups es e key c k ≡ saying (setUnder keys groups key) (knownOn s es e key c) 3 (joinedWith (o .half) (ownEntry key c e k)))
 
 -- ## 8. What the receiver and the one-call receiver share
 -- An error here would be in both, so each is said in document 01's words.
@@ -374,14 +382,58 @@ The-count-is-of-the-second-half-or-the-first =
 
 abbrev pub At-most-one-PCH-half-is-held : Type 0
 At-most-one-PCH-half-is-held =
-    (s : Setup) (keys : List ℕ)
+    (s : Setup) (keys groups : List ℕ)
     → s .tick < 4294967296
-    → startedOf s keys .refusal .number ≡ 0
+    → startedOf s keys groups .refusal .number ≡ 0
     → (es : List Event)
     → Ticks es
     → (a b : ℕ)
     → firstOf keys a < length keys
     → firstOf keys b < length keys
-    → isHeld (slotIn a onPch (after (startedOf s keys .receiver) es)) ≡ true
-    → isHeld (slotIn b onPch (after (startedOf s keys .receiver) es)) ≡ true
+    → isHeld (slotIn a onPch (after (startedOf s keys groups .receiver) es)) ≡ true
+    → isHeld (slotIn b onPch (after (startedOf s keys groups .receiver) es)) ≡ true
     → a ≡ b
+
+-- ## 10. The cell's count
+
+-- what a cell's number says where it is below the one that says that none is known
+abbrev pub below : ℕ → ℕ → Option ℕ
+below most n = pick (ltb n most) (some n) none
+
+abbrev pub countKept : Cell → Option ℕ
+countKept l = below 4 (l .count)
+
+abbrev pub bitKnown : Cell → Option ℕ
+bitKnown l = below 2 (l .bit)
+
+-- For every accepted setup and after any events, the kept count is the last one taken since the cell was entered, raised once for each change of bit 22 from
+-- 1 to 0 since, by what any call on any channel saw; and the bit is its last value since the cell was entered.
+abbrev pub The-kept-count-is-that-of-the-history : Type 0
+The-kept-count-is-that-of-the-history =
+    (s : Setup) (keys groups : List ℕ)
+    → s .tick < 4294967296
+    → startedOf s keys groups .refusal .number ≡ 0
+    → (key : ℕ) (c : Channel) (es : List Event)
+    → Ticks es
+    → (countKept (after (startedOf s keys groups .receiver) es .cell) ≡ keptCount (pastOf [] (seen key c (s .tick) es)))
+    × (bitKnown (after (startedOf s keys groups .receiver) es .cell) ≡ lastBit (since (pastOf [] (seen key c (s .tick) es))))
+
+-- Two accepted setups that are alike but for the sets of other keys say the same to a call.
+abbrev pub A-set-changes-nothing-for-another-call : Type 0
+A-set-changes-nothing-for-another-call =
+    (s : Setup) (keys groups others : List ℕ)
+    → s .tick < 4294967296
+    → startedOf s keys groups .refusal .number ≡ 0
+    → startedOf s keys others .refusal .number ≡ 0
+    → (key : ℕ)
+    → firstOf keys key < length keys
+    → setUnder keys groups key ≡ setUnder keys others key
+    → (c : Channel) (es : List Event)
+    → Ticks es
+    → answersEach key c (startedOf s keys groups .receiver) es ≡ answersEach key c (startedOf s keys others .receiver) es
+
+-- bit n of a set, for key number n, 1 to 15
+abbrev pub A-set-holds-the-key-numbers-of-its-bits : Type 0
+A-set-holds-the-key-numbers-of-its-bits =
+    (group n : ℕ)
+    → (holds group n ≡ true → (1 ≤ n) × (n ≤ 15) × (group / 2 ^ n % 2 ≡ 1)) × ((1 ≤ n) × (n ≤ 15) × (group / 2 ^ n % 2 ≡ 1) → holds group n ≡ true)

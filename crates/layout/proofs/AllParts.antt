@@ -1,11 +1,11 @@
 -- All parts of an answer are the answer. Assumes nothing.
 use mathlib.Core.Path.{_≡_, sym, ap, _∙_}
 use mathlib.Core.Bool.{Bool}
-use mathlib.Core.List.{List}
+use mathlib.Core.List.{List, [], _∷_}
 use Prim.Native.Nat.{ℕ, suc, _<_}
 use native.Mathlib.Omega.{arith}
 use lib.Dec.{lit<}
-use lib.ListN.{length, getD}
+use lib.ListN.{length, getD, List·getD-append}
 use lib.Seq.{ext-getD}
 use Rattle.csn1.specs.Told.{isOne, asBit}
 use Rattle.csn1.proofs.Writing.{flag-back}
@@ -64,13 +64,19 @@ same-record r s p = λ i.
           };
     }
 
--- an entry is its key, its number and those of its record
-same-told : (a b : Told) → ((n : ℕ) → n < 32 → getD (toldNumbers a) n 0 ≡ getD (toldNumbers b) n 0) → a ≡ b
+-- its record's numbers stand among its own
+of-record : (t : Told) (n : ℕ) → n < 30 → getD (recordNumbers (t .«record»)) n 0 ≡ getD (toldNumbers t) (suc (suc n)) 0
+of-record t n h = sym (List·getD-append (recordNumbers (t .«record»)) (t .follow ∷ t .kept ∷ []) 0 n h)
+
+-- an entry is its key, its number, those of its record, and whether it can be followed
+same-told : (a b : Told) → ((n : ℕ) → n < 34 → getD (toldNumbers a) n 0 ≡ getD (toldNumbers b) n 0) → a ≡ b
 same-told a b p = λ i.
     record {
       key = p 0 (lit< tt) i;
       number = p 1 (lit< tt) i;
-      «record» = same-record (a .«record») (b .«record») (λ n h. p (suc (suc n)) (omega arith)) i;
+      «record» = same-record (a .«record») (b .«record») (λ n h. of-record a n h ∙ p (suc (suc n)) (omega arith) ∙ sym (of-record b n h)) i;
+      follow = p 32 (lit< tt) i;
+      kept = p 33 (lit< tt) i;
     }
 
 -- an answer is its three numbers and its entries

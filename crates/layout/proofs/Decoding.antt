@@ -1,7 +1,7 @@
 -- What octets are read as after each write. Assumes nothing.
 use mathlib.Core.Path.{_≡_, refl, ap, ap₂, sym, _∙_}
 use mathlib.Core.Bool.{Bool, true, false, not}
-use mathlib.Core.List.{List, [], _++_, append-assoc, append-nil}
+use mathlib.Core.List.{List, [], _∷_, _++_, append-assoc, append-nil}
 use Prim.Native.Nat.{ℕ, _+_, _*_, _^_, _≤_, _<_}
 use native.Mathlib.Nat.{add-zero, zero-add}
 use native.Mathlib.Omega.{arith}
@@ -23,8 +23,8 @@ use Rattle.receiver.specs.Model.{noRecord, emptySlot, remade, withSlots}
 use Rattle.receiver.specs.Step.{mostEntries, noTold}
 use Rattle.receiver.proofs.Cases.{by-test}
 use Rattle.layout.specs.Octets.{leAt, flagAt, lowOctets, tabulate}
-use Rattle.layout.specs.Layout.{tickFrom, timersFrom, cellFrom, countFrom, keysFrom, kindsFrom, recordSize, answerFrom, toldLength, stateLength, recordAt, entryFlags, messageFlags, smallNumbers, wideOctets, recordOctets, kindPlace, sincePlace, recordPlace, slotNo, keyNo, cellAt, cellOctets, decodeOf, putSlot, toldPlace, carries, toldNo, lastOf, putNumber, putCarried, putTold, putHead}
-use Rattle.layout.proofs.Numbers.{length-octets, le-ext, le-stored, le-alone, le-before, le-set, length-table, getD-table, table-ext, table-set}
+use Rattle.layout.specs.Layout.{tickFrom, timersFrom, cellFrom, countFrom, keysFrom, setsFrom, kindsFrom, recordSize, answerFrom, toldLength, stateLength, recordAt, entryFlags, messageFlags, smallNumbers, wideOctets, recordOctets, kindPlace, sincePlace, recordPlace, slotNo, keyNo, setNo, cellAt, cellOctets, decodeOf, putSlot, toldPlace, carries, toldNo, lastOf, putNumber, putCarried, putTold, putHead}
+use Rattle.layout.proofs.Numbers.{length-octets, le-ext, le-stored, le-alone, le-before, length-table, getD-table, table-ext, table-set}
 use Rattle.layout.proofs.Wide.{Wide, wide-none}
 
 -- ## A record
@@ -206,23 +206,26 @@ told-like l l′ j e =
     let s : leAt 8 l′ (toldPlace j) ≡ leAt 8 l (toldPlace j) =
     le-ext 8 l′ l (toldPlace j) (toldPlace j) (λ m x. e (toldPlace j + m) (omega arith) (omega arith))
     in
-    let n : getD l′ (toldPlace j + 8) 0 ≡ getD l (toldPlace j + 8) 0 = e (toldPlace j + 8) (omega arith) (omega arith) in
+    let o : (m : ℕ) → m < toldLength → getD l′ (toldPlace j + m) 0 ≡ getD l (toldPlace j + m) 0 = λ m x. e (toldPlace j + m) (omega arith) (omega arith) in
     let r : recordAt l′ (toldPlace j + 16) ≡ recordAt l (toldPlace j + 16) =
     record-same l l′ (toldPlace j + 16) (λ k a b. e k (omega arith) (omega arith))
     in
-    simp (s, n, r)
+    simp (s, o 8 (lit< tt), o 9 (lit< tt), o 10 (lit< tt), r)
 
-keys-same : (l l′ : List ℕ) → ((j : ℕ) → keysFrom ≤ j → j < kindsFrom → getD l′ j 0 ≡ getD l j 0) → tabulate (keyNo l′) 0 keyCount ≡ tabulate (keyNo l) 0 keyCount
-keys-same l l′ e =
-    table-ext (keyNo l′) (keyNo l) 0 keyCount
-    (λ i a b. le-ext 4 l′ l (keysFrom + 4 * i) (keysFrom + 4 * i) (λ m x. e (keysFrom + 4 * i + m) (omega arith) (omega arith)))
+-- the keys, and their sets of group keys: a number for each key, from a place on
+pub numbers-same : (from : ℕ) (l l′ : List ℕ) → ((j : ℕ) → from ≤ j → j < from + 4 * keyCount → getD l′ j 0 ≡ getD l j 0)
+    → tabulate (λ i. leAt 4 l′ (from + 4 * i)) 0 keyCount ≡ tabulate (λ i. leAt 4 l (from + 4 * i)) 0 keyCount
+numbers-same from l l′ e =
+    table-ext (λ i. leAt 4 l′ (from + 4 * i)) (λ i. leAt 4 l (from + 4 * i)) 0 keyCount
+    (λ i a b. le-ext 4 l′ l (from + 4 * i) (from + 4 * i) (λ m x. e (from + 4 * i + m) (omega arith) (omega arith)))
 
 pub cell-same : (l l′ : List ℕ) → ((j : ℕ) → cellFrom ≤ j → j < countFrom → getD l′ j 0 ≡ getD l j 0) → cellAt l′ ≡ cellAt l
-cell-same l l′ e = λ i. record { nln = e cellFrom (omega arith) (omega arith) i }
+cell-same l l′ e = λ i.
+    record { nln = e cellFrom (omega arith) (omega arith) i; count = e (cellFrom + 1) (omega arith) (omega arith) i; bit = e (cellFrom + 2) (omega arith) (omega arith) i }
 
-pub same-receiver : (a b : Receiver) → a .slots ≡ b .slots → a .keys ≡ b .keys → a .keycount ≡ b .keycount → a .tick ≡ b .tick → a .t3206 ≡ b .t3206 → a .t3208 ≡ b .t3208
-    → a .t3210 ≡ b .t3210 → a .cell ≡ b .cell → a ≡ b
-same-receiver a b p q n r t u v w = λ i. record { slots = p i; keys = q i; keycount = n i; tick = r i; t3206 = t i; t3208 = u i; t3210 = v i; cell = w i }
+pub same-receiver : (a b : Receiver) → a .slots ≡ b .slots → a .keys ≡ b .keys → a .sets ≡ b .sets → a .keycount ≡ b .keycount → a .tick ≡ b .tick → a .t3206 ≡ b .t3206
+    → a .t3208 ≡ b .t3208 → a .t3210 ≡ b .t3210 → a .cell ≡ b .cell → a ≡ b
+same-receiver a b p q s n r t u v w = λ i. record { slots = p i; keys = q i; sets = s i; keycount = n i; tick = r i; t3206 = t i; t3208 = u i; t3210 = v i; cell = w i }
 
 -- the same slots and keys, and the same octets before the keys
 like-receiver : (l l′ : List ℕ) (ss : List Slot) → tabulate (slotNo l′) 0 places ≡ ss → ((j : ℕ) → j < kindsFrom → getD l′ j 0 ≡ getD l j 0)
@@ -230,8 +233,9 @@ like-receiver : (l l′ : List ℕ) (ss : List Slot) → tabulate (slotNo l′) 
 unfolding decodeOf
 like-receiver l l′ ss p e =
     let b : (n : ℕ) → n + 4 ≤ cellFrom → leAt 4 l′ n ≡ leAt 4 l n = λ n h. le-ext 4 l′ l n n (λ m x. e (n + m) (omega arith)) in
-    same-receiver (decodeOf l′) (withSlots (decodeOf l) ss) p (keys-same l l′ (λ j x y. e j y)) (e countFrom (omega arith)) (b tickFrom (omega arith)) (b timersFrom (omega arith))
-    (b (timersFrom + 4) (omega arith)) (b (timersFrom + 8) (omega arith)) (cell-same l l′ (λ j x y. e j (omega arith)))
+    same-receiver (decodeOf l′) (withSlots (decodeOf l) ss) p (numbers-same keysFrom l l′ (λ j x y. e j (omega arith))) (numbers-same setsFrom l l′ (λ j x y. e j y))
+    (e countFrom (omega arith)) (b tickFrom (omega arith)) (b timersFrom (omega arith)) (b (timersFrom + 4) (omega arith)) (b (timersFrom + 8) (omega arith))
+    (cell-same l l′ (λ j x y. e j (omega arith)))
 
 -- all octets but those of place i
 Elsewhere : ℕ → List ℕ → List ℕ → Type 0
@@ -280,6 +284,10 @@ key-of l i h = getD-table (keyNo l) 0 keyCount i 0 h ∙ ap (keyNo l) (zero-add 
 pub slots-length : (l : List ℕ) → length (decodeOf l .slots) ≡ places
 unfolding decodeOf
 slots-length l = length-table (slotNo l) 0 places
+
+pub set-of : (l : List ℕ) (i : ℕ) → i < keyCount → getD (decodeOf l .sets) i 0 ≡ setNo l i
+unfolding decodeOf
+set-of l i h = getD-table (setNo l) 0 keyCount i 0 h ∙ ap (setNo l) (zero-add i)
 
 pub keys-length : (l : List ℕ) → length (decodeOf l .keys) ≡ keyCount
 unfolding decodeOf
@@ -388,81 +396,99 @@ told-put l i s j h =
 
 -- ## An entry's answer is written
 
-pub told-with : (l : List ℕ) (j : ℕ) (t : Told) → carries (t .number) ≡ true → putTold l j t ≡ putCarried l j (t .key) (t .number) (t .«record»)
+pub told-with : (l : List ℕ) (j : ℕ) (t : Told) → carries (t .number) ≡ true → putTold l j t ≡ putCarried l j t
 unfolding putTold
 told-with l j t p = simp p
 
-pub told-without : (l : List ℕ) (j : ℕ) (t : Told) → carries (t .number) ≡ false → putTold l j t ≡ putNumber l j (t .key) (t .number)
+pub told-without : (l : List ℕ) (j : ℕ) (t : Told) → carries (t .number) ≡ false → putTold l j t ≡ putNumber l j t
 unfolding putTold
 told-without l j t p = simp p
 
 -- what holds of both, and of an entry as it is
-by-told : (P : List ℕ → Type 0) (l : List ℕ) (j : ℕ) (t : Told) → (carries (t .number) ≡ true → P (putCarried l j (t .key) (t .number) (t .«record»)))
-    → (carries (t .number) ≡ false → P (putNumber l j (t .key) (t .number))) → P (putTold l j t)
+by-told : (P : List ℕ → Type 0) (l : List ℕ) (j : ℕ) (t : Told) → (carries (t .number) ≡ true → P (putCarried l j t))
+    → (carries (t .number) ≡ false → P (putNumber l j t)) → P (putTold l j t)
 by-told P l j t a b = by-test (carries (t .number)) (λ p. rw (told-with l j t p) (a p)) (λ p. rw (told-without l j t p) (b p))
 
-module _ (l : List ℕ) (j key number : ℕ) where
-  length-number : length (putNumber l j key number) ≡ length l
-  unfolding putNumber
-  length-number = length-set (stored l (toldPlace j) (lowOctets 8 key)) (toldPlace j + 8) number ∙ length-stored l (toldPlace j) (lowOctets 8 key)
+module _ (l : List ℕ) (j : ℕ) (t : Told) where
+  abbrev keyed : List ℕ
+  keyed = stored l (toldPlace j) (lowOctets 8 (t .key))
 
-  number-elsewhere : (k : ℕ) → (toldPlace j ≤ k → toldPlace j + toldLength ≤ k) → getD (putNumber l j key number) k 0 ≡ getD l k 0
+  abbrev three : List ℕ
+  three = t .number ∷ t .follow ∷ t .kept ∷ []
+
+  length-keyed : length keyed ≡ length l
+  length-keyed = length-stored l (toldPlace j) (lowOctets 8 (t .key))
+
+  length-number : length (putNumber l j t) ≡ length l
+  unfolding putNumber
+  length-number = length-stored keyed (toldPlace j + 8) three ∙ length-keyed
+
+  number-elsewhere : (k : ℕ) → (toldPlace j ≤ k → toldPlace j + toldLength ≤ k) → getD (putNumber l j t) k 0 ≡ getD l k 0
   unfolding putNumber
   number-elsewhere k q =
-      getD-set-other (stored l (toldPlace j) (lowOctets 8 key)) (toldPlace j + 8) k number 0 (λ e. omega (arith, q (omega arith)))
-      ∙ stored-outside l (toldPlace j) (lowOctets 8 key) 8 k (length-octets 8 key) (λ x. omega (arith, q x))
+      stored-outside keyed (toldPlace j + 8) three 3 k refl (λ x. omega (arith, q (omega arith)))
+      ∙ stored-outside l (toldPlace j) (lowOctets 8 (t .key)) 8 k (length-octets 8 (t .key)) (λ x. omega (arith, q x))
 
-  module _ (e : Record) where
-    length-carried : length (putCarried l j key number e) ≡ length l
-    unfolding putCarried
-    length-carried = length-stored (putNumber l j key number) (toldPlace j + 16) (recordOctets e) ∙ length-number
+  length-carried : length (putCarried l j t) ≡ length l
+  unfolding putCarried
+  length-carried = length-stored (putNumber l j t) (toldPlace j + 16) (recordOctets (t .«record»)) ∙ length-number
 
-    carried-elsewhere : (k : ℕ) → (toldPlace j ≤ k → toldPlace j + toldLength ≤ k) → getD (putCarried l j key number e) k 0 ≡ getD l k 0
-    unfolding putCarried
-    carried-elsewhere k q =
-        stored-outside (putNumber l j key number) (toldPlace j + 16) (recordOctets e) recordSize k (length-record e) (λ x. omega (arith, q (omega arith)))
-        ∙ number-elsewhere k q
+  carried-elsewhere : (k : ℕ) → (toldPlace j ≤ k → toldPlace j + toldLength ≤ k) → getD (putCarried l j t) k 0 ≡ getD l k 0
+  unfolding putCarried
+  carried-elsewhere k q =
+      stored-outside (putNumber l j t) (toldPlace j + 16) (recordOctets (t .«record»)) recordSize k (length-record (t .«record»)) (λ x. omega (arith, q (omega arith)))
+      ∙ number-elsewhere k q
 
   module _ (n : length l ≡ stateLength) (h : j < mostEntries) where
-    number-key : key < 18446744073709551616 → leAt 8 (putNumber l j key number) (toldPlace j) ≡ key
+    number-key : t .key < 18446744073709551616 → leAt 8 (putNumber l j t) (toldPlace j) ≡ t .key
     unfolding putNumber
     number-key lt =
-        le-set 8 (stored l (toldPlace j) (lowOctets 8 key)) (toldPlace j + 8) number (toldPlace j) (λ x. omega arith)
-        ∙ le-alone 8 key l (toldPlace j) (omega arith) lt
+        le-before 8 keyed (toldPlace j + 8) three (toldPlace j) (omega arith)
+        ∙ le-alone 8 (t .key) l (toldPlace j) (omega arith) lt
 
-    number-number : getD (putNumber l j key number) (toldPlace j + 8) 0 ≡ number
+    -- the number told, and the two beside it
+    number-three : (k at v : ℕ) → at ≡ toldPlace j + 8 + k → k < 3 → getD three k 0 ≡ v → getD (putNumber l j t) at 0 ≡ v
     unfolding putNumber
-    number-number =
-        getD-set-same (stored l (toldPlace j) (lowOctets 8 key)) (toldPlace j + 8) number 0 (rw (length-stored l (toldPlace j) (lowOctets 8 key)) (omega arith))
+    number-three k at v e lt q =
+        ap (λ (m : ℕ). getD (stored keyed (toldPlace j + 8) three) m 0) e
+        ∙ stored-in keyed (toldPlace j + 8) three k (omega (arith, length-keyed)) lt
+        ∙ q
 
-    told-bare : carries number ≡ false → key < 18446744073709551616
-        → toldNo (putNumber l j key number) j ≡ record { key = key; number = number; «record» = noRecord }
+    told-bare : carries (t .number) ≡ false → t .key < 18446744073709551616
+        → toldNo (putNumber l j t) j ≡ record { key = t .key; number = t .number; «record» = noRecord; follow = t .follow; kept = t .kept }
     unfolding toldNo
-    told-bare p lt = simp (number-key lt, number-number, p)
+    told-bare p lt =
+        let a = number-three 0 (toldPlace j + 8) (t .number) (omega arith) (lit< tt) refl in
+        let b = number-three 1 (toldPlace j + 9) (t .follow) (omega arith) (lit< tt) refl in
+        let c = number-three 2 (toldPlace j + 10) (t .kept) (omega arith) (lit< tt) refl in
+        simp (number-key lt, a, b, c, p)
 
-    told-carried : (e : Record) → carries number ≡ true → key < 18446744073709551616 → Wide e
-        → toldNo (putCarried l j key number e) j ≡ record { key = key; number = number; «record» = e }
-    unfolding toldNo putCarried
-    told-carried e p lt w =
-        let k : leAt 8 (putCarried l j key number e) (toldPlace j) ≡ key =
-        le-before 8 (putNumber l j key number) (toldPlace j + 16) (recordOctets e) (toldPlace j) (omega arith) ∙ number-key lt
-        in
-        let m : getD (putCarried l j key number e) (toldPlace j + 8) 0 ≡ number =
-        stored-before (putNumber l j key number) (toldPlace j + 16) (recordOctets e) (toldPlace j + 8) (omega arith) ∙ number-number
-        in
-        let r : recordAt (putCarried l j key number e) (toldPlace j + 16) ≡ e =
-        record-back (putNumber l j key number) (toldPlace j + 16) e (rw length-number (omega arith)) w
-        in
-        simp (k, m, r, p)
+    carried-three : (k at v : ℕ) → at ≡ toldPlace j + 8 + k → k < 3 → getD three k 0 ≡ v → getD (putCarried l j t) at 0 ≡ v
+    unfolding putCarried
+    carried-three k at v e lt q =
+        stored-before (putNumber l j t) (toldPlace j + 16) (recordOctets (t .«record»)) at (omega arith) ∙ number-three k at v e lt q
+
+    carried-record : Wide (t .«record») → recordAt (putCarried l j t) (toldPlace j + 16) ≡ t .«record»
+    unfolding putCarried
+    carried-record w = record-back (putNumber l j t) (toldPlace j + 16) (t .«record») (rw length-number (omega arith)) w
+
+    carried-key : t .key < 18446744073709551616 → leAt 8 (putCarried l j t) (toldPlace j) ≡ t .key
+    unfolding putCarried
+    carried-key lt = le-before 8 (putNumber l j t) (toldPlace j + 16) (recordOctets (t .«record»)) (toldPlace j) (omega arith) ∙ number-key lt
+
+    told-carried : carries (t .number) ≡ true → t .key < 18446744073709551616 → Wide (t .«record») → toldNo (putCarried l j t) j ≡ t
+    unfolding toldNo
+    told-carried p lt w =
+        let a = carried-three 0 (toldPlace j + 8) (t .number) (omega arith) (lit< tt) refl in
+        let b = carried-three 1 (toldPlace j + 9) (t .follow) (omega arith) (lit< tt) refl in
+        let c = carried-three 2 (toldPlace j + 10) (t .kept) (omega arith) (lit< tt) refl in
+        simp (carried-key lt, a, b, c, carried-record w, p)
 
 pub length-told : (l : List ℕ) (j : ℕ) (t : Told) → length (putTold l j t) ≡ length l
-length-told l j t =
-    by-told (λ (x : List ℕ). length x ≡ length l) l j t (λ p. length-carried l j (t .key) (t .number) (t .«record»)) (λ p. length-number l j (t .key) (t .number))
+length-told l j t = by-told (λ (x : List ℕ). length x ≡ length l) l j t (λ p. length-carried l j t) (λ p. length-number l j t)
 
 pub told-elsewhere : (l : List ℕ) (j : ℕ) (t : Told) (k : ℕ) → (toldPlace j ≤ k → toldPlace j + toldLength ≤ k) → getD (putTold l j t) k 0 ≡ getD l k 0
-told-elsewhere l j t k q =
-    by-told (λ (x : List ℕ). getD x k 0 ≡ getD l k 0) l j t (λ p. carried-elsewhere l j (t .key) (t .number) (t .«record») k q)
-    (λ p. number-elsewhere l j (t .key) (t .number) k q)
+told-elsewhere l j t k q = by-told (λ (x : List ℕ). getD x k 0 ≡ getD l k 0) l j t (λ p. carried-elsewhere l j t k q) (λ p. number-elsewhere l j t k q)
 
 pub decode-told : (l : List ℕ) (j : ℕ) (t : Told) → j < mostEntries → decodeOf (putTold l j t) ≡ decodeOf l
 decode-told l j t h = decode-same l (putTold l j t) (λ k a. told-elsewhere l j t k (λ q. omega arith))
@@ -470,11 +496,11 @@ decode-told l j t h = decode-same l (putTold l j t) (λ k a. told-elsewhere l j 
 pub told-other : (l : List ℕ) (j k : ℕ) (t : Told) → j < mostEntries → (k ≡ j → ⊥) → toldNo (putTold l j t) k ≡ toldNo l k
 told-other l j k t h z = told-like l (putTold l j t) k (λ m a b. told-elsewhere l j t m (λ q. omega arith))
 
-pub told-same : (l : List ℕ) (j : ℕ) (t : Told) → length l ≡ stateLength → j < mostEntries → t .key < 18446744073709551616 → t .number < 256 → Wide (t .«record»)
+pub told-same : (l : List ℕ) (j : ℕ) (t : Told) → length l ≡ stateLength → j < mostEntries → t .key < 18446744073709551616 → Wide (t .«record»)
     → (carries (t .number) ≡ false → t .«record» ≡ noRecord) → toldNo (putTold l j t) j ≡ t
-told-same l j t n h lt b w z =
-    by-told (λ (x : List ℕ). toldNo x j ≡ t) l j t (λ p. told-carried l j (t .key) (t .number) n h (t .«record») p lt w)
-    (λ p. told-bare l j (t .key) (t .number) n h p lt ∙ (λ i. record { key = t .key; number = t .number; «record» = sym (z p) i }))
+told-same l j t n h lt w z =
+    by-told (λ (x : List ℕ). toldNo x j ≡ t) l j t (λ p. told-carried l j t n h p lt w)
+    (λ p. told-bare l j t n h p lt ∙ (λ i. record { key = t .key; number = t .number; «record» = sym (z p) i; follow = t .follow; kept = t .kept }))
 
 -- ## The tick, what is known of the cell, and the answer's numbers
 
@@ -483,7 +509,9 @@ pub cell-fits : (c : Cell) → cellFrom + length (cellOctets c) ≤ countFrom
 cell-fits c = omega arith
 
 pub cell-back : (l : List ℕ) (c : Cell) → keysFrom ≤ length l → cellAt (stored l cellFrom (cellOctets c)) ≡ c
-cell-back l c h = λ i. record { nln = stored-in l cellFrom (cellOctets c) 0 (omega arith) (omega arith) i }
+cell-back l c h =
+    let o : (k : ℕ) → k < 3 → getD (stored l cellFrom (cellOctets c)) (cellFrom + k) 0 ≡ getD (cellOctets c) k 0 = λ k x. stored-in l cellFrom (cellOctets c) k (omega arith) x in
+    λ i. record { nln = o 0 (lit< tt) i; count = o 1 (lit< tt) i; bit = o 2 (lit< tt) i }
 
 module _ (l : List ℕ) (tick : ℕ) (cell : Cell) (x d n : ℕ) where
   abbrev ticked : List ℕ
@@ -538,7 +566,8 @@ module _ (l : List ℕ) (tick : ℕ) (cell : Cell) (x d n : ℕ) where
       in
       same-receiver (decodeOf k) (remade (decodeOf l) (decodeOf l .slots) tick cell)
       (slots-same l k (λ j a b. head-elsewhere j (omega arith) (λ q. omega arith) (λ q. omega arith)))
-      (keys-same l k (λ j a b. head-elsewhere j (omega arith) (λ q. omega arith) (λ q. omega arith)))
+      (numbers-same keysFrom l k (λ j a b. head-elsewhere j (omega arith) (λ q. omega arith) (λ q. omega arith)))
+      (numbers-same setsFrom l k (λ j a b. head-elsewhere j (omega arith) (λ q. omega arith) (λ q. omega arith)))
       (head-elsewhere countFrom (omega arith) (λ q. omega arith) (λ q. omega arith))
       (head-tick m lt) (timer timersFrom (omega arith) (omega arith)) (timer (timersFrom + 4) (omega arith) (omega arith)) (timer (timersFrom + 8) (omega arith) (omega arith))
       (head-cell m)

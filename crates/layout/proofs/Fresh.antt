@@ -14,13 +14,14 @@ use Rattle.arrays.specs.Runs.{stored}
 use Rattle.arrays.proofs.Running.{length-stored, stored-before, stored-after, stored-in, stored-then}
 use Rattle.receiver.specs.declared.Setup.{Setup}
 use Rattle.receiver.specs.Channels.{keyCount, places}
-use Rattle.receiver.specs.Model.{emptySlot, noCell, newReceiver, keyPlaces}
+use Rattle.csn1.specs.Told.{padded}
+use Rattle.receiver.specs.Model.{emptySlot, noCell, noKey, newReceiver, keyPlaces, setPlaces}
 use Rattle.receiver.specs.Step.{mostEntries, noTold}
 use Rattle.layout.specs.Octets.{leAt, lowOctets, tabulate}
-use Rattle.layout.specs.Layout.{tickFrom, cellFrom, countFrom, markFrom, keysFrom, kindsFrom, answerFrom, stateLength, markOctets, isMarked, kindPlace, slotNo, keyNo, cellAt, cellOctets, decodeOf, toldNo, lastOf, keysOctets, freshOctets}
+use Rattle.layout.specs.Layout.{tickFrom, cellFrom, countFrom, markFrom, keysFrom, setsFrom, kindsFrom, answerFrom, stateLength, markOctets, isMarked, kindPlace, slotNo, keyNo, setNo, cellAt, cellOctets, decodeOf, toldNo, lastOf, keysOctets, freshOctets}
 use Rattle.layout.specs.Setup.{noAnswer}
 use Rattle.layout.proofs.Numbers.{length-octets, le-ext, le-zero, le-alone, le-before, le-set, table-ext, table-same, table-list}
-use Rattle.layout.proofs.Decoding.{field, cell-same, same-receiver, slot-empty, cell-fits, cell-back}
+use Rattle.layout.proofs.Decoding.{field, numbers-same, cell-same, same-receiver, slot-empty, cell-fits, cell-back}
 
 -- ## The keys
 
@@ -45,17 +46,29 @@ key-back l at (k ∷ ks) (suc i) h b lt =
     rw (keys-then l at k ks, q)
     (key-back (stored l at (lowOctets 4 k)) (at + 4) ks i (rw (length-stored l at (lowOctets 4 k)) (omega arith)) (λ j. b (suc j)) (omega arith))
 
-pub length-places : (n : ℕ) (ks : List ℕ) → length (keyPlaces n ks) ≡ n
-length-places zero ks = refl
-length-places (suc n) [] = ap suc (length-places n [])
-length-places (suc n) (k ∷ ks) = ap suc (length-places n ks)
+-- u: what an unused place holds
+module _ (u : ℕ) where
+  pub length-places : (n : ℕ) (ks : List ℕ) → length (padded u n ks) ≡ n
+  length-places zero ks = refl
+  length-places (suc n) [] = ap suc (length-places n [])
+  length-places (suc n) (k ∷ ks) = ap suc (length-places n ks)
 
-places-below : (n : ℕ) (ks : List ℕ) → ((j : ℕ) → getD ks j 0 < 4294967296) → (j : ℕ) → getD (keyPlaces n ks) j 0 < 4294967296
-places-below zero ks b j = lit< tt
-places-below (suc n) [] b zero = lit< tt
-places-below (suc n) [] b (suc j) = places-below n [] b j
-places-below (suc n) (k ∷ ks) b zero = b 0
-places-below (suc n) (k ∷ ks) b (suc j) = places-below n ks (λ i. b (suc i)) j
+  places-below : u < 4294967296 → (n : ℕ) (ks : List ℕ) → ((j : ℕ) → getD ks j 0 < 4294967296) → (j : ℕ) → getD (padded u n ks) j 0 < 4294967296
+  places-below h zero ks b j = lit< tt
+  places-below h (suc n) [] b zero = h
+  places-below h (suc n) [] b (suc j) = places-below h n [] b j
+  places-below h (suc n) (k ∷ ks) b zero = b 0
+  places-below h (suc n) (k ∷ ks) b (suc j) = places-below h n ks (λ i. b (suc i)) j
+
+  -- all of them, stored from a place on, read back
+  numbers-on : u < 4294967296 → (l : List ℕ) (at : ℕ) (ks : List ℕ) → at + 4 * keyCount ≤ length l → ((j : ℕ) → getD ks j 0 < 4294967296)
+      → tabulate (λ i. leAt 4 (stored l at (keysOctets (padded u keyCount ks))) (at + 4 * i)) 0 keyCount ≡ padded u keyCount ks
+  numbers-on h l at ks w b =
+      let vs = keysOctets (padded u keyCount ks) in
+      table-list (λ i. leAt 4 (stored l at vs) (at + 4 * i)) 0 0 keyCount (padded u keyCount ks) (length-places keyCount ks)
+      (λ i x.
+      ap (λ (k : ℕ). leAt 4 (stored l at vs) (at + 4 * k)) (zero-add i)
+      ∙ key-back l at (padded u keyCount ks) i (rw (length-places keyCount ks) w) (places-below h keyCount ks b) (rw (length-places keyCount ks) x))
 
 -- ## All octets, over octets that are all 0
 
@@ -64,7 +77,7 @@ zeros zero j = refl
 zeros (suc n) zero = refl
 zeros (suc n) (suc j) = zeros n j
 
-module _ (z : List ℕ) (s : Setup) (keys : List ℕ) where
+module _ (z : List ℕ) (s : Setup) (keys sets : List ℕ) where
   abbrev times : List ℕ
   times = lowOctets 4 (s .tick) ++ (lowOctets 4 (s .t3206) ++ (lowOctets 4 (s .t3208) ++ lowOctets 4 (s .t3210)))
 
@@ -83,8 +96,14 @@ module _ (z : List ℕ) (s : Setup) (keys : List ℕ) where
   abbrev written : List ℕ
   written = keysOctets (keyPlaces keyCount keys)
 
+  abbrev subscribed : List ℕ
+  subscribed = stored marked keysFrom written
+
+  abbrev grouped : List ℕ
+  grouped = keysOctets (setPlaces keyCount sets)
+
   abbrev fresh : List ℕ
-  fresh = stored marked keysFrom written
+  fresh = stored subscribed setsFrom grouped
 
   length-celled : length celled ≡ length z
   length-celled = length-stored timed cellFrom (cellOctets noCell) ∙ length-stored z tickFrom times
@@ -98,22 +117,30 @@ module _ (z : List ℕ) (s : Setup) (keys : List ℕ) where
   length-times : tickFrom + length times ≡ cellFrom
   length-times = simp (length-append, length-octets)
 
-  length-written : keysFrom + length written ≡ kindsFrom
-  length-written = ap (λ (n : ℕ). keysFrom + n) (length-keys (keyPlaces keyCount keys) ∙ ap (λ (n : ℕ). 4 * n) (length-places keyCount keys))
+  length-written : keysFrom + length written ≡ setsFrom
+  length-written = ap (λ (n : ℕ). keysFrom + n) (length-keys (keyPlaces keyCount keys) ∙ ap (λ (n : ℕ). 4 * n) (length-places noKey keyCount keys))
+
+  length-grouped : setsFrom + length grouped ≡ kindsFrom
+  length-grouped = ap (λ (n : ℕ). setsFrom + n) (length-keys (setPlaces keyCount sets) ∙ ap (λ (n : ℕ). 4 * n) (length-places 0 keyCount sets))
+
+  length-subscribed : length subscribed ≡ length z
+  length-subscribed = length-stored marked keysFrom written ∙ length-marked
 
   length-on : length fresh ≡ length z
-  length-on = length-stored marked keysFrom written ∙ length-marked
+  length-on = length-stored subscribed setsFrom grouped ∙ length-subscribed
 
   mark-on : length z ≡ stateLength → leAt 4 fresh markFrom ≡ leAt 4 markOctets 0
   mark-on m =
-      le-before 4 marked keysFrom written markFrom (omega arith)
+      le-before 4 subscribed setsFrom grouped markFrom (omega arith)
+      ∙ le-before 4 marked keysFrom written markFrom (omega arith)
       ∙ le-ext 4 marked markOctets markFrom 0
       (λ i h. stored-in counted markFrom markOctets i (omega (arith, length-counted)) (omega arith) ∙ ap (λ (k : ℕ). getD markOctets k 0) (sym (zero-add i)))
 
   module _ (o : (j : ℕ) → getD z j 0 ≡ 0) where
     behind : (j : ℕ) → kindsFrom ≤ j → getD fresh j 0 ≡ 0
     behind j h =
-        stored-after marked keysFrom written j (omega (arith, length-written))
+        stored-after subscribed setsFrom grouped j (omega (arith, length-grouped))
+        ∙ stored-after marked keysFrom written j (omega (arith, length-written))
         ∙ stored-after counted markFrom markOctets j (omega arith)
         ∙ getD-set-other celled countFrom j (length keys) 0 (λ e. omega arith)
         ∙ stored-after timed cellFrom (cellOctets noCell) j (omega (arith, cell-fits noCell))
@@ -130,11 +157,12 @@ module _ (z : List ℕ) (s : Setup) (keys : List ℕ) where
         in
         λ i. record { expired = n answerFrom (omega arith) i; dropped = n (answerFrom + 4) (omega arith) i; count = n (answerFrom + 8) (omega arith) i; entries = e i }
 
-    module _ (m : length z ≡ stateLength) (b : (j : ℕ) → getD keys j 0 < 4294967296) where
+    module _ (m : length z ≡ stateLength) (b : (j : ℕ) → getD keys j 0 < 4294967296) (g : (j : ℕ) → getD sets j 0 < 4294967296) where
       time-on : (x : ℕ) (p q : List ℕ) (k n : ℕ) → times ≡ p ++ lowOctets 4 x ++ q → length p ≡ k → length q ≡ n → k + 4 + n ≡ cellFrom → x < 4294967296
           → leAt 4 fresh (tickFrom + k) ≡ x
       time-on x p q k n e u v w lt =
-          le-before 4 marked keysFrom written (tickFrom + k) (omega arith)
+          le-before 4 subscribed setsFrom grouped (tickFrom + k) (omega arith)
+          ∙ le-before 4 marked keysFrom written (tickFrom + k) (omega arith)
           ∙ le-before 4 counted markFrom markOctets (tickFrom + k) (omega arith)
           ∙ le-set 4 celled countFrom (length keys) (tickFrom + k) (λ e. omega arith)
           ∙ le-before 4 timed cellFrom (cellOctets noCell) (tickFrom + k) (omega arith)
@@ -142,33 +170,35 @@ module _ (z : List ℕ) (s : Setup) (keys : List ℕ) where
 
       keys-on : tabulate (keyNo fresh) 0 keyCount ≡ keyPlaces keyCount keys
       keys-on =
-          table-list (keyNo fresh) 0 0 keyCount (keyPlaces keyCount keys) (length-places keyCount keys)
-          (λ i h.
-          ap (keyNo fresh) (zero-add i)
-          ∙ key-back marked keysFrom (keyPlaces keyCount keys) i (rw (length-places keyCount keys) (omega (arith, length-marked)))
-          (places-below keyCount keys b) (rw (length-places keyCount keys) h))
+          numbers-same keysFrom subscribed fresh (λ j x y. stored-before subscribed setsFrom grouped j (omega arith))
+          ∙ numbers-on noKey (lit< tt) marked keysFrom keys (omega (arith, length-marked)) b
+
+      sets-on : tabulate (setNo fresh) 0 keyCount ≡ setPlaces keyCount sets
+      sets-on = numbers-on 0 (lit< tt) subscribed setsFrom sets (omega (arith, length-subscribed)) g
 
       cell-on : cellAt fresh ≡ noCell
       cell-on =
           cell-same celled fresh
           (λ j x y.
-          stored-before marked keysFrom written j (omega arith) ∙ stored-before counted markFrom markOctets j (omega arith)
+          stored-before subscribed setsFrom grouped j (omega arith) ∙ stored-before marked keysFrom written j (omega arith) ∙ stored-before counted markFrom markOctets j (omega arith)
           ∙ getD-set-other celled countFrom j (length keys) 0 (λ e. omega arith))
           ∙ cell-back timed noCell (rw (length-stored z tickFrom times) (omega arith))
 
       count-on : getD fresh countFrom 0 ≡ length keys
       count-on =
-          stored-before marked keysFrom written countFrom (omega arith)
+          stored-before subscribed setsFrom grouped countFrom (omega arith)
+          ∙ stored-before marked keysFrom written countFrom (omega arith)
           ∙ stored-before counted markFrom markOctets countFrom (omega arith)
           ∙ getD-set-same celled countFrom (length keys) 0 (omega (arith, length-celled))
 
       decode-on : s .tick < 4294967296 → s .t3206 < 4294967296 → s .t3208 < 4294967296 → s .t3210 < 4294967296
-          → decodeOf fresh ≡ newReceiver s (keyPlaces keyCount keys) (length keys)
+          → decodeOf fresh ≡ newReceiver s (keyPlaces keyCount keys) (setPlaces keyCount sets) (length keys)
       unfolding decodeOf
       decode-on u v w x =
-          same-receiver (decodeOf fresh) (newReceiver s (keyPlaces keyCount keys) (length keys))
+          same-receiver (decodeOf fresh) (newReceiver s (keyPlaces keyCount keys) (setPlaces keyCount sets) (length keys))
           (table-same (slotNo fresh) emptySlot 0 places (λ i a b. slot-empty fresh i (behind (kindPlace i) (omega arith))))
           keys-on
+          sets-on
           count-on
           (time-on (s .tick) [] (lowOctets 4 (s .t3206) ++ (lowOctets 4 (s .t3208) ++ lowOctets 4 (s .t3210))) 0 12 refl refl (simp (length-append, length-octets)) refl u)
           (time-on (s .t3206) (lowOctets 4 (s .tick)) (lowOctets 4 (s .t3208) ++ lowOctets 4 (s .t3210)) 4 8 (simp append-assoc) (length-octets 4 _)
@@ -181,25 +211,26 @@ module _ (z : List ℕ) (s : Setup) (keys : List ℕ) where
 
 -- ## A setup's octets
 
-module _ (s : Setup) (keys : List ℕ) where
-  pub length-fresh : length (freshOctets s keys) ≡ stateLength
+module _ (s : Setup) (keys sets : List ℕ) where
+  pub length-fresh : length (freshOctets s keys sets) ≡ stateLength
   unfolding freshOctets
-  length-fresh = length-on (replicate stateLength 0) s keys ∙ length-replicate {A = ℕ} stateLength 0
+  length-fresh = length-on (replicate stateLength 0) s keys sets ∙ length-replicate {A = ℕ} stateLength 0
 
-  mark-read : leAt 4 (freshOctets s keys) markFrom ≡ leAt 4 markOctets 0
+  mark-read : leAt 4 (freshOctets s keys sets) markFrom ≡ leAt 4 markOctets 0
   unfolding freshOctets
-  mark-read = mark-on (replicate stateLength 0) s keys (length-replicate {A = ℕ} stateLength 0)
+  mark-read = mark-on (replicate stateLength 0) s keys sets (length-replicate {A = ℕ} stateLength 0)
 
-  pub mark-fresh : isMarked (freshOctets s keys) ≡ true
+  pub mark-fresh : isMarked (freshOctets s keys sets) ≡ true
   unfolding isMarked
   mark-fresh =
-      rw (eq-eqb (length (freshOctets s keys)) stateLength length-fresh) (eq-eqb (leAt 4 (freshOctets s keys) markFrom) (leAt 4 markOctets 0) mark-read)
+      rw (eq-eqb (length (freshOctets s keys sets)) stateLength length-fresh) (eq-eqb (leAt 4 (freshOctets s keys sets) markFrom) (leAt 4 markOctets 0) mark-read)
 
-  pub last-fresh : lastOf (freshOctets s keys) ≡ noAnswer
+  pub last-fresh : lastOf (freshOctets s keys sets) ≡ noAnswer
   unfolding freshOctets
-  last-fresh = last-on (replicate stateLength 0) s keys (zeros stateLength)
+  last-fresh = last-on (replicate stateLength 0) s keys sets (zeros stateLength)
 
   pub decode-fresh : s .tick < 4294967296 → s .t3206 < 4294967296 → s .t3208 < 4294967296 → s .t3210 < 4294967296 → ((j : ℕ) → getD keys j 0 < 4294967296)
-      → decodeOf (freshOctets s keys) ≡ newReceiver s (keyPlaces keyCount keys) (length keys)
+      → ((j : ℕ) → getD sets j 0 < 4294967296)
+      → decodeOf (freshOctets s keys sets) ≡ newReceiver s (keyPlaces keyCount keys) (setPlaces keyCount sets) (length keys)
   unfolding freshOctets
-  decode-fresh u v w x b = decode-on (replicate stateLength 0) s keys (zeros stateLength) (length-replicate {A = ℕ} stateLength 0) b u v w x
+  decode-fresh u v w x b g = decode-on (replicate stateLength 0) s keys sets (zeros stateLength) (length-replicate {A = ℕ} stateLength 0) b g u v w x

@@ -1,12 +1,13 @@
 -- The numbers of a record and of the answer, by their part. Assumes nothing.
 use mathlib.Core.Path.{_≡_, refl, sym, ap, _∙_}
 use mathlib.Core.Bool.{Bool, true, false}
-use mathlib.Core.List.{List}
+use mathlib.Core.List.{List, [], _∷_}
 use Prim.Native.Nat.{ℕ, zero, suc, _+_, _-_, _*_, _≤_, _<_}
 use native.Mathlib.Nat.{add-assoc}
 use native.Mathlib.Omega.{arith}
 use lib.Dec.{ltb}
-use lib.ListN.{length, getD, replicate}
+use lib.ListN.{length, getD, replicate, List·getD-append}
+use lib.Seq.{getD-append-add}
 use borrow.Author.Tests.{lt-ltb, le-ltb, le-leb, lt-leb, ltb-true, ltb-false, eqb-true}
 use Rattle.bits.specs.Field.{pick}
 use Rattle.csn1.specs.Told.{asBit}
@@ -80,6 +81,19 @@ zeros (suc n) (suc p) = zeros n p
 none-part : (p : ℕ) → 0 ≡ getD (recordNumbers noRecord) p 0
 none-part p = zeros 30 p
 
+-- ## What stands beside the number told
+
+module _ (l : List ℕ) (at : ℕ) where
+  pub beside-at : (part : ℕ) → part < 2 → octetAt l (at + 9 + part) ≡ getD (octetAt l (at + 9) ∷ octetAt l (at + 10) ∷ []) part 0
+  beside-at zero h = ap (λ (k : ℕ). octetAt l k) (omega arith)
+  beside-at (suc zero) h = ap (λ (k : ℕ). octetAt l k) (omega arith)
+  beside-at (suc (suc n)) h = absurd (omega (arith, h))
+
+  pub beside-none : (part : ℕ) → 2 ≤ part → 0 ≡ getD (octetAt l (at + 9) ∷ octetAt l (at + 10) ∷ []) part 0
+  beside-none zero h = absurd (omega (arith, h))
+  beside-none (suc zero) h = absurd (omega (arith, h))
+  beside-none (suc (suc n)) h = refl
+
 -- ## An entry
 
 pub carries-low : (n : ℕ) → n < 1 → carries n ≡ false
@@ -108,21 +122,35 @@ module _ (l : List ℕ) (entry : ℕ) where
   unfolding toldNo
   told-with q = rw q
 
-  pub told-bare : (part : ℕ) → (part ≡ 0 → ⊥) → (part ≡ 1 → ⊥) → carries (octetAt l (toldPlace entry + 8)) ≡ false → 0 ≡ getD (toldNumbers (toldNo l entry)) part 0
-  told-bare zero a b q = absurd (a refl)
-  told-bare (suc zero) a b q = absurd (b refl)
-  told-bare (suc (suc p)) a b q = none-part p ∙ ap (λ (r : Record). getD (recordNumbers r) p 0) (sym (told-without q))
+  -- the numbers of its record, and what stands beside the number told
+  told-in : (p : ℕ) → p < 30 → getD (recordNumbers (toldNo l entry .«record»)) p 0 ≡ getD (toldNumbers (toldNo l entry)) (suc (suc p)) 0
+  told-in p h = sym (List·getD-append (recordNumbers (toldNo l entry .«record»)) (toldNo l entry .follow ∷ toldNo l entry .kept ∷ []) 0 p h)
+
+  pub told-beside : (part : ℕ) → 32 ≤ part
+      → getD (octetAt l (toldPlace entry + 9) ∷ octetAt l (toldPlace entry + 10) ∷ []) (part - 32) 0 ≡ getD (toldNumbers (toldNo l entry)) part 0
+  unfolding toldNo
+  told-beside part h =
+      let t = toldNo l entry in
+      let e : 32 + (part - 32) ≡ part = omega arith in
+      sym (getD-append-add (t .key ∷ t .number ∷ recordNumbers (t .«record»)) (t .follow ∷ t .kept ∷ []) (part - 32) 0)
+      ∙ ap (λ (n : ℕ). getD (toldNumbers t) n 0) e
+
+  pub told-bare : (part : ℕ) → (part ≡ 0 → ⊥) → (part ≡ 1 → ⊥) → part < 32 → carries (octetAt l (toldPlace entry + 8)) ≡ false → 0 ≡ getD (toldNumbers (toldNo l entry)) part 0
+  told-bare zero a b h q = absurd (a refl)
+  told-bare (suc zero) a b h q = absurd (b refl)
+  told-bare (suc (suc p)) a b h q = none-part p ∙ ap (λ (r : Record). getD (recordNumbers r) p 0) (sym (told-without q)) ∙ told-in p (omega arith)
 
   pub told-record : (part : ℕ)
       → (part ≡ 0 → ⊥)
       → (part ≡ 1 → ⊥)
+      → part < 32
       → carries (octetAt l (toldPlace entry + 8)) ≡ true
       → getD (recordNumbers (recordAt l (toldPlace entry + 16))) (part - 2) 0 ≡ getD (toldNumbers (toldNo l entry)) part 0
-  told-record zero a b q = absurd (a refl)
-  told-record (suc zero) a b q = absurd (b refl)
-  told-record (suc (suc p)) a b q =
+  told-record zero a b h q = absurd (a refl)
+  told-record (suc zero) a b h q = absurd (b refl)
+  told-record (suc (suc p)) a b h q =
       let e : suc (suc p) - 2 ≡ p = omega arith in
-      ap (λ (n : ℕ). getD (recordNumbers (recordAt l (toldPlace entry + 16))) n 0) e ∙ ap (λ (r : Record). getD (recordNumbers r) p 0) (told-with q)
+      ap (λ (n : ℕ). getD (recordNumbers (recordAt l (toldPlace entry + 16))) n 0) e ∙ ap (λ (r : Record). getD (recordNumbers r) p 0) (told-with q) ∙ told-in p (omega arith)
 
 -- ## The answer
 
@@ -155,7 +183,7 @@ module _ (l : List ℕ) (entry : ℕ) where
   last-none zero h q = absurd (omega (arith, h))
   last-none (suc zero) h q = absurd (omega (arith, h))
   last-none (suc (suc zero)) h q = absurd (omega (arith, h))
-  last-none (suc (suc (suc n))) h q = zeros 32 n ∙ ap (λ (t : Told). getD (toldNumbers t) n 0) (sym q)
+  last-none (suc (suc (suc n))) h q = zeros 34 n ∙ ap (λ (t : Told). getD (toldNumbers t) n 0) (sym q)
 
   pub last-beyond : (part : ℕ) → 3 ≤ part → mostEntries ≤ entry → 0 ≡ partOf (lastOf l) entry part
   last-beyond part h b = last-none part h (entry-beyond b)

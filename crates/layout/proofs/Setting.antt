@@ -10,13 +10,14 @@ use lib.Seq.{getD-set-same, getD-set-other, ext-getD, take-suc, take-all, length
 use borrow.Author.Tests.{ltb-true, ltb-false, eq-eqb, ne-eqb}
 use Rattle.csn1.specs.Format.{ground}
 use Rattle.arrays.specs.Runs.{stored}
-use Rattle.arrays.proofs.Running.{stored-one, more}
+use Rattle.arrays.proofs.Running.{more}
 use Rattle.receiver.specs.declared.Setup.{Setup}
 use Rattle.receiver.specs.Channels.{keyCount}
-use Rattle.receiver.specs.Model.{noCell, newReceiver, keyPlaces, setupRight, startedOf}
+use Rattle.csn1.specs.Told.{padded}
+use Rattle.receiver.specs.Model.{noCell, newReceiver, keyPlaces, setPlaces, setupRight, startedOf}
 use Rattle.receiver.proofs.Cases.{by-test}
 use Rattle.layout.specs.Octets.{leAt, lowOctets}
-use Rattle.layout.specs.Layout.{tickFrom, timersFrom, cellFrom, countFrom, markFrom, keysFrom, stateLength, isState, layoutNumber, markOctets, isMarked, cellOctets, decodeOf, keysOctets, freshOctets}
+use Rattle.layout.specs.Layout.{tickFrom, timersFrom, cellFrom, countFrom, markFrom, keysFrom, setsFrom, stateLength, isState, layoutNumber, markOctets, isMarked, cellOctets, decodeOf, keysOctets, freshOctets}
 use Rattle.layout.specs.Setup.{setupCode, setupOctets, SetUp}
 use Rattle.layout.proofs.States.{at-state, no-state}
 use Rattle.layout.proofs.Numbers.{length-octets, four-runs}
@@ -41,18 +42,20 @@ keys-one : (a : List ℕ) (k : ℕ) → keysOctets (a ++ (k ∷ [])) ≡ keysOct
 keys-one [] k = append-nil (lowOctets 4 k)
 keys-one (x ∷ a) k = ap (λ (r : List ℕ). lowOctets 4 x ++ r) (keys-one a k) ∙ sym (append-assoc (lowOctets 4 x) (keysOctets a) (lowOctets 4 k))
 
-pub place-here : (n : ℕ) (l : List ℕ) (i : ℕ) → i < n → i < length l → getD (keyPlaces n l) i 0 ≡ getD l i 0
-place-here zero l i h k = absurd (omega (arith, h))
-place-here (suc n) [] i h k = absurd (omega (arith, k))
-place-here (suc n) (x ∷ l) zero h k = refl
-place-here (suc n) (x ∷ l) (suc i) h k = place-here n l i (omega (arith, h)) (omega (arith, k))
+-- u: what an unused place holds
+module _ (u : ℕ) where
+  pub place-here : (n : ℕ) (l : List ℕ) (i : ℕ) → i < n → i < length l → getD (padded u n l) i 0 ≡ getD l i 0
+  place-here zero l i h k = absurd (omega (arith, h))
+  place-here (suc n) [] i h k = absurd (omega (arith, k))
+  place-here (suc n) (x ∷ l) zero h k = refl
+  place-here (suc n) (x ∷ l) (suc i) h k = place-here n l i (omega (arith, h)) (omega (arith, k))
 
-pub place-none : (n : ℕ) (l : List ℕ) (i : ℕ) → i < n → length l ≤ i → getD (keyPlaces n l) i 0 ≡ 4294967295
-place-none zero l i h k = absurd (omega (arith, h))
-place-none (suc n) [] zero h k = refl
-place-none (suc n) [] (suc i) h k = place-none n [] i (omega (arith, h)) (omega arith)
-place-none (suc n) (x ∷ l) zero h k = absurd (omega (arith, k))
-place-none (suc n) (x ∷ l) (suc i) h k = place-none n l i (omega (arith, h)) (omega (arith, k))
+  pub place-none : (n : ℕ) (l : List ℕ) (i : ℕ) → i < n → length l ≤ i → getD (padded u n l) i 0 ≡ u
+  place-none zero l i h k = absurd (omega (arith, h))
+  place-none (suc n) [] zero h k = refl
+  place-none (suc n) [] (suc i) h k = place-none n [] i (omega (arith, h)) (omega arith)
+  place-none (suc n) (x ∷ l) zero h k = absurd (omega (arith, k))
+  place-none (suc n) (x ∷ l) (suc i) h k = place-none n l i (omega (arith, h)) (omega (arith, k))
 
 -- the next key is stored behind those before it
 pub keys-next : (l b : List ℕ) (at : ℕ) (ks : List ℕ) (i k : ℕ)
@@ -72,62 +75,62 @@ keys-all ks i h = ap keysOctets (take-all i ks h)
 
 -- ## A setup
 
-module _ (l : List ℕ) (s : Setup) (keys : List ℕ) where
-  pub set-wrong : (length l ≡ stateLength → ⊥) → 13 ≡ setupCode l s keys
+module _ (l : List ℕ) (s : Setup) (keys sets : List ℕ) where
+  pub set-wrong : (length l ≡ stateLength → ⊥) → 13 ≡ setupCode l s keys sets
   unfolding setupCode
   set-wrong z = sym (no-state l _ 13 z)
 
-  set-state : length l ≡ stateLength → startedOf s keys .refusal .number ≡ setupCode l s keys
+  set-state : length l ≡ stateLength → startedOf s keys sets .refusal .number ≡ setupCode l s keys sets
   unfolding setupCode
   set-state w = sym (at-state l _ 13 w)
 
-  pub set-not-right : length l ≡ stateLength → setupRight s keys ≡ false → 10 ≡ setupCode l s keys
+  pub set-not-right : length l ≡ stateLength → setupRight s keys sets ≡ false → 10 ≡ setupCode l s keys sets
   unfolding startedOf ground
   set-not-right w p = rw p at (set-state w)
 
-  set-right : length l ≡ stateLength → setupRight s keys ≡ true → 0 ≡ setupCode l s keys
+  set-right : length l ≡ stateLength → setupRight s keys sets ≡ true → 0 ≡ setupCode l s keys sets
   unfolding startedOf
   set-right w p = rw p at (set-state w)
 
-  pub set-refused : (n : ℕ) → n ≡ setupCode l s keys → (n ≡ 0 → ⊥) → SetUp l s keys l n
+  pub set-refused : (n : ℕ) → n ≡ setupCode l s keys sets → (n ≡ 0 → ⊥) → SetUp l s keys sets l n
   unfolding setupOctets
   set-refused n q z =
-      let b : eqb (setupCode l s keys) 0 ≡ false = ne-eqb (setupCode l s keys) 0 (λ e. z (q ∙ e)) in
+      let b : eqb (setupCode l s keys sets) 0 ≡ false = ne-eqb (setupCode l s keys sets) 0 (λ e. z (q ∙ e)) in
       record { number = q; octets = rw b; receiver = λ e. absurd (z e); answer = λ e. absurd (z e) }
 
-  started-right : setupRight s keys ≡ true → newReceiver s (keyPlaces keyCount keys) (length keys) ≡ startedOf s keys .receiver
+  started-right : setupRight s keys sets ≡ true → newReceiver s (keyPlaces keyCount keys) (setPlaces keyCount sets) (length keys) ≡ startedOf s keys sets .receiver
   unfolding startedOf
   started-right p = rw p
 
   pub set-accepted : length l ≡ stateLength
-      → setupRight s keys ≡ true
-      → decodeOf (freshOctets s keys) ≡ newReceiver s (keyPlaces keyCount keys) (length keys)
-      → SetUp l s keys (freshOctets s keys) 0
+      → setupRight s keys sets ≡ true
+      → decodeOf (freshOctets s keys sets) ≡ newReceiver s (keyPlaces keyCount keys) (setPlaces keyCount sets) (length keys)
+      → SetUp l s keys sets (freshOctets s keys sets) 0
   unfolding setupOctets
   set-accepted w p d =
       let q = set-right w p in
-      let b : eqb (setupCode l s keys) 0 ≡ true = ap (λ n. eqb n 0) (sym q) in
-      record { number = q; octets = rw b; receiver = λ e. d ∙ started-right p; answer = λ e. last-fresh s keys }
+      let b : eqb (setupCode l s keys sets) 0 ≡ true = ap (λ n. eqb n 0) (sym q) in
+      record { number = q; octets = rw b; receiver = λ e. d ∙ started-right p; answer = λ e. last-fresh s keys sets }
 
   -- what an accepted setup says of the setup by value, and of the octets that it leaves
-  pub set-started : setupCode l s keys ≡ 0 → startedOf s keys .refusal .number ≡ 0
+  pub set-started : setupCode l s keys sets ≡ 0 → startedOf s keys sets .refusal .number ≡ 0
   unfolding setupCode
   set-started q = by-test (isState l) (λ p. rw p at q) (λ p. let z : _≡_ {A = ℕ} 13 0 = rw p at q in absurd (omega arith))
 
-  pub set-left : (left : List ℕ) (code : ℕ) → SetUp l s keys left code → (code ≡ 0 → ⊥) → left ≡ l
+  pub set-left : (left : List ℕ) (code : ℕ) → SetUp l s keys sets left code → (code ≡ 0 → ⊥) → left ≡ l
   unfolding setupOctets
   set-left left code u z =
-      let b : eqb (setupCode l s keys) 0 ≡ false = ne-eqb (setupCode l s keys) 0 (λ e. z (u .number ∙ e)) in
+      let b : eqb (setupCode l s keys sets) 0 ≡ false = ne-eqb (setupCode l s keys sets) 0 (λ e. z (u .number ∙ e)) in
       u .octets ∙ rw b
 
-  pub set-fresh : (left : List ℕ) (code : ℕ) → SetUp l s keys left code → code ≡ 0 → left ≡ freshOctets s keys
+  pub set-fresh : (left : List ℕ) (code : ℕ) → SetUp l s keys sets left code → code ≡ 0 → left ≡ freshOctets s keys sets
   unfolding setupOctets
   set-fresh left code u z =
-      let b : eqb (setupCode l s keys) 0 ≡ true = ap (λ n. eqb n 0) (sym (u .number) ∙ z) in
+      let b : eqb (setupCode l s keys sets) 0 ≡ true = ap (λ n. eqb n 0) (sym (u .number) ∙ z) in
       u .octets ∙ rw b
 
-  pub set-length : (left : List ℕ) → SetUp l s keys left 0 → length left ≡ stateLength
-  set-length left u = ap length (set-fresh left 0 u refl) ∙ length-fresh s keys
+  pub set-length : (left : List ℕ) → SetUp l s keys sets left 0 → length left ≡ stateLength
+  set-length left u = ap length (set-fresh left 0 u refl) ∙ length-fresh s keys sets
 
 -- the mark as a number
 abbrev markNumber : ℕ
@@ -151,17 +154,19 @@ mark-right l w x e =
     rw (eq-eqb (length l) stateLength w, mark-number, e)
 
 -- the steps of filling, in their order
-pub filled : (s : Setup) (keys z a b c d m e : List ℕ)
+pub filled : (s : Setup) (keys sets z a b c d n m k e : List ℕ)
     → z ≡ replicate stateLength 0
     → a ≡ stored z tickFrom (lowOctets 4 (s .tick))
     → b ≡ stored a timersFrom (lowOctets 4 (s .t3206))
     → c ≡ stored b (timersFrom + 4) (lowOctets 4 (s .t3208))
     → d ≡ stored c (timersFrom + 8) (lowOctets 4 (s .t3210))
-    → m ≡ stored (set (set d cellFrom (noCell .nln)) countFrom (length keys)) markFrom (lowOctets 4 markNumber)
-    → e ≡ stored m keysFrom (keysOctets (keyPlaces keyCount keys))
-    → e ≡ freshOctets s keys
+    → n ≡ stored d cellFrom (cellOctets noCell)
+    → m ≡ stored (set n countFrom (length keys)) markFrom (lowOctets 4 markNumber)
+    → k ≡ stored m keysFrom (keysOctets (keyPlaces keyCount keys))
+    → e ≡ stored k setsFrom (keysOctets (setPlaces keyCount sets))
+    → e ≡ freshOctets s keys sets
 unfolding freshOctets
-filled s keys z a b c d m e pz pa pb pc pd pm pe =
+filled s keys sets z a b c d n m k e pz pa pb pc pd pn pm pk pe =
     let x = lowOctets 4 (s .tick) in
     let y = lowOctets 4 (s .t3206) in
     let w = lowOctets 4 (s .t3208) in
@@ -170,8 +175,4 @@ filled s keys z a b c d m e pz pa pb pc pd pm pe =
     four-runs z a b c tickFrom 4 4 x y w (length-octets 4 (s .tick)) (length-octets 4 (s .t3206)) pa pb pc d 4 v (length-octets 4 (s .t3208)) pd
     ∙ ap (λ (l : List ℕ). stored l tickFrom (x ++ (y ++ (w ++ v)))) pz
     in
-    pe
-    ∙ ap (λ (l : List ℕ). stored l keysFrom (keysOctets (keyPlaces keyCount keys)))
-    (pm ∙ ap (stored (set (set d cellFrom (noCell .nln)) countFrom (length keys)) markFrom) mark-written
-    ∙ ap (λ (l : List ℕ). stored (set l countFrom (length keys)) markFrom markOctets)
-    (stored-one d cellFrom (noCell .nln) ∙ ap (λ (l : List ℕ). stored l cellFrom (cellOctets noCell)) times))
+    rw (pe, pk, pm, mark-written, pn, times)

@@ -14,11 +14,11 @@ use Rattle.receiver.specs.declared.Cell.{Cell}
 use Rattle.receiver.specs.declared.Setup.{Setup}
 use Rattle.receiver.specs.declared.Told.{Told}
 use Rattle.receiver.specs.Channels.{channels, keyCount, places}
-use Rattle.receiver.specs.Model.{noRecord, emptySlot, noCell, keysOf, keyPlaces}
+use Rattle.receiver.specs.Model.{noRecord, emptySlot, noCell, keysOf, keyPlaces, setPlaces}
 use Rattle.receiver.specs.Step.{noTold, mostEntries}
 use Rattle.layout.specs.Octets.{leAt, octetAt, flagAt, lowOctets, tabulate}
 
--- ## What stands where: the tick, the timers, what is known of the cell, the number of keys, the mark of a setup, the keys, three arrays over the places, the answer
+-- ## What stands where: the tick, the timers, what is known of the cell, the number of keys, the mark of a setup, the keys, their sets of group keys, three arrays over the places, the answer
 
 abbrev pub tickFrom : ℕ
 tickFrom = 0
@@ -41,9 +41,12 @@ markFrom = countFrom + 1
 abbrev pub keysFrom : ℕ
 keysFrom = markFrom + 4
 
+abbrev pub setsFrom : ℕ
+setsFrom = keysFrom + 4 * keyCount
+
 -- one octet for each place, and some that no place uses, so that they can be tested eight at a time
 abbrev pub kindsFrom : ℕ
-kindsFrom = keysFrom + 4 * keyCount
+kindsFrom = setsFrom + 4 * keyCount
 
 abbrev pub sincesFrom : ℕ
 sincesFrom = kindsFrom + (places + 7) / 8 * 8
@@ -61,7 +64,7 @@ answerFrom = recordsFrom + recordSize * places
 abbrev pub toldsFrom : ℕ
 toldsFrom = answerFrom + 16
 
--- a key of eight octets, the number told, seven that are not used, a record
+-- a key of eight octets, the number told, whether it can be followed, the kept count, five that are not used, a record
 abbrev pub toldLength : ℕ
 toldLength = 16 + recordSize
 
@@ -76,7 +79,7 @@ isState l = eqb (length l) stateLength
 
 -- a layout of other octets has another number
 abbrev pub layoutNumber : ℕ
-layoutNumber = 2
+layoutNumber = 3
 
 -- the letters AHK, then the layout's number
 abbrev pub markOctets : List ℕ
@@ -178,12 +181,15 @@ slotNo l i =
 abbrev pub keyNo : List ℕ → ℕ → ℕ
 keyNo l i = leAt 4 l (keysFrom + 4 * i)
 
--- what is known of the cell: one octet for each field
+abbrev pub setNo : List ℕ → ℕ → ℕ
+setNo l i = leAt 4 l (setsFrom + 4 * i)
+
+-- what is known of the cell: one octet for each field, read as it stands
 abbrev pub cellAt : List ℕ → Cell
-cellAt l = record { nln = octetAt l cellFrom }
+cellAt l = record { nln = octetAt l cellFrom; count = octetAt l (cellFrom + 1); bit = octetAt l (cellFrom + 2) }
 
 abbrev pub cellOctets : Cell → List ℕ
-cellOctets c = c .nln ∷ []
+cellOctets c = c .nln ∷ c .count ∷ c .bit ∷ []
 
 -- the receiver that any octets are read as
 unfoldable pub decodeOf : List ℕ → Receiver
@@ -191,6 +197,7 @@ decodeOf l =
     record {
       slots = tabulate (slotNo l) 0 places;
       keys = tabulate (keyNo l) 0 keyCount;
+      sets = tabulate (setNo l) 0 keyCount;
       keycount = octetAt l countFrom;
       tick = leAt 4 l tickFrom;
       t3206 = leAt 4 l timersFrom;
@@ -202,6 +209,9 @@ decodeOf l =
 -- the keys that are there: a number of keys above `keyCount` counts as that many
 abbrev pub keysIn : List ℕ → List ℕ
 keysIn l = keysOf (decodeOf l)
+
+abbrev pub setsIn : List ℕ → List ℕ
+setsIn l = decodeOf l .sets
 
 unfoldable pub putSlot : List ℕ → ℕ → Slot → List ℕ
 putSlot l i s =
@@ -225,6 +235,8 @@ toldNo l j =
       key = leAt 8 l (toldPlace j);
       number = octetAt l (toldPlace j + 8);
       «record» = pick (carries (octetAt l (toldPlace j + 8))) (recordAt l (toldPlace j + 16)) noRecord;
+      follow = octetAt l (toldPlace j + 9);
+      kept = octetAt l (toldPlace j + 10);
     }
 
 -- the answer to the last accepted event
@@ -244,15 +256,14 @@ lastOf l =
     }
 
 -- an entry that carries no record, and one that does
-unfoldable pub putNumber : List ℕ → ℕ → ℕ → ℕ → List ℕ
-putNumber l j key number = set (stored l (toldPlace j) (lowOctets 8 key)) (toldPlace j + 8) number
+unfoldable pub putNumber : List ℕ → ℕ → Told → List ℕ
+putNumber l j t = stored (stored l (toldPlace j) (lowOctets 8 (t .key))) (toldPlace j + 8) (t .number ∷ t .follow ∷ t .kept ∷ [])
 
-unfoldable pub putCarried : List ℕ → ℕ → ℕ → ℕ → Record → List ℕ
-putCarried l j key number e = stored (putNumber l j key number) (toldPlace j + 16) (recordOctets e)
+unfoldable pub putCarried : List ℕ → ℕ → Told → List ℕ
+putCarried l j t = stored (putNumber l j t) (toldPlace j + 16) (recordOctets (t .«record»))
 
 unfoldable pub putTold : List ℕ → ℕ → Told → List ℕ
-putTold l j t =
-    pick (carries (t .number)) (putCarried l j (t .key) (t .number) (t .«record»)) (putNumber l j (t .key) (t .number))
+putTold l j t = pick (carries (t .number)) (putCarried l j t) (putNumber l j t)
 
 -- the tick, what is known of the cell, and the answer's three numbers
 unfoldable pub putHead : List ℕ → ℕ → Cell → ℕ → ℕ → ℕ → List ℕ
@@ -265,12 +276,14 @@ abbrev pub keysOctets : List ℕ → List ℕ
 keysOctets [] = []
 keysOctets (k ∷ ks) = lowOctets 4 k ++ keysOctets ks
 
-unfoldable pub freshOctets : Setup → List ℕ → List ℕ
-freshOctets s keys =
+unfoldable pub freshOctets : Setup → List ℕ → List ℕ → List ℕ
+freshOctets s keys groups =
     stored
+    (stored
     (stored
     (set
     (stored (stored (replicate stateLength 0) tickFrom (lowOctets 4 (s .tick) ++ (lowOctets 4 (s .t3206) ++ (lowOctets 4 (s .t3208) ++ lowOctets 4 (s .t3210))))) cellFrom (cellOctets noCell))
     countFrom (length keys))
     markFrom markOctets)
-    keysFrom (keysOctets (keyPlaces keyCount keys))
+    keysFrom (keysOctets (keyPlaces keyCount keys)))
+    setsFrom (keysOctets (setPlaces keyCount groups))

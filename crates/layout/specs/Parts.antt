@@ -1,5 +1,5 @@
 -- One number of the answer to the last accepted event. Assumes nothing.
-use mathlib.Core.List.{List, _∷_, _++_}
+use mathlib.Core.List.{List, [], _∷_, _++_}
 use Prim.Native.Nat.{ℕ}
 use lib.ListN.{getD}
 use Rattle.receiver.specs.declared.Record.{Record}
@@ -14,11 +14,11 @@ recordNumbers r =
 
 -- a told entry
 abbrev pub toldNumbers : Told → List ℕ
-toldNumbers t = t .key ∷ t .number ∷ recordNumbers (t .«record»)
+toldNumbers t = t .key ∷ t .number ∷ recordNumbers (t .«record») ++ (t .follow ∷ t .kept ∷ [])
 
--- three numbers of the answer, two of an entry, thirty of its record: parts of this number and above are 0
+-- three numbers of the answer, two of an entry, thirty of its record, two more of the entry: parts of this number and above are 0
 abbrev pub partCount : ℕ
-partCount = 35
+partCount = 37
 
 unfoldable pub partOf : Last → ℕ → ℕ → ℕ
 partOf a entry part = getD (a .expired ∷ a .dropped ∷ a .count ∷ toldNumbers (getD (a .entries) entry noTold)) part 0

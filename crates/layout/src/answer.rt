@@ -1,21 +1,27 @@
 // The clock, what is known of the cell, and the answer to the last accepted event: its three numbers and its entries.
 ghost use mathlib.Core.Path.{_≡_};
 ghost use Rattle.bits.specs.Field.{pick};
-ghost use Rattle.receiver.specs.Model.{noCell};
+ghost use Rattle.receiver.specs.Model.{noRecord, noCell};
 ghost use Rattle.layout.specs.Octets.{leAt};
-ghost use Rattle.layout.specs.Layout.{tickFrom, isState, isEntry, cellAt, putNumber, putCarried, putHead};
+ghost use Prim.Native.Nat.{_<_};
+ghost use lib.ListN.{length};
+ghost use Rattle.receiver.specs.Step.{mostEntries, toldOnly};
+ghost use Rattle.layout.specs.Layout.{tickFrom, stateLength, isState, isEntry, cellAt, putNumber, putCarried, putHead};
 use crate::ANSWER;
 use crate::CELL;
 use crate::LENGTH;
 use crate::TICK;
 use crate::TOLD_LENGTH;
 use crate::TOLDS;
+use crate::octets::put_three;
 use crate::octets::put_u32;
 use crate::octets::put_u64;
 use crate::octets::u32_at;
 use crate::records::put_record;
 use receiver::Cell;
 use receiver::MOST_ENTRIES;
+use receiver::NO_BIT;
+use receiver::NO_COUNT;
 use receiver::NO_NLN;
 use receiver::Record;
 
@@ -34,28 +40,31 @@ pub fn cell_of(b: &[u8]) -> Cell
     ensures { λ r. ⌜ r ≡ pick (isState (now (b .entry))) (cellAt (now (b .entry))) noCell ⌝ }
 {
     if b.len() != LENGTH {
-        return Cell { nln: NO_NLN };
+        return Cell {
+            nln: NO_NLN,
+            count: NO_COUNT,
+            bit: NO_BIT,
+        };
     }
-    Cell { nln: b[CELL] }
+    Cell {
+        nln: b[CELL],
+        count: b[CELL + 1],
+        bit: b[CELL + 2],
+    }
 }
 
-// An entry without its record.
-pub fn put_number(b: &mut [u8], j: usize, key: u64, number: u8)
-    ensures { λ _. ⌜ now (b .exit) ≡ pick (isEntry (now (b .entry)) j) (putNumber (now (b .entry)) j key number) (now (b .entry)) ⌝ }
+// An entry but for its record: its key, the number told, whether it can be followed and with which count.
+fn put_said(b: &mut [u8], j: usize, key: u64, number: u8, follow: u8, kept: u8)
+    requires { ⌜ (length (now b) ≡ stateLength) × (j < mostEntries) ⌝ }
+    ensures { λ _. ⌜ now (b .exit) ≡ putNumber (now (b .entry)) j (record { key = key; number = number; «record» = noRecord; follow = follow; kept = kept }) ⌝ }
 {
-    if b.len() != LENGTH {
-        return;
-    }
-    if MOST_ENTRIES <= j {
-        return;
-    }
     put_u64(b, TOLDS + TOLD_LENGTH * j, key);
-    b[TOLDS + 8 + TOLD_LENGTH * j] = number;
+    put_three(b, TOLDS + 8 + TOLD_LENGTH * j, number, follow, kept);
 }
 
-// An entry with its record.
-pub fn put_told(b: &mut [u8], j: usize, key: u64, number: u8, e: Record)
-    ensures { λ _. ⌜ now (b .exit) ≡ pick (isEntry (now (b .entry)) j) (putCarried (now (b .entry)) j key number e) (now (b .entry)) ⌝ }
+// An entry without a record.
+pub fn put_number(b: &mut [u8], j: usize, key: u64, number: u8)
+    ensures { λ _. ⌜ now (b .exit) ≡ pick (isEntry (now (b .entry)) j) (putNumber (now (b .entry)) j (toldOnly key number)) (now (b .entry)) ⌝ }
 {
     if b.len() != LENGTH {
         return;
@@ -63,7 +72,21 @@ pub fn put_told(b: &mut [u8], j: usize, key: u64, number: u8, e: Record)
     if MOST_ENTRIES <= j {
         return;
     }
-    put_number(b, j, key, number);
+    put_said(b, j, key, number, 0, 0);
+}
+
+// An entry with its record. Its parts are handed over one by one: a struct of them would go through memory.
+pub fn put_told(b: &mut [u8], j: usize, key: u64, number: u8, follow: u8, kept: u8, e: Record)
+    ensures { λ _. ⌜ now (b .exit) ≡ pick (isEntry (now (b .entry)) j)
+        (putCarried (now (b .entry)) j (record { key = key; number = number; «record» = e; follow = follow; kept = kept })) (now (b .entry)) ⌝ }
+{
+    if b.len() != LENGTH {
+        return;
+    }
+    if MOST_ENTRIES <= j {
+        return;
+    }
+    put_said(b, j, key, number, follow, kept);
     put_record(b, TOLDS + 16 + TOLD_LENGTH * j, e);
 }
 
@@ -75,7 +98,7 @@ pub fn put_head(b: &mut [u8], tick: u32, cell: Cell, expired: u32, dropped: u32,
         return;
     }
     put_u32(b, TICK, tick);
-    b[CELL] = cell.nln;
+    put_three(b, CELL, cell.nln, cell.count, cell.bit);
     put_u32(b, ANSWER, expired);
     put_u32(b, ANSWER + 4, dropped);
     put_u32(b, ANSWER + 8, count);

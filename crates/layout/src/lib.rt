@@ -29,8 +29,10 @@ const MARK: usize = COUNT + 1;
 
 const KEYS_FROM: usize = MARK + 4;
 
+const SETS: usize = KEYS_FROM + 4 * Setup::KEYS;
+
 // One octet for each place, and some that no place uses, so that they can be tested eight at a time.
-const KINDS: usize = KEYS_FROM + 4 * Setup::KEYS;
+const KINDS: usize = SETS + 4 * Setup::KEYS;
 
 const SINCES: usize = KINDS + (PLACES + 7) / 8 * 8;
 
@@ -46,7 +48,7 @@ const TOLDS: usize = ANSWER + 16;
 const TOLD_LENGTH: usize = 16 + RECORD_LENGTH;
 
 // A layout of other octets has another number.
-const LAYOUT_NUMBER: u32 = 2;
+const LAYOUT_NUMBER: u32 = 3;
 
 // The letters AHK and the layout's number, as a number.
 const MARKED: u32 = 65 + 256 * (72 + 256 * (75 + 256 * LAYOUT_NUMBER));

@@ -1,5 +1,6 @@
 // Numbers in octets, the least significant first: each load and each store is then one instruction.
 ghost use mathlib.Core.Path.{_≡_};
+ghost use mathlib.Core.List.{[], _∷_};
 ghost use Prim.Native.Nat.{_+_, _<_, _≤_};
 ghost use lib.ListN.{length};
 ghost use Rattle.arrays.specs.Runs.{stored};
@@ -43,6 +44,16 @@ pub(crate) fn put_u32(b: &mut [u8], at: usize, x: u32)
     b[at + 1] = (x / 256 % 256) as u8;
     b[at + 2] = (x / 65536 % 256) as u8;
     b[at + 3] = (x / 16777216 % 256) as u8;
+}
+
+// Three octets, one behind the other.
+pub(crate) fn put_three(b: &mut [u8], at: usize, x: u8, y: u8, z: u8)
+    requires { ⌜ at + 3 ≤ length (now b) ⌝ }
+    ensures { λ _. ⌜ now (b .exit) ≡ stored (now (b .entry)) at (x ∷ y ∷ z ∷ []) ⌝ }
+{
+    b[at] = x;
+    b[at + 1] = y;
+    b[at + 2] = z;
 }
 
 pub(crate) fn put_u64(b: &mut [u8], at: usize, x: u64)

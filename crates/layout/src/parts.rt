@@ -1,11 +1,13 @@
 // The answer to the last accepted event: one number of it, and the record of an entry.
 ghost use mathlib.Core.Path.{_≡_};
+ghost use mathlib.Core.List.{[], _∷_};
 ghost use Prim.Native.Nat.{_+_, _<_, _≤_};
 ghost use lib.ListN.{length, getD};
 ghost use Rattle.bits.specs.Field.{pick};
 ghost use Rattle.csn1.specs.Told.{asBit};
 ghost use Rattle.receiver.specs.Step.{mostEntries, noTold};
 ghost use Rattle.receiver.specs.Model.{noRecord};
+ghost use Rattle.layout.specs.Octets.{octetAt};
 ghost use Rattle.layout.specs.Layout.{stateLength, recordSize, isState, recordAt, toldNo, lastOf};
 ghost use Rattle.layout.specs.Parts.{recordNumbers, toldNumbers, partOf};
 use crate::ANSWER;
@@ -58,7 +60,21 @@ fn record_part(b: &[u8], at: usize, part: usize) -> u64
     0
 }
 
-// A number of an entry: its key, the number told, and for 1 to 3 its record.
+// Key, number told and the thirty numbers of a record come before what stands beside the number told.
+const BESIDE: usize = 2 + 30;
+
+// What stands beside the number told: whether it can be followed, and with which count.
+fn beside(b: &[u8], at: usize, part: usize) -> u64
+    requires { ⌜ at + 11 ≤ length (now b) ⌝ }
+    ensures { λ r. ⌜ r ≡ getD (octetAt (now (b .entry)) (at + 9) ∷ octetAt (now (b .entry)) (at + 10) ∷ []) part 0 ⌝ }
+{
+    if part < 2 {
+        return wide(b[at + 9 + part]);
+    }
+    0
+}
+
+// A number of an entry: its key, the number told, for 1 to 3 its record, whether it can be followed, and with which count.
 fn told_part(b: &[u8], entry: usize, part: usize) -> u64
     requires { ⌜ (length (now b) ≡ stateLength) × (entry < mostEntries) ⌝ }
     ensures { λ r. ⌜ r ≡ getD (toldNumbers (toldNo (now (b .entry)) entry)) part 0 ⌝ }
@@ -70,6 +86,9 @@ fn told_part(b: &[u8], entry: usize, part: usize) -> u64
     let number = b[at + 8];
     if part == 1 {
         return wide(number);
+    }
+    if BESIDE <= part {
+        return beside(b, at, part - BESIDE);
     }
     if number < 1 {
         return 0;

@@ -7,7 +7,7 @@ ghost use Rattle.bits.specs.Field.{both, pick};
 ghost use Rattle.receiver.specs.Channels.{keyCount, places};
 ghost use Rattle.receiver.specs.Model.{noRecord, emptySlot, wrapSub, indexOf, storing};
 ghost use Rattle.layout.specs.Octets.{leAt, octetAt};
-ghost use Rattle.layout.specs.Layout.{tickFrom, stateLength, isState, isPlace, kindPlace, sincePlace, recordPlace, recordAt, keyNo, keysIn, putSlot};
+ghost use Rattle.layout.specs.Layout.{tickFrom, stateLength, isState, isPlace, kindPlace, sincePlace, recordPlace, recordAt, keyNo, setNo, keysIn, putSlot};
 ghost use Rattle.layout.specs.Sweep.{timerNo};
 use crate::COUNT;
 use crate::KEYS_FROM;
@@ -15,6 +15,7 @@ use crate::KINDS;
 use crate::LENGTH;
 use crate::RECORD_LENGTH;
 use crate::RECORDS;
+use crate::SETS;
 use crate::SINCES;
 use crate::TICK;
 use crate::TIMERS;
@@ -75,6 +76,19 @@ pub fn key_at(b: &[u8], i: usize) -> u32
         return 0;
     }
     u32_at(b, KEYS_FROM + 4 * i)
+}
+
+// The set of group keys of the key at an index.
+pub fn set_at(b: &[u8], i: usize) -> u32
+    ensures { λ r. ⌜ r ≡ pick (both (isState (now (b .entry))) (ltb i keyCount)) (setNo (now (b .entry)) i) 0 ⌝ }
+{
+    if b.len() != LENGTH {
+        return 0;
+    }
+    if Setup::KEYS <= i {
+        return 0;
+    }
+    u32_at(b, SETS + 4 * i)
 }
 
 // The record at a place.

@@ -18,12 +18,12 @@ use Rattle.receiver.specs.declared.Receiver.{Receiver}
 use Rattle.receiver.specs.declared.Rule.{Rule}
 use Rattle.receiver.specs.Channels.{places, numberOf}
 use Rattle.receiver.specs.Model.{noCell, late, keysOf, expiredOf, droppedOf, sweptSlots, remade, withSlots}
-use Rattle.receiver.specs.Step.{noTold, mostEntries, allAfter, allTold, Event, joins, groundsOf, refusalOf, refusedWith, acceptedAs, stepOf}
+use Rattle.receiver.specs.Step.{noTold, mostEntries, allAfter, allTold, Event, joins, bitIs, groundsOf, refusalOf, refusedWith, acceptedAs, stepOf}
 use Rattle.receiver.specs.Step.{Content, contentOf, cellAfter, ruleBy}
 use Rattle.receiver.proofs.Cases.{by-test}
 use Rattle.receiver.proofs.Refusals.{Sound, grounds-sound, refusal-sound}
 use Rattle.layout.specs.Octets.{leAt, tabulate}
-use Rattle.layout.specs.Layout.{stateLength, tickFrom, isState, cellAt, decodeOf, toldNo, putHead, keysIn}
+use Rattle.layout.specs.Layout.{stateLength, tickFrom, isState, cellAt, decodeOf, toldNo, putHead, keysIn, setsIn}
 use Rattle.layout.specs.Sweep.{sweptOctets}
 use Rattle.lent.specs.Events.{eventCode, octetsAfter, Fed}
 use Rattle.lent.specs.Inner.{AllTold, Accepted, earlyCode}
@@ -68,13 +68,13 @@ module _ (l : List ℕ) (now : ℕ) (rule : Rule) (cell : Cell) (ch : ℕ) (es :
   swept-is : decodeOf swept ≡ withSlots (decodeOf l) (sweptSlots (decodeOf l) now rule)
   swept-is = swept-decode l now rule whole
 
-  accepted : (told : List ℕ) → length es ≤ mostEntries → expired < 4294967296 → dropped < 4294967296 → AllTold swept ch now es told
+  accepted : (told : List ℕ) → length es ≤ mostEntries → expired < 4294967296 → dropped < 4294967296 → AllTold swept cell ch now es told
       → Accepted l now rule cell ch es (putHead told now cell expired dropped (length es))
   accepted told few x d a =
-      let long : length told ≡ stateLength = all-length swept ch now es told a ∙ length-run now rule 0 places l ∙ whole in
-      let ts : List Told = allTold (keysIn l) ch now (sweptSlots (decodeOf l) now rule) es in
-      let same : allTold (keysIn swept) ch now (decodeOf swept .slots) es ≡ ts = ap (λ (r : Receiver). allTold (keysOf r) ch now (r .slots) es) swept-is in
-      let q : length ts ≡ length es = length-all-told (keysIn l) ch now (sweptSlots (decodeOf l) now rule) es in
+      let long : length told ≡ stateLength = all-length swept cell ch now es told a ∙ length-run now rule 0 places l ∙ whole in
+      let ts : List Told = allTold (keysIn l) (setsIn l) cell ch now (sweptSlots (decodeOf l) now rule) es in
+      let same : allTold (keysIn swept) (setsIn swept) cell ch now (decodeOf swept .slots) es ≡ ts = ap (λ (r : Receiver). allTold (keysOf r) (r .sets) cell ch now (r .slots) es) swept-is in
+      let q : length ts ≡ length es = length-all-told (keysIn l) (setsIn l) cell ch now (sweptSlots (decodeOf l) now rule) es in
       record {
         octets = ap (λ (o : List ℕ). putHead o now cell expired dropped (length es)) (a .octets);
         receiver =
@@ -97,15 +97,15 @@ module _ (l : List ℕ) (now : ℕ) (rule : Rule) (cell : Cell) (ch : ℕ) (es :
       → d < 4294967296
       → n ≡ length es
       → n ≤ mostEntries
-      → AllTold o ch now es told
+      → AllTold o cell ch now es told
       → left ≡ pick (isState told) (putHead told now cell x d n) told
       → Accepted l now rule cell ch es left
   accepted-by o told left x d n s xs ds pn few a q =
       let px : x ≡ expired = s .0 ∙ at-state l expired 0 whole in
       let pd : d ≡ dropped = s .1 .0 ∙ at-state l dropped 0 whole in
       let po : o ≡ swept = s .1 .1 ∙ at-state l swept l whole in
-      let b = subst (λ (r : List ℕ). AllTold r ch now es told) po a in
-      let long : length told ≡ stateLength = all-length swept ch now es told b ∙ length-run now rule 0 places l ∙ whole in
+      let b = subst (λ (r : List ℕ). AllTold r cell ch now es told) po a in
+      let long : length told ≡ stateLength = all-length swept cell ch now es told b ∙ length-run now rule 0 places l ∙ whole in
       rw (q, at-state told (putHead told now cell x d n) told long, px, pd, pn)
       (accepted told (omega (arith, few, pn)) (omega (arith, xs, px)) (omega (arith, ds, pd)) b)
 
@@ -166,7 +166,7 @@ accepted-as : (l : List ℕ) (e : Event) (left : List ℕ)
     → eventCode l e ≡ 0
     → (x : Content)
     → x ≡ contentOf (e .happening)
-    → Accepted l (e .tick) (ruleBy (decodeOf l) (x .cause)) (cellAfter (decodeOf l .cell) (x .cause)) (numberOf (x .channel)) (x .entries) left
+    → Accepted l (e .tick) (ruleBy (decodeOf l) (x .cause)) (cellAfter (decodeOf l .cell) (x .cause) (x .news)) (numberOf (x .channel)) (x .entries) left
     → Fed l e left 0
 unfolding octetsAfter
 accepted-as l e left q x w a =
@@ -208,7 +208,7 @@ module _ (l : List ℕ) (e : Event) (n : ℕ) (q : n ≡ earlyCode l (e .tick)) 
         → (x : Content)
         → x ≡ contentOf (e .happening)
         → rule ≡ ruleBy (decodeOf l) (x .cause)
-        → cell ≡ cellAfter (decodeOf l .cell) (x .cause)
+        → cell ≡ cellAfter (decodeOf l .cell) (x .cause) (x .news)
         → Accepted l (e .tick) rule cell (numberOf (x .channel)) (x .entries) left
         → Fed l e left 0
     fed-accepted rule cell left g x w r c a = accepted-as l e left (none-early .1 ∙ number-code (groundsOf (e .happening)) (grounds-sound (e .happening)) g) x w (rw (← r, ← c) a)
@@ -219,7 +219,7 @@ pub length-after : (l : List ℕ) (e : Event) → length (octetsAfter l e) ≡ l
 unfolding octetsAfter
 length-after l e =
     by-test (eqb (eventCode l e) 0)
-    (λ p. rw p (length-head _ _ _ _ _ _ ∙ length-all _ _ (e .tick) 0 (contentOf (e .happening) .entries) ∙ length-run (e .tick) _ 0 places l))
+    (λ p. rw p (length-head _ _ _ _ _ _ ∙ length-all _ _ _ (e .tick) 0 (contentOf (e .happening) .entries) ∙ length-run (e .tick) _ 0 places l))
     (λ p. rw p)
 
 pub refused-stays : (l : List ℕ) (e : Event) → (eventCode l e ≡ 0 → ⊥) → octetsAfter l e ≡ l
@@ -249,3 +249,14 @@ four = (λ z. omega arith, refl)
 
 pub joined-in : (k : ℕ) → k ≤ 199999999 → groundsOf (joins k) .number ≡ 0
 joined-in k h = rw (le-leb k 199999999 h)
+
+-- a bit above 1 is 12
+pub bit-out : (b : ℕ) → 1 < b → ground 12 ≡ groundsOf (bitIs b)
+bit-out b h = rw (lt-leb b 1 h)
+
+pub twelve : (ground 12 .number ≡ 0 → ⊥) × (12 ≡ codeOf (ground 12))
+unfolding ground codeOf
+twelve = (λ z. omega arith, refl)
+
+pub bit-in : (b : ℕ) → b ≤ 1 → groundsOf (bitIs b) .number ≡ 0
+bit-in b h = rw (le-leb b 1 h)

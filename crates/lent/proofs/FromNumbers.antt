@@ -26,6 +26,7 @@ use Rattle.receiver.specs.Step.{mostEntries}
 use Rattle.receiver.specs.Entries.{callWith, reducedWith, nchEntries}
 use Rattle.receiver.proofs.MessageEntries.{nth-past, nth-there}
 use Rattle.layout.specs.Layout.{stateLength}
+use Rattle.receiver.specs.declared.Cell.{Cell}
 use Rattle.lent.specs.Inner.{Telling, entryFrom, EntryFits}
 use Rattle.lent.proofs.Tellings.{all-length}
 use Rattle.lent.proofs.Messages.{Told-to, entries-count, call-told, reduced-told, few-owned}
@@ -173,16 +174,16 @@ abbrev Asks : List ℕ → List ℕ → ℕ → Bool → ℕ → ℕ → ℕ →
 Asks ns left i full at random mark =
     (length left ≡ stateLength) × ((i < mostEntries) × (Fits ns × ((random < mostRandoms) × EntryFits ns full at mark)))
 
-module _ (ns : List ℕ) (f : Fits ns) (l : List ℕ) (now random mark i : ℕ) (left : List ℕ) (p : Told-to l now (recordFrom ns) random mark i left) (n : ℕ)
+module _ (ns : List ℕ) (f : Fits ns) (l : List ℕ) (cell : Cell) (now random mark i : ℕ) (left : List ℕ) (p : Told-to l cell now (recordFrom ns) random mark i left) (n : ℕ)
     (q : n ≡ min (getD ns callsAt 0) mostCalls) where
   calls-are : length (callsOf (recordFrom ns)) ≡ n
   calls-are = omega (arith, length-take (recordFrom ns .callcount) (recordFrom ns .calls), calls-counted ns, calls-placed ns)
 
   few : (random ≤ i) × ((mark ≤ i) × (mark ≤ length (callsOf (recordFrom ns))))
-  few = few-owned l now (recordFrom ns) random mark i left p
+  few = few-owned l cell now (recordFrom ns) random mark i left p
 
   long : length l ≡ stateLength → length left ≡ stateLength
-  long w = all-length l 0 now _ left (p .told) ∙ w
+  long w = all-length l cell 0 now _ left (p .told) ∙ w
 
   -- a call: what it asks for, and how far the next random entry and mark can be
   module _ (h : i < n) where
@@ -192,12 +193,12 @@ module _ (ns : List ℕ) (f : Fits ns) (l : List ℕ) (now random mark i : ℕ) 
     pub call-next : (random < mostRandoms) × ((mark < mostMarks) × (getD ns (callAt i + 5) 0 ≤ 1))
     call-next = (omega (arith, few, q), (omega (arith, few, q), call-no ns f i (omega (arith, q)) .hasDescription))
 
-    pub turn-call : (left′ : List ℕ) → Telling left 0 now i (callWith (recordFrom ns) random mark (callFrom ns (callAt i))) left′
-        → Told-to l now (recordFrom ns) (random + boolByte (leb 1 (getD ns (callAt i + 4) 0))) (mark + getD ns (callAt i + 5) 0) (i + 1) left′
+    pub turn-call : (left′ : List ℕ) → Telling left cell 0 now i (callWith (recordFrom ns) random mark (callFrom ns (callAt i))) left′
+        → Told-to l cell now (recordFrom ns) (random + boolByte (leb 1 (getD ns (callAt i + 4) 0))) (mark + getD ns (callAt i + 5) 0) (i + 1) left′
     unfolding callBy
     turn-call left′ t =
         let e = call-from ns i (omega (arith, q)) in
-        call-told l now (recordFrom ns) random mark i left p (omega (arith, entries-are ns n q)) left′ (calls-placed ns) (omega (arith, calls-are)) (rw e t)
+        call-told l cell now (recordFrom ns) random mark i left p (omega (arith, entries-are ns n q)) left′ (calls-placed ns) (omega (arith, calls-are)) (rw e t)
         (boolByte (leb 1 (getD ns (callAt i + 4) 0))) (getD ns (callAt i + 5) 0) (flag-byte (leb 1 (getD ns (callAt i + 4) 0)) ∙ rw e)
         (sym (bit-back (getD ns (callAt i + 5) 0) (omega (arith, call-next))) ∙ rw e)
 
@@ -206,10 +207,10 @@ module _ (ns : List ℕ) (f : Fits ns) (l : List ℕ) (now random mark i : ℕ) 
     pub reduced-asks : length l ≡ stateLength → Asks ns left i false (reducedAt (i - n)) random mark
     reduced-asks w = (long w, (omega (arith, q), (f, (omega (arith, few, q), reduced-entry-fits ns f (i - n) (omega arith) mark))))
 
-    pub turn-reduced : (left′ : List ℕ) → Telling left 0 now i (reducedWith (recordFrom ns) random (reducedFrom ns (reducedAt (i - n)))) left′
-        → Told-to l now (recordFrom ns) (random + 1) mark (i + 1) left′
+    pub turn-reduced : (left′ : List ℕ) → Telling left cell 0 now i (reducedWith (recordFrom ns) random (reducedFrom ns (reducedAt (i - n)))) left′
+        → Told-to l cell now (recordFrom ns) (random + 1) mark (i + 1) left′
     turn-reduced left′ t =
         let e = reduced-from ns (i - n) (omega arith) in
         let z : mark + 0 ≡ mark = omega arith in
         let m = entries-are ns n q in
-        rw z at (reduced-told l now (recordFrom ns) random mark i left p (omega (arith, m)) left′ (omega (arith, calls-are)) (omega (arith, m)) (rw (calls-are, e) t))
+        rw z at (reduced-told l cell now (recordFrom ns) random mark i left p (omega (arith, m)) left′ (omega (arith, calls-are)) (omega (arith, m)) (rw (calls-are, e) t))

@@ -16,6 +16,7 @@ use Rattle.nch.specs.Told.{noReduced}
 use Rattle.nch.specs.Write.{callsOf, isDescribed}
 use Rattle.nch.specs.Owners.{before}
 use Rattle.nch.proofs.InPlaces.{count-le}
+use Rattle.receiver.specs.declared.Cell.{Cell}
 use Rattle.receiver.specs.Model.{noRecord, mapAt}
 use Rattle.receiver.specs.Step.{mostEntries}
 use Rattle.receiver.specs.Entries.{callWith, reducedWith, callEntry, reducedEntry, nchEntries}
@@ -61,15 +62,15 @@ module _ (m : Notification) where
 -- ## Turns
 
 -- at the head of the loop: i entries are told, and the next random entry and mark stand at random and mark
-pub record Told-to (l : List ℕ) (now : ℕ) (m : Notification) (random mark i : ℕ) (left : List ℕ) : Type 0 where
-  pub told : AllTold l 0 now (take i (nchEntries m)) left
+pub record Told-to (l : List ℕ) (cell : Cell) (now : ℕ) (m : Notification) (random mark i : ℕ) (left : List ℕ) : Type 0 where
+  pub told : AllTold l cell 0 now (take i (nchEntries m)) left
   pub randoms : random ≡ owners m i
   pub marks : mark ≡ before isDescribed m i
 
-pub none-told : (l : List ℕ) (now : ℕ) (m : Notification) → Told-to l now m 0 0 0 l
-none-told l now m = record { told = all-none l 0 now; randoms = omega arith; marks = refl }
+pub none-told : (l : List ℕ) (cell : Cell) (now : ℕ) (m : Notification) → Told-to l cell now m 0 0 0 l
+none-told l cell now m = record { told = all-none l cell 0 now; randoms = omega arith; marks = refl }
 
-module _ (l : List ℕ) (now : ℕ) (m : Notification) (random mark i : ℕ) (left : List ℕ) (p : Told-to l now m random mark i left) where
+module _ (l : List ℕ) (cell : Cell) (now : ℕ) (m : Notification) (random mark i : ℕ) (left : List ℕ) (p : Told-to l cell now m random mark i left) where
   pub few-owned : (random ≤ i) × ((mark ≤ i) × (mark ≤ length (callsOf m)))
   few-owned =
       let n = length-take i (callsOf m) in (
@@ -77,21 +78,21 @@ module _ (l : List ℕ) (now : ℕ) (m : Notification) (random mark i : ℕ) (le
         (omega (arith, p .marks, n, count-le isDescribed (take i (callsOf m))), omega (arith, p .marks, n, count-le isDescribed (take i (callsOf m)))),
       )
 
-  next-told : i < length (nchEntries m) → length (nchEntries m) ≤ mostEntries → (left′ : List ℕ) → Telling left 0 now i (getD (nchEntries m) i noRecord) left′
-      → AllTold l 0 now (take (i + 1) (nchEntries m)) left′
+  next-told : i < length (nchEntries m) → length (nchEntries m) ≤ mostEntries → (left′ : List ℕ) → Telling left cell 0 now i (getD (nchEntries m) i noRecord) left′
+      → AllTold l cell 0 now (take (i + 1) (nchEntries m)) left′
   next-told h k left′ t =
       let es = nchEntries m in
       let n : length (take i es) ≡ i = length-take-le i es (omega arith) in
-      rw (add-one i, take-suc es i noRecord h) (all-next l 0 now (take i es) (getD es i noRecord) left left′ (omega (arith, n)) (lit< tt) (p .told) (rw n t))
+      rw (add-one i, take-suc es i noRecord h) (all-next l cell 0 now (take i es) (getD es i noRecord) left left′ (omega (arith, n)) (lit< tt) (p .told) (rw n t))
 
-  pub all-told : i ≡ length (nchEntries m) → AllTold l 0 now (nchEntries m) left
+  pub all-told : i ≡ length (nchEntries m) → AllTold l cell 0 now (nchEntries m) left
   all-told e = rw (sym (take-all i (nchEntries m) (omega arith))) (p .told)
 
   module _ (few : length (nchEntries m) ≤ mostEntries) (left′ : List ℕ) where
     -- one more call
-    pub call-told : length (m .calls) ≡ 4 → i < length (callsOf m) → Telling left 0 now i (callWith m random mark (getD (m .calls) i noCall)) left′
+    pub call-told : length (m .calls) ≡ 4 → i < length (callsOf m) → Telling left cell 0 now i (callWith m random mark (getD (m .calls) i noCall)) left′
         → (x y : ℕ) → x ≡ asBit (ciphered (getD (m .calls) i noCall)) → y ≡ asBit (isDescribed (getD (m .calls) i noCall))
-        → Told-to l now m (random + x) (mark + y) (i + 1) left′
+        → Told-to l cell now m (random + x) (mark + y) (i + 1) left′
     call-told four h t x y a b =
         let c = getD (callsOf m) i noCall in
         let k : i < m .callcount = omega (arith, length-take (m .callcount) (m .calls)) in
@@ -110,8 +111,8 @@ module _ (l : List ℕ) (now : ℕ) (m : Notification) (random mark i : ℕ) (le
 
     -- one more reduced reference
     pub reduced-told : length (callsOf m) ≤ i → i < length (nchEntries m)
-        → Telling left 0 now i (reducedWith m random (getD (m .release6 .reduced) (i - length (callsOf m)) noReduced)) left′
-        → Told-to l now m (random + 1) (mark + 0) (i + 1) left′
+        → Telling left cell 0 now i (reducedWith m random (getD (m .release6 .reduced) (i - length (callsOf m)) noReduced)) left′
+        → Told-to l cell now m (random + 1) (mark + 0) (i + 1) left′
     reduced-told h k t =
         let n = length (callsOf m) in
         let j = i - n in

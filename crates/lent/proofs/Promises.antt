@@ -15,7 +15,7 @@ use Rattle.receiver.specs.Model.{startedOf}
 use Rattle.receiver.specs.Channels.{Channel}
 use Rattle.receiver.specs.Step.{Event, refusalOf, refusedWith, stepOf}
 use Rattle.isolation.specs.One.{hears, Said, fresh}
-use Rattle.isolation.specs.Calls.{timerOf, channelIn, Reply, replyBy}
+use Rattle.isolation.specs.Calls.{timerOf, setUnder, channelIn, Reply, replyBy}
 use Rattle.isolation.specs.Promises.{under, answersOn, answersEach, after, replyOf}
 use Rattle.receiver.proofs.Cases.{by-test}
 use Rattle.receiver.proofs.Refusals.{refusal-sound}
@@ -95,23 +95,23 @@ unfolding eventCode
 code-is l e whole = rw (eq-eqb (length l) stateLength whole) (sym (ap codeOf (refused-as (decodeOf l) e)))
 
 pub no-call-disturbs-another-at-any-event-in-octets : No-call-disturbs-another-at-any-event-in-octets
-no-call-disturbs-another-at-any-event-in-octets l s keys left set t key h c es run ts u =
-    let z : startedOf s keys .refusal .number ≡ 0 = set-started l s keys (sym (set .number)) in
-    run-heard key c left (set-length l s keys left set) es run u
+no-call-disturbs-another-at-any-event-in-octets l s keys sets left set t key h c es run ts u =
+    let z : startedOf s keys sets .refusal .number ≡ 0 = set-started l s keys sets (sym (set .number)) in
+    run-heard key c left (set-length l s keys sets left set) es run u
     ∙ ap (λ (r : Receiver). answersEach key c r es) (set .receiver refl)
-    ∙ no-call-disturbs-another-at-any-event s keys t z key h c es ts
+    ∙ no-call-disturbs-another-at-any-event s keys sets t z key h c es ts
 
 pub no-call-disturbs-another-in-octets : No-call-disturbs-another-in-octets
-no-call-disturbs-another-in-octets l s keys left set t key h c es run ts u =
-    sym (read-flat key c es run) ∙ ap flatten (no-call-disturbs-another-at-any-event-in-octets l s keys left set t key h c es run ts u)
-    ∙ says-flat key c (timerOf c s) fresh (s .tick) es
+no-call-disturbs-another-in-octets l s keys sets left set t key h c es run ts u =
+    sym (read-flat key c es run) ∙ ap flatten (no-call-disturbs-another-at-any-event-in-octets l s keys sets left set t key h c es run ts u)
+    ∙ says-flat key c (timerOf c s) (setUnder keys sets key) fresh (s .tick) es
 
 pub the-answer-is-the-calls-in-octets : The-answer-is-the-calls-in-octets
-the-answer-is-the-calls-in-octets l s keys left set t es run ts u e k a f =
-    let z : startedOf s keys .refusal .number ≡ 0 = set-started l s keys (sym (set .number)) in
-    let w = run-after left (set-length l s keys left set) es run u in
-    let v : replyOf (stepOf (decodeOf (leftAfter left run)) e) ≡ replyBy s es e keys =
-    ap (λ (r : Receiver). replyOf (stepOf r e)) (w .1 ∙ ap (λ (r : Receiver). after r es) (set .receiver refl)) ∙ the-answer-is-the-calls s keys t z es ts e k in (
+the-answer-is-the-calls-in-octets l s keys sets left set t es run ts u e k a f =
+    let z : startedOf s keys sets .refusal .number ≡ 0 = set-started l s keys sets (sym (set .number)) in
+    let w = run-after left (set-length l s keys sets left set) es run u in
+    let v : replyOf (stepOf (decodeOf (leftAfter left run)) e) ≡ replyBy s es e keys sets =
+    ap (λ (r : Receiver). replyOf (stepOf r e)) (w .1 ∙ ap (λ (r : Receiver). after r es) (set .receiver refl)) ∙ the-answer-is-the-calls s keys sets t z es ts e k in (
       f .number ∙ code-is (leftAfter left run) e (w .0) ∙ ap (λ (y : Reply). codeOf (y .refusal)) v,
       λ n. f .answer ∙ rw (eq-eqb (eventCode (leftAfter left run) e) 0 (sym (f .number) ∙ n)) (ap shown v),
     )

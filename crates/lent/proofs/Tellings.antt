@@ -18,9 +18,10 @@ use Rattle.receiver.specs.declared.Told.{Told}
 use Rattle.receiver.specs.declared.Met.{Met}
 use Rattle.receiver.specs.Channels.{channels, keyCount, places, placeOn, leads}
 use Rattle.receiver.specs.Model.{noRecord, emptySlot, keyOf, keysOf, indexOf, isClear, isWhole, isFirst, isSecond, isBare, classOf, agree, joinedOf, only, complete, storing, meetHalf, meetOf, withSlots}
-use Rattle.receiver.specs.Step.{noTold, mostEntries, slotsAfter, toldOf, allAfter, allTold}
+use Rattle.receiver.specs.declared.Cell.{Cell}
+use Rattle.receiver.specs.Step.{noTold, mostEntries, setAt, toldAs, toldOnly, slotsAfter, toldOf, allAfter, allTold}
 use Rattle.receiver.proofs.Cases.{by-test}
-use Rattle.layout.specs.Layout.{stateLength, kindPlace, sincePlace, recordPlace, slotNo, decodeOf, putSlot, carries, toldNo, putTold, keysIn}
+use Rattle.layout.specs.Layout.{stateLength, kindPlace, sincePlace, recordPlace, slotNo, decodeOf, putSlot, carries, toldNo, putTold, keysIn, setsIn}
 use Rattle.lent.specs.Events.{afterMeet, tellOctets, allOctets}
 use Rattle.lent.specs.Inner.{Telling, AllTold}
 use Rattle.layout.proofs.Numbers.{le-below}
@@ -153,12 +154,12 @@ key-below e w = omega (arith, w .reference, bit-most (e .call .vgcs))
 -- ## One entry
 
 abbrev miss : Record → Told
-miss e = record { key = keyOf (e .call); number = 0; «record» = noRecord }
+miss e = toldOnly (keyOf (e .call)) 0
 
-abbrev answer : Record → Met → Told
-answer e m = record { key = keyOf (e .call); number = m .number; «record» = m .told }
+abbrev answer : ℕ → Cell → Record → Met → Told
+answer set cell e m = toldAs set cell (keyOf (e .call)) (m .number) (m .told)
 
-module _ (l : List ℕ) (ch now j : ℕ) (e : Record) where
+module _ (l : List ℕ) (cell : Cell) (ch now j : ℕ) (e : Record) where
   abbrev index : ℕ
   index = indexOf (keysIn l) (keyOf (e .call))
 
@@ -168,11 +169,11 @@ module _ (l : List ℕ) (ch now j : ℕ) (e : Record) where
   abbrev met : Met
   met = meetOf ch now (slotNo l place) e
 
-  pub tell-miss : keyCount ≤ index → tellOctets l ch now j e ≡ putTold l j (miss e)
+  pub tell-miss : keyCount ≤ index → tellOctets l cell ch now j e ≡ putTold l j (miss e)
   unfolding tellOctets
   tell-miss h = rw (le-ltb index keyCount h) refl
 
-  pub tell-ours : index < keyCount → tellOctets l ch now j e ≡ putTold (afterMeet l place met) j (answer e met)
+  pub tell-ours : index < keyCount → tellOctets l cell ch now j e ≡ putTold (afterMeet l place met) j (answer (setAt (setsIn l) index) cell e met)
   unfolding tellOctets
   tell-ours h = rw (lt-ltb index keyCount h) refl
 
@@ -180,17 +181,17 @@ module _ (l : List ℕ) (ch now j : ℕ) (e : Record) where
   by-key : {P : Type 0} → (index < keyCount → P) → (keyCount ≤ index → P) → P
   by-key f g = by-test (ltb index keyCount) (λ p. f (ltb-true _ _ p)) (λ p. g (ltb-false _ _ p))
 
-  pub length-tell : length (tellOctets l ch now j e) ≡ length l
+  pub length-tell : length (tellOctets l cell ch now j e) ≡ length l
   length-tell =
-      by-key (λ h. ap length (tell-ours h) ∙ length-told (afterMeet l place met) j (answer e met) ∙ length-after l place met)
+      by-key (λ h. ap length (tell-ours h) ∙ length-told (afterMeet l place met) j (answer (setAt (setsIn l) index) cell e met) ∙ length-after l place met)
       (λ h. ap length (tell-miss h) ∙ length-told l j (miss e))
 
-  pub told-others : (k : ℕ) → j < mostEntries → ch < channels → (k ≡ j → ⊥) → toldNo (tellOctets l ch now j e) k ≡ toldNo l k
+  pub told-others : (k : ℕ) → j < mostEntries → ch < channels → (k ≡ j → ⊥) → toldNo (tellOctets l cell ch now j e) k ≡ toldNo l k
   told-others k a b z =
       by-key
       (λ h.
       ap (λ (x : List ℕ). toldNo x k) (tell-ours h)
-      ∙ told-other (afterMeet l place met) j k (answer e met) a z
+      ∙ told-other (afterMeet l place met) j k (answer (setAt (setsIn l) index) cell e met) a z
       ∙ told-after l place met k (omega arith))
       (λ h. ap (λ (x : List ℕ). toldNo x k) (tell-miss h) ∙ told-other l j k (miss e) a z)
 
@@ -198,54 +199,54 @@ module _ (l : List ℕ) (ch now j : ℕ) (e : Record) where
     meeting : Meeting (slotNo l place) met
     meeting = meets now t (slotNo l place) e (fits-at l place o) w ch
 
-    places-miss : keyCount ≤ index → decodeOf (tellOctets l ch now j e) ≡ withSlots (decodeOf l) (slotsAfter (keysIn l) ch now (decodeOf l .slots) e)
+    places-miss : keyCount ≤ index → decodeOf (tellOctets l cell ch now j e) ≡ withSlots (decodeOf l) (slotsAfter (keysIn l) ch now (decodeOf l .slots) e)
     unfolding slotsAfter
     places-miss h = rw (le-ltb index keyCount h) (ap decodeOf (tell-miss h) ∙ decode-told l j (miss e) a)
 
-    places-ours : index < keyCount → decodeOf (tellOctets l ch now j e) ≡ withSlots (decodeOf l) (slotsAfter (keysIn l) ch now (decodeOf l .slots) e)
+    places-ours : index < keyCount → decodeOf (tellOctets l cell ch now j e) ≡ withSlots (decodeOf l) (slotsAfter (keysIn l) ch now (decodeOf l .slots) e)
     unfolding slotsAfter
     places-ours h =
         rw (lt-ltb index keyCount h, slot-of l place (omega arith))
         (ap decodeOf (tell-ours h)
-        ∙ decode-told (afterMeet l place met) j (answer e met) a
+        ∙ decode-told (afterMeet l place met) j (answer (setAt (setsIn l) index) cell e met) a
         ∙ decode-after l place met n (omega arith) meeting)
 
-    told-miss : keyCount ≤ index → toldNo (tellOctets l ch now j e) j ≡ toldOf (keysIn l) ch now (decodeOf l .slots) e
+    told-miss : keyCount ≤ index → toldNo (tellOctets l cell ch now j e) j ≡ toldOf (keysIn l) (setsIn l) cell ch now (decodeOf l .slots) e
     unfolding toldOf
     told-miss h =
         rw (le-ltb index keyCount h)
-        (ap (λ (x : List ℕ). toldNo x j) (tell-miss h) ∙ told-same l j (miss e) n a (key-below e w) (lit< tt) wide-none (λ q. refl))
+        (ap (λ (x : List ℕ). toldNo x j) (tell-miss h) ∙ told-same l j (miss e) n a (key-below e w) wide-none (λ q. refl))
 
-    told-ours : index < keyCount → toldNo (tellOctets l ch now j e) j ≡ toldOf (keysIn l) ch now (decodeOf l .slots) e
+    told-ours : index < keyCount → toldNo (tellOctets l cell ch now j e) j ≡ toldOf (keysIn l) (setsIn l) cell ch now (decodeOf l .slots) e
     unfolding toldOf
     told-ours h =
         rw (lt-ltb index keyCount h, slot-of l place (omega arith))
         (ap (λ (x : List ℕ). toldNo x j) (tell-ours h)
-        ∙ told-same (afterMeet l place met) j (answer e met) (length-after l place met ∙ n) a (key-below e w) (meeting .number) (meeting .told) (meeting .bare))
+        ∙ told-same (afterMeet l place met) j (answer (setAt (setsIn l) index) cell e met) (length-after l place met ∙ n) a (key-below e w) (meeting .told) (meeting .bare))
 
-    pub telling : Telling l ch now j e (tellOctets l ch now j e)
+    pub telling : Telling l cell ch now j e (tellOctets l cell ch now j e)
     telling = record { octets = refl; places = by-key places-ours places-miss; told = by-key told-ours told-miss }
 
 -- ## All entries
 
-pub length-all : (l : List ℕ) (ch now j : ℕ) (es : List Record) → length (allOctets l ch now j es) ≡ length l
+pub length-all : (l : List ℕ) (cell : Cell) (ch now j : ℕ) (es : List Record) → length (allOctets l cell ch now j es) ≡ length l
 unfolding allOctets
-length-all l ch now j [] = refl
-length-all l ch now j (e ∷ es) = length-all (tellOctets l ch now j e) ch now (suc j) es ∙ length-tell l ch now j e
+length-all l cell ch now j [] = refl
+length-all l cell ch now j (e ∷ es) = length-all (tellOctets l cell ch now j e) cell ch now (suc j) es ∙ length-tell l cell ch now j e
 
-all-one : (l : List ℕ) (ch now j : ℕ) (e : Record) → allOctets l ch now j (e ∷ []) ≡ tellOctets l ch now j e
+all-one : (l : List ℕ) (cell : Cell) (ch now j : ℕ) (e : Record) → allOctets l cell ch now j (e ∷ []) ≡ tellOctets l cell ch now j e
 unfolding allOctets
-all-one l ch now j e = refl
+all-one l cell ch now j e = refl
 
-pub all-then : (l : List ℕ) (ch now j : ℕ) (es fs : List Record)
-    → allOctets l ch now j (es ++ fs) ≡ allOctets (allOctets l ch now j es) ch now (j + length es) fs
+pub all-then : (l : List ℕ) (cell : Cell) (ch now j : ℕ) (es fs : List Record)
+    → allOctets l cell ch now j (es ++ fs) ≡ allOctets (allOctets l cell ch now j es) cell ch now (j + length es) fs
 unfolding allOctets
-all-then l ch now j [] fs = ap (λ (k : ℕ). allOctets l ch now k fs) (sym (add-zero j))
-all-then l ch now j (e ∷ es) fs =
-    all-then (tellOctets l ch now j e) ch now (suc j) es fs
-    ∙ ap (λ (k : ℕ). allOctets (allOctets (tellOctets l ch now j e) ch now (suc j) es) ch now k fs) (suc-add j (length es) ∙ sym (add-suc j (length es)))
+all-then l cell ch now j [] fs = ap (λ (k : ℕ). allOctets l cell ch now k fs) (sym (add-zero j))
+all-then l cell ch now j (e ∷ es) fs =
+    all-then (tellOctets l cell ch now j e) cell ch now (suc j) es fs
+    ∙ ap (λ (k : ℕ). allOctets (allOctets (tellOctets l cell ch now j e) cell ch now (suc j) es) cell ch now k fs) (suc-add j (length es) ∙ sym (add-suc j (length es)))
 
-module _ (keys : List ℕ) (ch now : ℕ) where
+module _ (keys sets : List ℕ) (cell : Cell) (ch now : ℕ) where
   after-snoc : (slots : List Slot) (es : List Record) (e : Record)
       → allAfter keys ch now slots (es ++ (e ∷ [])) ≡ slotsAfter keys ch now (allAfter keys ch now slots es) e
   unfolding allAfter
@@ -253,65 +254,65 @@ module _ (keys : List ℕ) (ch now : ℕ) where
   after-snoc slots (x ∷ es) e = after-snoc (slotsAfter keys ch now slots x) es e
 
   snoc-told : (slots : List Slot) (es : List Record) (e : Record)
-      → allTold keys ch now slots (es ++ (e ∷ [])) ≡ allTold keys ch now slots es ++ (toldOf keys ch now (allAfter keys ch now slots es) e ∷ [])
+      → allTold keys sets cell ch now slots (es ++ (e ∷ [])) ≡ allTold keys sets cell ch now slots es ++ (toldOf keys sets cell ch now (allAfter keys ch now slots es) e ∷ [])
   unfolding allTold allAfter
   snoc-told slots [] e = refl
-  snoc-told slots (x ∷ es) e = ap (λ (l : List Told). toldOf keys ch now slots x ∷ l) (snoc-told (slotsAfter keys ch now slots x) es e)
+  snoc-told slots (x ∷ es) e = ap (λ (l : List Told). toldOf keys sets cell ch now slots x ∷ l) (snoc-told (slotsAfter keys ch now slots x) es e)
 
-  pub length-all-told : (slots : List Slot) (es : List Record) → length (allTold keys ch now slots es) ≡ length es
+  pub length-all-told : (slots : List Slot) (es : List Record) → length (allTold keys sets cell ch now slots es) ≡ length es
   unfolding allTold
   length-all-told slots [] = refl
   length-all-told slots (x ∷ es) = ap suc (length-all-told (slotsAfter keys ch now slots x) es)
 
-pub all-none : (l : List ℕ) (ch now : ℕ) → AllTold l ch now [] l
+pub all-none : (l : List ℕ) (cell : Cell) (ch now : ℕ) → AllTold l cell ch now [] l
 unfolding allOctets allAfter
-all-none l ch now = record { octets = refl; places = refl; told = λ j h. absurd (omega arith) }
+all-none l cell ch now = record { octets = refl; places = refl; told = λ j h. absurd (omega arith) }
 
 -- one more entry
-module _ (l : List ℕ) (ch now : ℕ) (es : List Record) (e : Record) (left left′ : List ℕ) (h : length es < mostEntries) (b : ch < channels) (p : AllTold l ch now es left)
-    (q : Telling left ch now (length es) e left′) where
+module _ (l : List ℕ) (cell : Cell) (ch now : ℕ) (es : List Record) (e : Record) (left left′ : List ℕ) (h : length es < mostEntries) (b : ch < channels) (p : AllTold l cell ch now es left)
+    (q : Telling left cell ch now (length es) e left′) where
   abbrev told-before : List Told
-  told-before = allTold (keysIn l) ch now (decodeOf l .slots) es
+  told-before = allTold (keysIn l) (setsIn l) cell ch now (decodeOf l .slots) es
 
-  octets-next : left′ ≡ allOctets l ch now 0 (es ++ (e ∷ []))
+  octets-next : left′ ≡ allOctets l cell ch now 0 (es ++ (e ∷ []))
   octets-next =
       q .octets
-      ∙ ap₂ (λ (x : List ℕ) (k : ℕ). tellOctets x ch now k e) (p .octets) (sym (zero-add (length es)))
-      ∙ sym (all-then l ch now 0 es (e ∷ []) ∙ all-one (allOctets l ch now 0 es) ch now (0 + length es) e)
+      ∙ ap₂ (λ (x : List ℕ) (k : ℕ). tellOctets x cell ch now k e) (p .octets) (sym (zero-add (length es)))
+      ∙ sym (all-then l cell ch now 0 es (e ∷ []) ∙ all-one (allOctets l cell ch now 0 es) cell ch now (0 + length es) e)
 
   places-next : decodeOf left′ ≡ withSlots (decodeOf l) (allAfter (keysIn l) ch now (decodeOf l .slots) (es ++ (e ∷ [])))
   places-next =
       q .places
       ∙ ap (λ (r : Receiver). withSlots r (slotsAfter (keysOf r) ch now (r .slots) e)) (p .places)
-      ∙ ap (withSlots (decodeOf l)) (sym (after-snoc (keysIn l) ch now (decodeOf l .slots) es e))
+      ∙ ap (withSlots (decodeOf l)) (sym (after-snoc (keysIn l) (setsIn l) cell ch now (decodeOf l .slots) es e))
 
   length-before : length told-before ≡ length es
-  length-before = length-all-told (keysIn l) ch now (decodeOf l .slots) es
+  length-before = length-all-told (keysIn l) (setsIn l) cell ch now (decodeOf l .slots) es
 
-  told-here : toldNo left′ (length es) ≡ toldOf (keysIn l) ch now (allAfter (keysIn l) ch now (decodeOf l .slots) es) e
-  told-here = q .told ∙ ap (λ (r : Receiver). toldOf (keysOf r) ch now (r .slots) e) (p .places)
+  told-here : toldNo left′ (length es) ≡ toldOf (keysIn l) (setsIn l) cell ch now (allAfter (keysIn l) ch now (decodeOf l .slots) es) e
+  told-here = q .told ∙ ap (λ (r : Receiver). toldOf (keysOf r) (r .sets) cell ch now (r .slots) e) (p .places)
 
-  told-next : (j : ℕ) → j < length (es ++ (e ∷ [])) → toldNo left′ j ≡ getD (allTold (keysIn l) ch now (decodeOf l .slots) (es ++ (e ∷ []))) j noTold
+  told-next : (j : ℕ) → j < length (es ++ (e ∷ [])) → toldNo left′ j ≡ getD (allTold (keysIn l) (setsIn l) cell ch now (decodeOf l .slots) (es ++ (e ∷ []))) j noTold
   told-next j lt =
       let m : j < length es + 1 = rw (length-append es (e ∷ [])) at lt in
-      rw (snoc-told (keysIn l) ch now (decodeOf l .slots) es e)
+      rw (snoc-told (keysIn l) (setsIn l) cell ch now (decodeOf l .slots) es e)
       (by-test (ltb j (length es))
       (λ t.
       let u : j < length es = ltb-true _ _ t in
       ap (λ (x : List ℕ). toldNo x j) (q .octets)
-      ∙ told-others left ch now (length es) e j h b (λ z. omega arith)
+      ∙ told-others left cell ch now (length es) e j h b (λ z. omega arith)
       ∙ p .told j u
       ∙ sym (List·getD-append told-before _ noTold j (omega (arith, length-before))))
       (λ t.
       let u : j ≡ length es = omega (arith, ltb-false j (length es) t) in
       rw u (told-here ∙ sym (getD-at told-before _ [] noTold (length es) length-before))))
 
-  pub all-next : AllTold l ch now (es ++ (e ∷ [])) left′
+  pub all-next : AllTold l cell ch now (es ++ (e ∷ [])) left′
   all-next = record { octets = octets-next; places = places-next; told = told-next }
 
 -- a message of one entry
-pub all-one-told : (l : List ℕ) (ch now : ℕ) (e : Record) (left : List ℕ) → ch < channels → Telling l ch now 0 e left → AllTold l ch now (e ∷ []) left
-all-one-told l ch now e left b q = all-next l ch now [] e l left (lit< tt) b (all-none l ch now) q
+pub all-one-told : (l : List ℕ) (cell : Cell) (ch now : ℕ) (e : Record) (left : List ℕ) → ch < channels → Telling l cell ch now 0 e left → AllTold l cell ch now (e ∷ []) left
+all-one-told l cell ch now e left b q = all-next l cell ch now [] e l left (lit< tt) b (all-none l cell ch now) q
 
-pub all-length : (l : List ℕ) (ch now : ℕ) (es : List Record) (left : List ℕ) → AllTold l ch now es left → length left ≡ length l
-all-length l ch now es left p = ap length (p .octets) ∙ length-all l ch now 0 es
+pub all-length : (l : List ℕ) (cell : Cell) (ch now : ℕ) (es : List Record) (left : List ℕ) → AllTold l cell ch now es left → length left ≡ length l
+all-length l cell ch now es left p = ap length (p .octets) ∙ length-all l cell ch now 0 es

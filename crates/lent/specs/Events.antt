@@ -13,9 +13,9 @@ use Rattle.receiver.specs.declared.Answer.{Answer}
 use Rattle.receiver.specs.declared.Rule.{Rule}
 use Rattle.receiver.specs.declared.Met.{Met}
 use Rattle.receiver.specs.Channels.{keyCount, placeOn, numberOf}
-use Rattle.receiver.specs.Model.{noRecord, keyOf, indexOf, expiredOf, droppedOf, meetOf}
-use Rattle.receiver.specs.Step.{Event, Content, contentOf, cellAfter, ruleBy, refusalOf, stepOf}
-use Rattle.layout.specs.Layout.{isState, slotNo, decodeOf, keysIn, putSlot, Last, lastOf, putTold, putHead}
+use Rattle.receiver.specs.Model.{keyOf, indexOf, expiredOf, droppedOf, meetOf}
+use Rattle.receiver.specs.Step.{setAt, toldAs, toldOnly, Event, Content, contentOf, cellAfter, ruleBy, refusalOf, stepOf}
+use Rattle.layout.specs.Layout.{isState, slotNo, decodeOf, keysIn, setsIn, putSlot, Last, lastOf, putTold, putHead}
 use Rattle.layout.specs.Sweep.{sweptOctets}
 
 -- ## An entry: its place changes only where a half is stored (4) or joined (3), then its answer is written
@@ -23,32 +23,32 @@ use Rattle.layout.specs.Sweep.{sweptOctets}
 abbrev pub afterMeet : List ℕ → ℕ → Met → List ℕ
 afterMeet l i m = pick (both (ltb 2 (m .number)) (ltb (m .number) 5)) (putSlot l i (m .held)) l
 
-abbrev pub metOctets : List ℕ → ℕ → ℕ → ℕ → ℕ → Met → List ℕ
-metOctets l ch j i key m = putTold (afterMeet l (placeOn i ch) m) j (record { key = key; number = m .number; «record» = m .told })
+abbrev pub metOctets : List ℕ → Cell → ℕ → ℕ → ℕ → ℕ → Met → List ℕ
+metOctets l cell ch j i key m = putTold (afterMeet l (placeOn i ch) m) j (toldAs (setAt (setsIn l) i) cell key (m .number) (m .told))
 
-abbrev pub tellAt : List ℕ → ℕ → ℕ → ℕ → ℕ → Record → List ℕ
-tellAt l ch now j i e =
-    pick (ltb i keyCount) (metOctets l ch j i (keyOf (e .call)) (meetOf ch now (slotNo l (placeOn i ch)) e))
-    (putTold l j (record { key = keyOf (e .call); number = 0; «record» = noRecord }))
+-- with what is known of the cell then
+abbrev pub tellAt : List ℕ → Cell → ℕ → ℕ → ℕ → ℕ → Record → List ℕ
+tellAt l cell ch now j i e =
+    pick (ltb i keyCount) (metOctets l cell ch j i (keyOf (e .call)) (meetOf ch now (slotNo l (placeOn i ch)) e)) (putTold l j (toldOnly (keyOf (e .call)) 0))
 
-unfoldable pub tellOctets : List ℕ → ℕ → ℕ → ℕ → Record → List ℕ
-tellOctets l ch now j e = tellAt l ch now j (indexOf (keysIn l) (keyOf (e .call))) e
+unfoldable pub tellOctets : List ℕ → Cell → ℕ → ℕ → ℕ → Record → List ℕ
+tellOctets l cell ch now j e = tellAt l cell ch now j (indexOf (keysIn l) (keyOf (e .call))) e
 
 -- the entries of a message, in order
-unfoldable pub allOctets : List ℕ → ℕ → ℕ → ℕ → List Record → List ℕ
-allOctets l ch now j [] = l
-allOctets l ch now j (e ∷ es) = allOctets (tellOctets l ch now j e) ch now (suc j) es
+unfoldable pub allOctets : List ℕ → Cell → ℕ → ℕ → ℕ → List Record → List ℕ
+allOctets l cell ch now j [] = l
+allOctets l cell ch now j (e ∷ es) = allOctets (tellOctets l cell ch now j e) cell ch now (suc j) es
 
 -- ## An event
 
 abbrev pub acceptedOctets : List ℕ → ℕ → Rule → Cell → ℕ → List Record → List ℕ
 acceptedOctets l now rule cell ch es =
-    putHead (allOctets (sweptOctets now rule l) ch now 0 es) now cell (expiredOf (decodeOf l) now (decodeOf l .slots)) (droppedOf (decodeOf l) now rule) (length es)
+    putHead (allOctets (sweptOctets now rule l) cell ch now 0 es) now cell (expiredOf (decodeOf l) now (decodeOf l .slots)) (droppedOf (decodeOf l) now rule) (length es)
 
 -- the same of what is in an event
 abbrev pub acceptedAsOctets : List ℕ → ℕ → Content → List ℕ
 acceptedAsOctets l now x =
-    acceptedOctets l now (ruleBy (decodeOf l) (x .cause)) (cellAfter (decodeOf l .cell) (x .cause)) (numberOf (x .channel)) (x .entries)
+    acceptedOctets l now (ruleBy (decodeOf l) (x .cause)) (cellAfter (decodeOf l .cell) (x .cause) (x .news)) (numberOf (x .channel)) (x .entries)
 
 -- the answer by value, without its refusal and its receiver
 abbrev pub answered : Answer → Last

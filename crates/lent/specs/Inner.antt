@@ -19,7 +19,7 @@ use Rattle.receiver.specs.declared.Met.{Met}
 use Rattle.receiver.specs.Model.{late, joinedOf, only, meetHalf, withSlots}
 use Rattle.receiver.specs.Entries.{callWith, reducedWith}
 use Rattle.receiver.specs.Step.{noTold, slotsAfter, toldOf, allAfter, allTold, acceptedWith}
-use Rattle.layout.specs.Layout.{isState, decodeOf, keysIn, toldNo, lastOf}
+use Rattle.layout.specs.Layout.{isState, decodeOf, keysIn, setsIn, toldNo, lastOf}
 use Rattle.lent.specs.Events.{tellOctets, allOctets, acceptedOctets, answered}
 
 -- ## The entries of an NCH message by its numbers
@@ -50,17 +50,17 @@ pub record EntryFits (ns : List ℕ) (full : Bool) (at mark : ℕ) : Type 0 wher
 abbrev pub metHalf : ℕ → Slot → Record → Met
 metHalf half s e = meetHalf half s e (pick (eqb half 1) (joinedOf e (s .«record»)) (joinedOf (s .«record») e)) (only 4 s)
 
--- what telling the j-th entry leaves, and what is read there
-pub record Telling (l : List ℕ) (ch now j : ℕ) (e : Record) (left : List ℕ) : Type 0 where
-  pub octets : left ≡ tellOctets l ch now j e
+-- what telling the j-th entry leaves, with what is known of the cell then, and what is read there
+pub record Telling (l : List ℕ) (cell : Cell) (ch now j : ℕ) (e : Record) (left : List ℕ) : Type 0 where
+  pub octets : left ≡ tellOctets l cell ch now j e
   pub places : decodeOf left ≡ withSlots (decodeOf l) (slotsAfter (keysIn l) ch now (decodeOf l .slots) e)
-  pub told : toldNo left j ≡ toldOf (keysIn l) ch now (decodeOf l .slots) e
+  pub told : toldNo left j ≡ toldOf (keysIn l) (setsIn l) cell ch now (decodeOf l .slots) e
 
 -- what telling all of them leaves, and what is read there
-pub record AllTold (l : List ℕ) (ch now : ℕ) (es : List Record) (left : List ℕ) : Type 0 where
-  pub octets : left ≡ allOctets l ch now 0 es
+pub record AllTold (l : List ℕ) (cell : Cell) (ch now : ℕ) (es : List Record) (left : List ℕ) : Type 0 where
+  pub octets : left ≡ allOctets l cell ch now 0 es
   pub places : decodeOf left ≡ withSlots (decodeOf l) (allAfter (keysIn l) ch now (decodeOf l .slots) es)
-  pub told : (j : ℕ) → j < length es → toldNo left j ≡ getD (allTold (keysIn l) ch now (decodeOf l .slots) es) j noTold
+  pub told : (j : ℕ) → j < length es → toldNo left j ≡ getD (allTold (keysIn l) (setsIn l) cell ch now (decodeOf l .slots) es) j noTold
 
 -- ## An event
 

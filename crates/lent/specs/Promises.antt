@@ -11,7 +11,7 @@ use Rattle.receiver.specs.Halving.{firstOf}
 use Rattle.receiver.specs.Channels.{Channel}
 use Rattle.receiver.specs.Step.{Event, refusalOf}
 use Rattle.isolation.specs.One.{hears, Said, runOne, runEach, seen, fresh}
-use Rattle.isolation.specs.Calls.{timerOf, channelIn, Reply, replyBy}
+use Rattle.isolation.specs.Calls.{timerOf, setUnder, channelIn, Reply, replyBy}
 use Rattle.isolation.specs.Promises.{under, Ticks}
 use Rattle.layout.specs.Layout.{stateLength, decodeOf, Last, lastOf}
 use Rattle.layout.specs.Setup.{SetUp}
@@ -48,28 +48,28 @@ readEach key c (e ∷ es) (a ∷ rest) = pick (eqb (a .code) 0) (heard key c e (
 -- the one-call receiver answers to what that call sees.
 abbrev pub No-call-disturbs-another-in-octets : Type 0
 No-call-disturbs-another-in-octets =
-    (l : List ℕ) (s : Setup) (keys left : List ℕ)
-    → SetUp l s keys left 0
+    (l : List ℕ) (s : Setup) (keys groups left : List ℕ)
+    → SetUp l s keys groups left 0
     → s .tick < 4294967296
     → (key : ℕ)
     → firstOf keys key < length keys
     → (c : Channel) (es : List Event) (run : List Returned)
     → Ticks es
     → Run left es run
-    → readUnder key c es run ≡ runOne key c (timerOf c s) fresh (seen key c (s .tick) es)
+    → readUnder key c es run ≡ runOne key c (timerOf c s) (setUnder keys groups key) fresh (seen key c (s .tick) es)
 
 -- The same event by event: nothing is read after another event than its own.
 abbrev pub No-call-disturbs-another-at-any-event-in-octets : Type 0
 No-call-disturbs-another-at-any-event-in-octets =
-    (l : List ℕ) (s : Setup) (keys left : List ℕ)
-    → SetUp l s keys left 0
+    (l : List ℕ) (s : Setup) (keys groups left : List ℕ)
+    → SetUp l s keys groups left 0
     → s .tick < 4294967296
     → (key : ℕ)
     → firstOf keys key < length keys
     → (c : Channel) (es : List Event) (run : List Returned)
     → Ticks es
     → Run left es run
-    → readEach key c es run ≡ runEach key c (timerOf c s) fresh (s .tick) es
+    → readEach key c es run ≡ runEach key c (timerOf c s) (setUnder keys groups key) fresh (s .tick) es
 
 -- ## 2. The whole answer over octets
 
@@ -86,8 +86,8 @@ shown a = record { expired = a .expired; dropped = a .dropped; count = a .count;
 -- single calls give, and where that is 0, what is read then is their whole answer.
 abbrev pub The-answer-is-the-calls-in-octets : Type 0
 The-answer-is-the-calls-in-octets =
-    (l : List ℕ) (s : Setup) (keys left : List ℕ)
-    → SetUp l s keys left 0
+    (l : List ℕ) (s : Setup) (keys groups left : List ℕ)
+    → SetUp l s keys groups left 0
     → s .tick < 4294967296
     → (es : List Event) (run : List Returned)
     → Ticks es
@@ -96,7 +96,7 @@ The-answer-is-the-calls-in-octets =
     → e .tick < 4294967296
     → (a : Returned)
     → Fed (leftAfter left run) e (a .octets) (a .code)
-    → (a .code ≡ codeOf (replyBy s es e keys .refusal)) × (a .code ≡ 0 → lastOf (a .octets) ≡ shown (replyBy s es e keys))
+    → (a .code ≡ codeOf (replyBy s es e keys groups .refusal)) × (a .code ≡ 0 → lastOf (a .octets) ≡ shown (replyBy s es e keys groups))
 
 -- ## 3. A refused event
 

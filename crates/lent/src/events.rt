@@ -8,7 +8,8 @@ ghost use Rattle.nch.specs.NotificationNumbers.{recordFrom, Fits};
 ghost use Rattle.receiver.specs.Channels.{keyCount, Channel, hasNln};
 ghost use Rattle.receiver.specs.Model.{ruleFor, keep};
 ghost use Rattle.receiver.specs.Entries.{nchEntries, facchEntries, pchEntries};
-ghost use Rattle.receiver.specs.Step.{changes, numbering, cellAfter, mostEntries, moved, nch, facch, pch, joined, reselected, handedOver, reconfigured, leftIdle, tick};
+ghost use Rattle.receiver.specs.Count.{counting, countingOver, cellWith};
+ghost use Rattle.receiver.specs.Step.{changes, numbering, cellAfter, mostEntries, moved, nch, facch, pch, joined, reselected, handedOver, reconfigured, leftIdle, bit22, tick};
 ghost use Rattle.layout.specs.Layout.{stateLength, decodeOf};
 ghost use Rattle.lent.specs.Events.{Fed};
 ghost use Rattle.lent.specs.Inner.{Accepted, earlyCode};
@@ -26,6 +27,7 @@ use receiver::Cell;
 use receiver::LAST_KEY;
 use receiver::Move;
 use receiver::Rule;
+use receiver::count;
 use receiver::events;
 use receiver::meeting;
 use receiver::store;
@@ -52,12 +54,11 @@ fn accept(b: &mut [u8], time: u32, rule: Rule, cell: Cell)
     put_head(b, time, cell, lost.expired, lost.dropped, 0);
 }
 
-// An accepted event that takes nothing by its own rule.
-fn accept_tick(b: &mut [u8], time: u32)
+// An accepted event without entries that takes nothing by its own rule. It has one caller, so that a tick is one function.
+fn accept_pass(b: &mut [u8], time: u32, cell: Cell)
     requires { ⌜ length (now b) ≡ stateLength ⌝ }
-    ensures { λ _. ⌜ Accepted (now (b .entry)) time keep (decodeOf (now (b .entry)) .cell) 0 [] (now (b .exit)) ⌝ }
+    ensures { λ _. ⌜ Accepted (now (b .entry)) time keep cell 0 [] (now (b .exit)) ⌝ }
 {
-    let cell = cell_of(b);
     let lost = pass(b, time);
     put_head(b, time, cell, lost.expired, lost.dropped, 0);
 }
@@ -67,43 +68,42 @@ fn accept_nch(b: &mut [u8], time: u32, m: &[u64])
     requires { ⌜ (length (now b) ≡ stateLength) × (Fits (now m) × (length (nchEntries (recordFrom (now m))) ≤ mostEntries)) ⌝ }
     ensures { λ _. ⌜ Accepted (now (b .entry)) time
         (ruleFor (λ (c : Channel). both (hasNln c) (both (recordFrom (now (m .entry)) .hasNln) (changes (decodeOf (now (b .entry)) .cell) (recordFrom (now (m .entry)) .nln)))) keyCount)
-        (cellAfter (decodeOf (now (b .entry)) .cell) (numbering (recordFrom (now (m .entry)) .hasNln) (recordFrom (now (m .entry)) .nln)))
+        (cellAfter (decodeOf (now (b .entry)) .cell) (numbering (recordFrom (now (m .entry)) .hasNln) (recordFrom (now (m .entry)) .nln))
+        (counting (recordFrom (now (m .entry)) .release6 .hasCount) (recordFrom (now (m .entry)) .release6 .cellcount)))
         0 (nchEntries (recordFrom (now (m .entry)))) (now (b .exit)) ⌝ }
 {
     let last = cell_of(b);
     let numbered = m[places::NUMBERED] == 1;
     let nln = m[places::NLN] as u8;
+    let counted = m[places::COUNTED] == 1;
+    let cellcount = m[places::CELLCOUNT] as u8;
+    let cell = count::taken(events::nln_cell(last, numbered, nln), counted, cellcount);
     let lost = sweep(b, time, events::nln_rule(last, numbered, nln));
-    let count = tell_nch(b, time, m);
-    put_head(
-        b,
-        time,
-        events::cell_after(last, numbered, nln),
-        lost.expired,
-        lost.dropped,
-        count,
-    );
+    let entries = tell_nch(b, cell, time, m);
+    put_head(b, time, cell, lost.expired, lost.dropped, entries);
 }
 
 // An accepted FACCH message: it takes no half, as a tick.
 fn accept_facch(b: &mut [u8], time: u32, m: facch::Notification)
     requires { ⌜ length (now b) ≡ stateLength ⌝ }
-    ensures { λ _. ⌜ Accepted (now (b .entry)) time keep (decodeOf (now (b .entry)) .cell) 1 (facchEntries m) (now (b .exit)) ⌝ }
+    ensures { λ _. ⌜ Accepted (now (b .entry)) time keep
+        (cellWith (decodeOf (now (b .entry)) .cell) (countingOver (m .release6 .hasCount) (m .release6 .b22) (m .release6 .cellcount))) 1 (facchEntries m) (now (b .exit)) ⌝ }
 {
-    let cell = cell_of(b);
+    let six = m.release6;
+    let cell = count::taken_over(cell_of(b), six.hasCount, six.b22, six.cellcount);
     let lost = pass(b, time);
-    tell_facch(b, time, m);
+    tell_facch(b, cell, time, m);
     put_head(b, time, cell, lost.expired, lost.dropped, 1);
 }
 
 // An accepted entry of the PCH.
 fn accept_pch(b: &mut [u8], time: u32, rule: Rule, p: pch::Entry)
     requires { ⌜ length (now b) ≡ stateLength ⌝ }
-    ensures { λ _. ⌜ Accepted (now (b .entry)) time rule (decodeOf (now (b .entry)) .cell) 2 (pchEntries p) (now (b .exit)) ⌝ }
+    ensures { λ _. ⌜ Accepted (now (b .entry)) time rule (cellWith (decodeOf (now (b .entry)) .cell) (counting (p .hasCount) (p .cellcount))) 2 (pchEntries p) (now (b .exit)) ⌝ }
 {
-    let cell = cell_of(b);
+    let cell = count::taken(cell_of(b), p.hasCount, p.cellcount);
     let lost = sweep(b, time, rule);
-    tell_pch(b, time, p);
+    tell_pch(b, cell, time, p);
     put_head(b, time, cell, lost.expired, lost.dropped, 1);
 }
 
@@ -218,6 +218,22 @@ pub fn left_idle(b: &mut [u8], time: u32) -> u32
     move_on(b, time, Move::LeftIdle)
 }
 
+// Bit 22 of COUNT has a value, 0 or 1.
+pub fn bit_22(b: &mut [u8], time: u32, value: u32) -> u32
+    ensures { λ r. ⌜ Fed (now (b .entry)) (bit22 time value) (now (b .exit)) r ⌝ }
+{
+    let n = early(b, time);
+    if n != 0 {
+        return n;
+    }
+    if 1 < value {
+        return 12;
+    }
+    let cell = count::turned(cell_of(b), value as u8);
+    accept(b, time, store::keep(), cell);
+    0
+}
+
 // Time passed.
 pub fn tick(b: &mut [u8], time: u32) -> u32
     ensures { λ r. ⌜ Fed (now (b .entry)) (tick time) (now (b .exit)) r ⌝ }
@@ -226,6 +242,7 @@ pub fn tick(b: &mut [u8], time: u32) -> u32
     if n != 0 {
         return n;
     }
-    accept_tick(b, time);
+    let cell = cell_of(b);
+    accept_pass(b, time, cell);
     0
 }

@@ -6,9 +6,10 @@ ghost use Rattle.nch.specs.Places.{mostRandoms};
 ghost use Rattle.nch.specs.NotificationNumbers.{recordFrom, Fits};
 ghost use Rattle.receiver.specs.Channels.{channels, keyCount, places, placeOn};
 ghost use Rattle.receiver.specs.Model.{keyOf, meetOf};
-ghost use Rattle.receiver.specs.Step.{mostEntries};
+ghost use Rattle.bits.specs.Field.{pick};
+ghost use Rattle.receiver.specs.Step.{mostEntries, toldAs};
 ghost use Rattle.receiver.specs.Entries.{nchEntries, facchEntries, pchEntries};
-ghost use Rattle.layout.specs.Layout.{stateLength, slotNo};
+ghost use Rattle.layout.specs.Layout.{stateLength, isEntry, slotNo, putCarried};
 ghost use Rattle.lent.specs.Events.{metOctets};
 ghost use Rattle.lent.specs.Inner.{metHalf, Telling, AllTold, entryFrom, EntryFits};
 use crate::entries::entry_at;
@@ -18,12 +19,15 @@ use layout::places::clear;
 use layout::places::half_at;
 use layout::places::held_at;
 use layout::places::index_of;
+use layout::places::set_at;
 use layout::places::store;
 use nch::places;
+use receiver::Cell;
 use receiver::Record;
 use receiver::Setup;
 use receiver::channels;
 use receiver::channels::CHANNELS;
+use receiver::count;
 use receiver::meeting;
 use receiver::messages;
 
@@ -35,10 +39,18 @@ fn place_on(i: usize, ch: usize) -> usize
     CHANNELS * i + ch
 }
 
+// A complete call, told with its record and with whether it can be followed.
+fn put_complete(b: &mut [u8], set: u32, cell: Cell, j: usize, key: u64, number: u8, e: Record)
+    ensures { λ _. ⌜ now (b .exit) ≡ pick (isEntry (now (b .entry)) j) (putCarried (now (b .entry)) j (toldAs set cell key number e)) (now (b .entry)) ⌝ }
+{
+    let follow = count::follow(set, cell, number, e.call.cipher);
+    put_told(b, j, key, number, follow, count::beside(follow, cell), e);
+}
+
 // A half, the first (1) or the second (2), that comes where another is held: the same one again, or the opposite one, with which it joins if their references agree.
-fn met_half(b: &mut [u8], ch: usize, j: usize, i: usize, half: u8, e: Record)
+fn met_half(b: &mut [u8], cell: Cell, ch: usize, j: usize, i: usize, half: u8, e: Record)
     requires { ⌜ (length (now b) ≡ stateLength) × ((ch < channels) × ((j < mostEntries) × ((i < keyCount) × ((slotNo (now b) (placeOn i ch) .half ≡ 0 → ⊥) × ((1 ≤ half) × (half ≤ 2)))))) ⌝ }
-    ensures { λ _. ⌜ now (b .exit) ≡ metOctets (now (b .entry)) ch j i (keyOf (e .call)) (metHalf half (slotNo (now (b .entry)) (placeOn i ch)) e) ⌝ }
+    ensures { λ _. ⌜ now (b .exit) ≡ metOctets (now (b .entry)) cell ch j i (keyOf (e .call)) (metHalf half (slotNo (now (b .entry)) (placeOn i ch)) e) ⌝ }
 {
     let at = place_on(i, ch);
     let call = e.call;
@@ -52,24 +64,26 @@ fn met_half(b: &mut [u8], ch: usize, j: usize, i: usize, half: u8, e: Record)
         put_number(b, j, key, 7);
         return;
     }
+    let set = set_at(b, i);
     clear(b, at);
     if half == 1 {
-        put_told(b, j, key, 3, meeting::join(e, h));
+        put_complete(b, set, cell, j, key, 3, meeting::join(e, h));
         return;
     }
-    put_told(b, j, key, 3, meeting::join(h, e));
+    put_complete(b, set, cell, j, key, 3, meeting::join(h, e));
 }
 
-// An entry under the key of subscription i meets its place on channel ch.
-fn ours(b: &mut [u8], ch: usize, tick: u32, j: usize, i: usize, e: Record)
+// An entry under the key of subscription i meets its place on channel ch, with what is known of the cell.
+fn ours(b: &mut [u8], cell: Cell, ch: usize, tick: u32, j: usize, i: usize, e: Record)
     requires { ⌜ (length (now b) ≡ stateLength) × ((ch < channels) × ((j < mostEntries) × (i < keyCount))) ⌝ }
-    ensures { λ _. ⌜ now (b .exit) ≡ metOctets (now (b .entry)) ch j i (keyOf (e .call)) (meetOf ch tick (slotNo (now (b .entry)) (placeOn i ch)) e) ⌝ }
+    ensures { λ _. ⌜ now (b .exit) ≡ metOctets (now (b .entry)) cell ch j i (keyOf (e .call)) (meetOf ch tick (slotNo (now (b .entry)) (placeOn i ch)) e) ⌝ }
 {
     let call = e.call;
     let key = meeting::key_of(call);
     let c = meeting::class(ch, e);
     if c < 3 {
-        put_told(b, j, key, c, e);
+        let set = set_at(b, i);
+        put_complete(b, set, cell, j, key, c, e);
         return;
     }
     if 4 < c {
@@ -78,7 +92,7 @@ fn ours(b: &mut [u8], ch: usize, tick: u32, j: usize, i: usize, e: Record)
     }
     let at = place_on(i, ch);
     if half_at(b, at) != 0 {
-        met_half(b, ch, j, i, c - 2, e);
+        met_half(b, cell, ch, j, i, c - 2, e);
         return;
     }
     if c == 4 {
@@ -92,9 +106,9 @@ fn ours(b: &mut [u8], ch: usize, tick: u32, j: usize, i: usize, e: Record)
 }
 
 // The entry of a FACCH message. Its record is made only where its key is ours.
-pub(crate) fn tell_facch(b: &mut [u8], tick: u32, m: facch::Notification)
+pub(crate) fn tell_facch(b: &mut [u8], cell: Cell, tick: u32, m: facch::Notification)
     requires { ⌜ length (now b) ≡ stateLength ⌝ }
-    ensures { λ _. ⌜ AllTold (now (b .entry)) 1 tick (facchEntries m) (now (b .exit)) ⌝ }
+    ensures { λ _. ⌜ AllTold (now (b .entry)) cell 1 tick (facchEntries m) (now (b .exit)) ⌝ }
 {
     let c = m.call;
     let key = meeting::key_of(c);
@@ -103,13 +117,21 @@ pub(crate) fn tell_facch(b: &mut [u8], tick: u32, m: facch::Notification)
         put_number(b, 0, key, 0);
         return;
     }
-    ours(b, channels::FACCH, tick, 0, i, messages::facch_entry(m));
+    ours(
+        b,
+        cell,
+        channels::FACCH,
+        tick,
+        0,
+        i,
+        messages::facch_entry(m),
+    );
 }
 
 // An entry of the PCH, likewise.
-pub(crate) fn tell_pch(b: &mut [u8], tick: u32, p: pch::Entry)
+pub(crate) fn tell_pch(b: &mut [u8], cell: Cell, tick: u32, p: pch::Entry)
     requires { ⌜ length (now b) ≡ stateLength ⌝ }
-    ensures { λ _. ⌜ AllTold (now (b .entry)) 2 tick (pchEntries p) (now (b .exit)) ⌝ }
+    ensures { λ _. ⌜ AllTold (now (b .entry)) cell 2 tick (pchEntries p) (now (b .exit)) ⌝ }
 {
     let c = p.call;
     let key = meeting::key_of(c);
@@ -118,13 +140,14 @@ pub(crate) fn tell_pch(b: &mut [u8], tick: u32, p: pch::Entry)
         put_number(b, 0, key, 0);
         return;
     }
-    ours(b, channels::PCH, tick, 0, i, messages::pch_entry(p));
+    ours(b, cell, channels::PCH, tick, 0, i, messages::pch_entry(p));
 }
 
 // The j-th entry of an NCH message, whose numbers stand at a place: told 0 where its key is not ours; its record is made only where it is. Calls and reduced references
 // come through this one function, so that the compiler keeps it apart from the loops over them.
 fn tell_numbers(
     b: &mut [u8],
+    cell: Cell,
     tick: u32,
     j: usize,
     m: &[u64],
@@ -134,7 +157,7 @@ fn tell_numbers(
     mark: usize,
 )
     requires { ⌜ (length (now b) ≡ stateLength) × ((j < mostEntries) × (Fits (now m) × ((random < mostRandoms) × EntryFits (now m) full at mark))) ⌝ }
-    ensures { λ _. ⌜ Telling (now (b .entry)) 0 tick j (entryFrom (now (m .entry)) full at random mark) (now (b .exit)) ⌝ }
+    ensures { λ _. ⌜ Telling (now (b .entry)) cell 0 tick j (entryFrom (now (m .entry)) full at random mark) (now (b .exit)) ⌝ }
 {
     let key = m[at] * 2 + m[at + 1];
     let i = index_of(b, key);
@@ -142,13 +165,13 @@ fn tell_numbers(
         put_number(b, j, key, 0);
         return;
     }
-    ours(b, 0, tick, j, i, entry_at(m, full, at, random, mark));
+    ours(b, cell, 0, tick, j, i, entry_at(m, full, at, random, mark));
 }
 
 // All entries of an NCH message, calls then reduced references, from its numbers, and how many they are.
-pub(crate) fn tell_nch(b: &mut [u8], tick: u32, m: &[u64]) -> u32
+pub(crate) fn tell_nch(b: &mut [u8], cell: Cell, tick: u32, m: &[u64]) -> u32
     requires { ⌜ (length (now b) ≡ stateLength) × Fits (now m) ⌝ }
-    ensures { λ r. ⌜ (r ≡ length (nchEntries (recordFrom (now (m .entry))))) × AllTold (now (b .entry)) 0 tick (nchEntries (recordFrom (now (m .entry)))) (now (b .exit)) ⌝ }
+    ensures { λ r. ⌜ (r ≡ length (nchEntries (recordFrom (now (m .entry))))) × AllTold (now (b .entry)) cell 0 tick (nchEntries (recordFrom (now (m .entry)))) (now (b .exit)) ⌝ }
 {
     let n = bits::least(m[places::CALLS] as usize, places::MOST_CALLS);
     let count = n + bits::least(m[places::REDUCEDS] as usize, places::MOST_REDUCEDS);
@@ -157,7 +180,7 @@ pub(crate) fn tell_nch(b: &mut [u8], tick: u32, m: &[u64]) -> u32
     let mut i: usize = 0;
     'calls: while i < n {
         let at = places::FIRST_CALL + places::CALL_LENGTH * i;
-        tell_numbers(b, tick, i, m, true, at, random, mark);
+        tell_numbers(b, cell, tick, i, m, true, at, random, mark);
         random += (1 <= m[at + 4]) as usize;
         mark += m[at + 5] as usize;
         i += 1;
@@ -165,6 +188,7 @@ pub(crate) fn tell_nch(b: &mut [u8], tick: u32, m: &[u64]) -> u32
     'reduceds: while i < count {
         tell_numbers(
             b,
+            cell,
             tick,
             i,
             m,

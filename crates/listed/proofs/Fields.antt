@@ -140,13 +140,15 @@ ofRecord r =
     ++ ofCommon (r .common)
 
 abbrev pub ofTold : Told → Nested 1
-ofTold t = number (t .key) ∷ number (t .number) ∷ ofRecord (t .«record»)
+ofTold t = number (t .key) ∷ number (t .number) ∷ number (t .follow) ∷ number (t .kept) ∷ ofRecord (t .«record»)
 
 abbrev pub ofSlot : Slot → Nested 1
 ofSlot s = number (s .half) ∷ number (s .since) ∷ ofRecord (s .«record»)
 
 abbrev pub ofReceiver : Receiver → Nested 3
-ofReceiver r = map ofSlot (r .slots) ∷ numbers (r .keys) ∷ numbers (r .tick ∷ r .t3206 ∷ r .t3208 ∷ r .t3210 ∷ r .cell .nln ∷ r .keycount ∷ []) ∷ []
+ofReceiver r =
+    map ofSlot (r .slots) ∷ numbers (r .keys) ∷ numbers (r .tick ∷ r .t3206 ∷ r .t3208 ∷ r .t3210 ∷ r .cell .nln ∷ r .keycount ∷ r .cell .count ∷ r .cell .bit ∷ [])
+    ∷ numbers (r .sets) ∷ []
 
 abbrev pub ofAnswer : Answer → Nested 3
 ofAnswer a =

@@ -13,6 +13,7 @@ use Rattle.csn1.specs.Format.{readItems, padBit, ground}
 use Rattle.nch.specs.Octets.{notification}
 use Rattle.nch.specs.Told.{readOf}
 use Rattle.nch.specs.Owners.{randomOfCall, randomOfReduced, emergencyOfCall}
+use Rattle.receiver.specs.Count.{allSets, followOf}
 use Rattle.receiver.specs.Halving.{soughtIn, halving, rises}
 use Rattle.receiver.specs.Model.{late, spares, ranOutOf, takenOf, keptOf, sweptSlots, expiredOf, droppedOf, classOf, agree, joinedOf, meetOf, allLow, setupRight, startedOf}
 use Rattle.receiver.specs.Entries.{callEntry, reducedEntry, nchEntries}
@@ -26,7 +27,9 @@ use Rattle.listed.proofs.Test.{test, all}
 use Rattle.listed.proofs.Whole.{reading-equal, answer-equal, cause-equal, digits-equal}
 
 every-listed-row-passes : all rows ≡ true
-unfolding notification readItems field bit padBit ground randomOfCall randomOfReduced emergencyOfCall late soughtIn halving spares ranOutOf takenOf keptOf sweptSlots expiredOf droppedOf classOf agree joinedOf meetOf allLow rises setupRight startedOf callEntry reducedEntry nchEntries slotsAfter toldOf allAfter allTold refusalOf stepOf cause.readOf cause.parse cause.meaningOf cause.isListed digits.readOf spell worth
+unfolding notification readItems field bit padBit ground randomOfCall randomOfReduced emergencyOfCall late soughtIn halving spares ranOutOf takenOf keptOf sweptSlots expiredOf droppedOf
+    classOf agree joinedOf meetOf allLow rises allSets setupRight startedOf callEntry reducedEntry nchEntries slotsAfter followOf toldOf allAfter allTold refusalOf stepOf cause.readOf
+    cause.parse cause.meaningOf cause.isListed digits.readOf spell worth
 every-listed-row-passes = refl
 
 -- octets of another number than 20 are refusal 1

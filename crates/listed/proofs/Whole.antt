@@ -210,7 +210,7 @@ recordFrom s =
     }
 
 abbrev toldFrom : Nested 1 → Told
-toldFrom s = record { key = numberAt 0 s; number = numberAt 1 s; «record» = recordFrom (drop 2 s) }
+toldFrom s = record { key = numberAt 0 s; number = numberAt 1 s; follow = numberAt 2 s; kept = numberAt 3 s; «record» = recordFrom (drop 4 s) }
 
 tolds-back : (l : List Told) → map toldFrom (map ofTold l) ≡ l
 tolds-back = map-back _ _ λ t. refl
@@ -233,12 +233,13 @@ answerFrom w =
           record {
             slots = map slotFrom (arrayAt 2 w);
             keys = numbersFrom (aloneAt 3 w);
+            sets = numbersFrom (aloneAt 5 w);
             keycount = numberAt 5 (aloneAt 4 w);
             tick = numberAt 0 (aloneAt 4 w);
             t3206 = numberAt 1 (aloneAt 4 w);
             t3208 = numberAt 2 (aloneAt 4 w);
             t3210 = numberAt 3 (aloneAt 4 w);
-            cell = record { nln = numberAt 4 (aloneAt 4 w) };
+            cell = record { nln = numberAt 4 (aloneAt 4 w); count = numberAt 6 (aloneAt 4 w); bit = numberAt 7 (aloneAt 4 w) };
           };
     }
 

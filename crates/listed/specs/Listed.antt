@@ -164,19 +164,21 @@ bothRecord =
 abbrev pub came : ℕ → ℕ → Record → Slot
 came half now m = record { half = half; since = now; «record» = m }
 
--- the answer at a tick: x halves ran out, the call's one entry is told n with a record, and its place holds then what is said; all else is as it was set up
-abbrev pub answerAt : ℕ → ℕ → ℕ → Record → Slot → Answer
-answerAt now x n m held =
+-- the answer at a tick: x halves ran out, the call's one entry is told n with a record and whether it can be followed, and its place holds then what is said; all else is
+-- as it was set up
+abbrev pub answerAt : ℕ → ℕ → ℕ → Record → ℕ → Slot → Answer
+answerAt now x n m follow held =
     record {
       refusal = noRefusal;
       expired = x;
       dropped = 0;
       count = 1;
-      entries = record { key = key; number = n; «record» = m } ∷ replicate 8 noTold;
+      entries = record { key = key; number = n; «record» = m; follow = follow; kept = 0 } ∷ replicate 8 noTold;
       receiver =
           record {
             slots = held ∷ replicate 149 emptySlot;
             keys = key ∷ replicate 49 noKey;
+            sets = replicate 50 0;
             keycount = 1;
             tick = now;
             t3206 = 5000;
@@ -188,7 +190,7 @@ answerAt now x n m held =
 
 -- the first half is told 4, without a record, and held
 abbrev pub firstAnswer : ℕ → Answer
-firstAnswer now = answerAt now 0 4 noTelling (came 1 now firstRecord)
+firstAnswer now = answerAt now 0 4 noTelling 0 (came 1 now firstRecord)
 
 -- ## The rows, in the document's order
 
@@ -208,10 +210,10 @@ rows =
     ∷ ticks 4294967290 10 16
     -- step 2,147,483,648: refusal 9
     ∷ step 2147483648 9
-    -- T3206 5,000, first half at 1,000, second at 5,999: 3
-    ∷ halves 5000 1000 (firstAnswer 1000) 5999 (answerAt 5999 0 3 bothRecord emptySlot)
+    -- T3206 5,000, first half at 1,000, second at 5,999: 3; and no group key is held
+    ∷ halves 5000 1000 (firstAnswer 1000) 5999 (answerAt 5999 0 3 bothRecord 1 emptySlot)
     -- the same at 6,000: one expiry, then 4
-    ∷ halves 5000 1000 (firstAnswer 1000) 6000 (answerAt 6000 1 4 noTelling (came 2 6000 secondRecord))
+    ∷ halves 5000 1000 (firstAnswer 1000) 6000 (answerAt 6000 1 4 noTelling 0 (came 2 6000 secondRecord))
     -- cause 90: 16, normal clearing
     ∷ cause-octets (0x90 ∷ []) (means (Specific 16) (16 ∷ [])) "Normal call clearing"
     -- cause 10 91: unspecific
@@ -226,9 +228,9 @@ rows =
 
 -- ## Runs of the receiver
 
--- set up at a tick with T3206 for one call
+-- set up at a tick with T3206 for one call, for which no group key is held
 abbrev pub setUp : ℕ → ℕ → Started
-setUp now t3206 = startedOf (record { tick = now; t3206 = t3206; t3208 = 5000; t3210 = 5000 }) (key ∷ [])
+setUp now t3206 = startedOf (record { tick = now; t3206 = t3206; t3208 = 5000; t3210 = 5000 }) (key ∷ []) (0 ∷ [])
 
 -- the octets of `firstRecord`, and of `secondRecord`
 abbrev pub firstHalf : List ℕ

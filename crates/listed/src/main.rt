@@ -65,14 +65,14 @@ fn nch_rows() {
 
 // ## The receiver
 
-// Set up at a tick for one call: reference 1,234,567, VGCS.
+// Set up at a tick for one call: reference 1,234,567, VGCS; no group key is held.
 fn ready(tick: u32) -> Receiver {
     let s = Setup {
         tick,
         t3206: 5000,
         t3208: 5000,
         t3210: 5000,
-    }.start(&[2469135u32]);
+    }.start(&[2469135u32], &[0u32]);
     s.receiver
 }
 

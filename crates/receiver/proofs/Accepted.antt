@@ -20,9 +20,10 @@ use Rattle.pch.specs.Entry.{readOf as readPch}
 use Rattle.nch.proofs.Promises.{writing-gives-back-what-was-read, places-are-enough}
 use Rattle.receiver.specs.declared.Record.{Record}
 use Rattle.receiver.specs.declared.Slot.{Slot}
+use Rattle.receiver.specs.declared.Cell.{Cell}
 use Rattle.receiver.specs.Model.{noNln, mapAt}
 use Rattle.receiver.specs.Entries.{callEntry, reducedEntry, nchEntries, facchEntries, pchEntries}
-use Rattle.receiver.specs.Step.{mostEntries, Happening, heardNch, heardFacch, heardPch, joins, moves, passes, Cause, nothing, joining, paged, moving}
+use Rattle.receiver.specs.Step.{mostEntries, Happening, heardNch, heardFacch, heardPch, joins, moves, bitIs, passes, Cause, nothing, joining, paged, moving}
 use Rattle.receiver.specs.Step.{numbered, numbering, contentOf, groundsOf, slotsAfter, allTold, noTold}
 use Rattle.receiver.proofs.Loops.{length-mapAt}
 
@@ -59,6 +60,7 @@ low (heardFacch s) z = tt
 low (heardPch ns) z = tt
 low (joins k) z = tt
 low (moves m) z = tt
+low (bitIs b) z = tt
 low passes z = tt
 
 -- ## Entries
@@ -97,6 +99,7 @@ few (heardFacch s) z = facch-few (readFacch s .«record»)
 few (heardPch ns) z = pch-few (readPch ns .«record»)
 few (joins k) z = omega arith
 few (moves m) z = omega arith
+few (bitIs b) z = omega arith
 few passes z = omega arith
 
 -- ## Answers in their places
@@ -106,13 +109,14 @@ take-padded z n [] h = refl
 take-padded z zero (a ∷ l) h = absurd (omega arith)
 take-padded z (suc n) (a ∷ l) h = ap (λ x. a ∷ x) (take-padded z n l (omega arith))
 
-pub length-told : (keys : List ℕ) (ch now : ℕ) (l : List Slot) (es : List Record) → length (allTold keys ch now l es) ≡ length es
+pub length-told : (keys sets : List ℕ) (cell : Cell) (ch now : ℕ) (l : List Slot) (es : List Record) → length (allTold keys sets cell ch now l es) ≡ length es
 unfolding allTold
-length-told keys ch now l [] = refl
-length-told keys ch now l (e ∷ es) = ap suc (length-told keys ch now (slotsAfter keys ch now l e) es)
+length-told keys sets cell ch now l [] = refl
+length-told keys sets cell ch now l (e ∷ es) = ap suc (length-told keys sets cell ch now (slotsAfter keys ch now l e) es)
 
 -- the places in use say what each entry is told
-pub told-back : (keys : List ℕ) (ch now : ℕ) (l : List Slot) (es : List Record) → length es ≤ mostEntries
-    → take (length es) (padded noTold mostEntries (allTold keys ch now l es)) ≡ allTold keys ch now l es
-told-back keys ch now l es h =
-    rw (← length-told keys ch now l es) (take-padded noTold mostEntries (allTold keys ch now l es) (omega (arith, length-told keys ch now l es)))
+pub told-back : (keys sets : List ℕ) (cell : Cell) (ch now : ℕ) (l : List Slot) (es : List Record) → length es ≤ mostEntries
+    → take (length es) (padded noTold mostEntries (allTold keys sets cell ch now l es)) ≡ allTold keys sets cell ch now l es
+told-back keys sets cell ch now l es h =
+    rw (← length-told keys sets cell ch now l es)
+    (take-padded noTold mostEntries (allTold keys sets cell ch now l es) (omega (arith, length-told keys sets cell ch now l es)))

@@ -25,26 +25,26 @@ use Rattle.receiver.proofs.Accepted.{few, take-padded, length-told}
 use Rattle.receiver.proofs.Loops.{padded-snoc}
 use Rattle.receiver.specs.declared.Answer.{Answer}
 use Rattle.receiver.specs.Model.{noRecord, emptySlot, late, keyOf, keysOf, indexOf, sweptSlots, expiredOf, droppedOf, meetOf, ruleFor, remade, withSlots}
-use Rattle.receiver.specs.Step.{mostEntries, entriesIn, Event, Happening, numbering, contentOf, changes, cellAfter, ruleBy, toldOf, slotsAfter, allAfter}
+use Rattle.receiver.specs.Step.{mostEntries, entriesIn, Event, Happening, numbering, contentOf, changes, cellAfter, ruleBy, setAt, toldAs, toldOnly, toldOf, slotsAfter, allAfter}
 use Rattle.receiver.specs.Step.{allTold, noTold, groundsOf, refusalOf, refusedWith, acceptedWith, acceptedAs, stepOf}
 
 -- ## One entry
 
-module _ (keys : List ℕ) (ch now : ℕ) (slots : List Slot) (e : Record) {key i : ℕ} (ek : key ≡ keyOf (e .call)) (ei : i ≡ indexOf keys key) where
+module _ (keys sets : List ℕ) (cell : Cell) (ch now : ℕ) (slots : List Slot) (e : Record) {key i : ℕ} (ek : key ≡ keyOf (e .call)) (ei : i ≡ indexOf keys key) where
   at-key : i ≡ indexOf keys (keyOf (e .call))
   at-key = ei ∙ ap (indexOf keys) ek
 
   module _ (h : keyCount ≤ i) where
-    pub miss-told : {r : Record} → r ≡ noRecord → record { key = key; number = 0; «record» = r } ≡ toldOf keys ch now slots e
+    pub miss-told : toldOnly key 0 ≡ toldOf keys sets cell ch now slots e
     unfolding toldOf
-    miss-told er = rw (er, ek, le-ltb (indexOf keys (keyOf (e .call))) keyCount (omega (arith, at-key)))
+    miss-told = rw (ek, le-ltb (indexOf keys (keyOf (e .call))) keyCount (omega (arith, at-key)))
 
     pub miss-slots : slots ≡ slotsAfter keys ch now slots e
     unfolding slotsAfter
     miss-slots = rw (le-ltb (indexOf keys (keyOf (e .call))) keyCount (omega (arith, at-key)))
 
   module _ (h : i < keyCount) {m : Met} (em : m ≡ meetOf ch now (getD slots (placeOn i ch) emptySlot) e) where
-    pub hit-told : record { key = key; number = m .number; «record» = m .told } ≡ toldOf keys ch now slots e
+    pub hit-told : toldAs (setAt sets i) cell key (m .number) (m .told) ≡ toldOf keys sets cell ch now slots e
     unfolding toldOf
     hit-told = rw (em, at-key, ek, lt-ltb (indexOf keys (keyOf (e .call))) keyCount (omega (arith, at-key)))
 
@@ -54,7 +54,7 @@ module _ (keys : List ℕ) (ch now : ℕ) (slots : List Slot) (e : Record) {key 
 
 -- ## All entries
 
-module _ (keys : List ℕ) (ch now : ℕ) where
+module _ (keys sets : List ℕ) (cell : Cell) (ch now : ℕ) where
   pub after-snoc : (slots : List Slot) (es : List Record) (e : Record)
       → allAfter keys ch now slots (es ++ (e ∷ [])) ≡ slotsAfter keys ch now (allAfter keys ch now slots es) e
   unfolding allAfter
@@ -62,15 +62,15 @@ module _ (keys : List ℕ) (ch now : ℕ) where
   after-snoc slots (x ∷ es) e = after-snoc (slotsAfter keys ch now slots x) es e
 
   told-snoc : (slots : List Slot) (es : List Record) (e : Record)
-      → allTold keys ch now slots (es ++ (e ∷ [])) ≡ allTold keys ch now slots es ++ (toldOf keys ch now (allAfter keys ch now slots es) e ∷ [])
+      → allTold keys sets cell ch now slots (es ++ (e ∷ [])) ≡ allTold keys sets cell ch now slots es ++ (toldOf keys sets cell ch now (allAfter keys ch now slots es) e ∷ [])
   unfolding allTold allAfter
   told-snoc slots [] e = refl
-  told-snoc slots (x ∷ es) e = ap (λ (l : List Told). toldOf keys ch now slots x ∷ l) (told-snoc (slotsAfter keys ch now slots x) es e)
+  told-snoc slots (x ∷ es) e = ap (λ (l : List Told). toldOf keys sets cell ch now slots x ∷ l) (told-snoc (slotsAfter keys ch now slots x) es e)
 
 -- after i of the entries es: the receiver, and what was told
 pub record Entered (r : Receiver) (ch now : ℕ) (es : List Record) (entries : List Told) (after : Receiver) (i : ℕ) : Type 0 where
   pub state : after ≡ withSlots r (allAfter (keysOf r) ch now (r .slots) (take i es))
-  pub told : entries ≡ padded noTold mostEntries (allTold (keysOf r) ch now (r .slots) (take i es))
+  pub told : entries ≡ padded noTold mostEntries (allTold (keysOf r) (r .sets) (r .cell) ch now (r .slots) (take i es))
 
 module _ (r : Receiver) (ch now : ℕ) (es : List Record) where
   pub entered-begin : (entries : List Told) → entries ≡ padded noTold mostEntries [] → Entered r ch now es entries r 0
@@ -80,20 +80,29 @@ module _ (r : Receiver) (ch now : ℕ) (es : List Record) where
   module _ (entries : List Told) (after : Receiver) (i : ℕ) (w : Entered r ch now es entries after i) where
     -- one more
     pub entered-next : (e : Record) → i < mostEntries → i < length es → e ≡ getD es i noRecord → (t : Told) (a : Receiver)
-        → t ≡ toldOf (keysOf after) ch now (after .slots) e → a ≡ withSlots after (slotsAfter (keysOf after) ch now (after .slots) e)
+        → t ≡ toldOf (keysOf after) (after .sets) (after .cell) ch now (after .slots) e → a ≡ withSlots after (slotsAfter (keysOf after) ch now (after .slots) e)
         → Entered r ch now es (set entries i t) a (i + 1)
     entered-next e room h g t a et ea =
         let l : List Slot = allAfter (keysOf r) ch now (r .slots) (take i es) in
         let k : take (i + 1) es ≡ take i es ++ (e ∷ []) = ap (λ (j : ℕ). take j es) (add-one i) ∙ take-suc es i noRecord h ∙ ap (λ (x : Record). take i es ++ (x ∷ [])) (sym g) in
-        let ts : List Told = allTold (keysOf r) ch now (r .slots) (take i es) in
-        let n : length ts ≡ i = length-told (keysOf r) ch now (r .slots) (take i es) ∙ rw length-take (omega arith) in
+        let ts : List Told = allTold (keysOf r) (r .sets) (r .cell) ch now (r .slots) (take i es) in
+        let n : length ts ≡ i = length-told (keysOf r) (r .sets) (r .cell) ch now (r .slots) (take i es) ∙ rw length-take (omega arith) in
         record {
-          state = rw (ea, w .state, k, after-snoc (keysOf r) ch now (r .slots) (take i es) e);
-          told = rw (et, w .state, w .told, k, told-snoc (keysOf r) ch now (r .slots) (take i es) e, padded-snoc noTold mostEntries ts (toldOf (keysOf r) ch now l e) (omega (arith, n)), n);
+          state = rw (ea, w .state, k, after-snoc (keysOf r) (r .sets) (r .cell) ch now (r .slots) (take i es) e);
+          told =
+              rw (
+                et,
+                w .state,
+                w .told,
+                k,
+                told-snoc (keysOf r) (r .sets) (r .cell) ch now (r .slots) (take i es) e,
+                padded-snoc noTold mostEntries ts (toldOf (keysOf r) (r .sets) (r .cell) ch now l e) (omega (arith, n)),
+                n,
+              );
         }
 
     pub entered-all : length es ≤ i
-        → (entries ≡ padded noTold mostEntries (allTold (keysOf r) ch now (r .slots) es)) × (after ≡ withSlots r (allAfter (keysOf r) ch now (r .slots) es))
+        → (entries ≡ padded noTold mostEntries (allTold (keysOf r) (r .sets) (r .cell) ch now (r .slots) es)) × (after ≡ withSlots r (allAfter (keysOf r) ch now (r .slots) es))
     entered-all h = (rw (take-all i es h) at (w .told), rw (take-all i es h) at (w .state))
 
 -- ## The whole answer
@@ -107,15 +116,19 @@ module _ (r : Receiver) (e : Event) where
   unfolding stepOf
   step-accepted z = rw (eq-eqb (refusalOf r e .number) 0 z)
 
--- one sweep, then all entries, then the new tick and what is known of the cell
+-- one sweep, the new tick and what is known of the cell, then all entries
 module _ (r : Receiver) (now ch : ℕ) (cell : Cell) (rule : Rule) (es : List Record) where
   abbrev whole : Refusal → ℕ → ℕ → ℕ → List Told → Receiver → Answer
   whole w x d n entries after =
-      record { refusal = w; expired = x; dropped = d; count = n; entries = entries; receiver = remade after (after .slots) now cell }
+      record { refusal = w; expired = x; dropped = d; count = n; entries = entries; receiver = after }
+
+  -- the receiver as the entries find it
+  abbrev met : Receiver → Receiver
+  met swept = remade swept (swept .slots) now cell
 
   pub accepted-told : {w : Refusal} {x d n : ℕ} {swept : Receiver} {entries : List Told} {after : Receiver} → w ≡ noRefusal
       → swept ≡ withSlots r (sweptSlots r now rule) → x ≡ expiredOf r now (r .slots) → d ≡ droppedOf r now rule → n ≡ length es
-      → entries ≡ padded noTold mostEntries (allTold (keysOf swept) ch now (swept .slots) es) → after ≡ withSlots swept (allAfter (keysOf swept) ch now (swept .slots) es)
+      → entries ≡ padded noTold mostEntries (allTold (keysOf swept) (swept .sets) cell ch now (swept .slots) es) → after ≡ withSlots (met swept) (allAfter (keysOf swept) ch now (swept .slots) es)
       → whole w x d n entries after ≡ acceptedWith r now rule cell ch es
   accepted-told ew es₀ ex ed en et ea = rw (et, ea, ew, ex, ed, en, es₀)
 
@@ -138,7 +151,7 @@ module _ (r : Receiver) (t : ℕ) (h : Happening) {b : Bool} (q : b ≡ late t (
       is-few = rw x (few h z)
 
       -- the rule, the cell and the entries are those of what is in the event
-      pub is-accepted : {rule : Rule} {cell : Cell} → rule ≡ ruleBy r (contentOf h .cause) → cell ≡ cellAfter (r .cell) (contentOf h .cause)
+      pub is-accepted : {rule : Rule} {cell : Cell} → rule ≡ ruleBy r (contentOf h .cause) → cell ≡ cellAfter (r .cell) (contentOf h .cause) (contentOf h .news)
           → acceptedWith r t rule cell (numberOf (contentOf h .channel)) (take (e .count) (e .items)) ≡ stepOf r event
       unfolding refusalOf
       is-accepted a c = rw (a, c, x, take-padded noRecord mostEntries (contentOf h .entries) (few h z)) (step-accepted r event (rw (sym q ∙ l) z))

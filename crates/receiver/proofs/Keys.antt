@@ -14,6 +14,7 @@ use Rattle.bits.proofs.Answers.{both-true}
 use Rattle.receiver.specs.declared.Setup.{Setup}
 use Rattle.receiver.specs.Channels.{keyCount}
 use Rattle.receiver.specs.Halving.{firstOf, rises}
+use Rattle.receiver.specs.Count.{setsRight}
 use Rattle.receiver.specs.Model.{lastKey, indexOf, isTimer, allLow, setupRight}
 use Rattle.receiver.proofs.Cases.{by-test}
 use Rattle.receiver.proofs.Halving.{Finds, nothing, place, all-finds, rising, all-own, as-from-front}
@@ -100,8 +101,9 @@ passed true false c d e h = (cc, cc)
 passed false b c d e h = (cc, cc)
 
 -- those of an accepted one are few, and rise
-pub right-keys : (s : Setup) (keys : List ℕ) → setupRight s keys ≡ true → (length keys ≤ keyCount) × (rises keys ≡ true)
+pub right-keys : (s : Setup) (keys sets : List ℕ) → setupRight s keys sets ≡ true → (length keys ≤ keyCount) × (rises keys ≡ true)
 unfolding setupRight
-right-keys s keys e =
-    let p = passed (leb (length keys) keyCount) (isTimer (s .t3206)) (isTimer (s .t3208)) (isTimer (s .t3210)) (both (allLow keys) (rises keys)) e in
-    (leb-true (length keys) keyCount (p .0), both-true (allLow keys) (rises keys) (p .1) .1)
+right-keys s keys sets e =
+    let p = passed (leb (length keys) keyCount) (isTimer (s .t3206)) (isTimer (s .t3208)) (isTimer (s .t3210)) (both (setsRight keys sets) (both (allLow keys) (rises keys))) e in
+    let q = both-true (setsRight keys sets) (both (allLow keys) (rises keys)) (p .1) in
+    (leb-true (length keys) keyCount (p .0), both-true (allLow keys) (rises keys) (q .1) .1)

@@ -5,6 +5,7 @@ pub mod Loops
 pub mod Halving
 pub mod Keys
 pub mod KeyPlaces
+pub mod Sets
 pub mod Sweeping
 pub mod MessageEntries
 pub mod Accepted

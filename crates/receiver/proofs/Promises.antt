@@ -35,12 +35,12 @@ rising-keys-are-found-as-from-the-front keys r key = as-from-front keys r key
 
 pub keys-that-do-not-rise-are-refused : Keys-that-do-not-rise-are-refused
 unfolding startedOf ground
-keys-that-do-not-rise-are-refused s keys i j l h g =
-    by-test (setupRight s keys) (λ p. absurd (omega (arith, rising keys (right-keys s keys p .1) i j l h))) (λ p. rw p)
+keys-that-do-not-rise-are-refused s keys sets i j l h g =
+    by-test (setupRight s keys sets) (λ p. absurd (omega (arith, rising keys (right-keys s keys sets p .1) i j l h))) (λ p. rw p)
 
 pub the-lent-keys-are-looked-among : The-lent-keys-are-looked-among
 unfolding startedOf ground
-the-lent-keys-are-looked-among s keys z =
-    by-test (setupRight s keys)
-    (λ p. (rising keys (right-keys s keys p .1), rw p (keys-there keyCount keys (right-keys s keys p .0))))
+the-lent-keys-are-looked-among s keys sets z =
+    by-test (setupRight s keys sets)
+    (λ p. (rising keys (right-keys s keys sets p .1), rw p (keys-there keyCount keys (right-keys s keys sets p .0))))
     (λ p. absurd (omega (arith, rw p at z)))

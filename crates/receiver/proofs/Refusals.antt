@@ -15,7 +15,7 @@ use Rattle.facch.proofs.Clips.{not-refused-at-all as facch-accepted, told-by-re
 use Rattle.pch.specs.Entry.{entryLength, keyIsLow, lengthRight, hopsRight, inRange, groundIn, readOf}
 use Rattle.receiver.specs.declared.Receiver.{Receiver}
 use Rattle.receiver.specs.Model.{lastKey, late}
-use Rattle.receiver.specs.Step.{Happening, heardNch, heardFacch, heardPch, joins, moves, passes, Event, groundsOf, refusalOf}
+use Rattle.receiver.specs.Step.{Happening, heardNch, heardFacch, heardPch, joins, moves, bitIs, passes, Event, groundsOf, refusalOf}
 
 pub record Sound (r : Refusal) : Type 0 where
   pub clean : r .number ≡ 0 → r ≡ noRefusal
@@ -51,6 +51,7 @@ grounds-sound (heardFacch s) = record { clean = facch-accepted s; number = facch
 grounds-sound (heardPch ns) = pch-sound ns
 grounds-sound (joins k) = pick-sound (leb k lastKey) noRefusal (ground 4) none-sound (ground-sound 4 (omega arith) (omega arith))
 grounds-sound (moves m) = none-sound
+grounds-sound (bitIs b) = pick-sound (leb b 1) noRefusal (ground 12) none-sound (ground-sound 12 (omega arith) (omega arith))
 grounds-sound passes = none-sound
 
 pub refusal-sound : (r : Receiver) (e : Event) → Sound (refusalOf r e)

@@ -69,7 +69,7 @@ hasNln c = byChannel c true false false
 abbrev pub hasPages : Channel → Bool
 hasPages c = byChannel c false false true
 
--- ## What a move of the mobile costs: the halves of a channel, and what is known of the cell's NLN
+-- ## What a move of the mobile costs: the halves of a channel, and what is known of the cell's NLN, of its count and of bit 22
 
 abbrev pub drops : Channel → Move → Bool
 drops c Reselection = byChannel c true false true
@@ -82,3 +82,9 @@ forgets Reselection = true
 forgets Handover = false
 forgets Reconfiguration = false
 forgets LeftIdle = false
+
+abbrev pub forgetsCount : Move → Bool
+forgetsCount Reselection = true
+forgetsCount Handover = true
+forgetsCount Reconfiguration = false
+forgetsCount LeftIdle = false

@@ -1,4 +1,5 @@
 pub mod Channels
+pub mod Count
 pub mod Halving
 pub mod Model
 pub mod Inner

@@ -1,12 +1,12 @@
 -- The receiver's parts: clock, places, what drops a half, and what a half meets (document 01, "Setup, clock and store", "What each notified call is told"). Assumes nothing.
 use mathlib.Core.List.{List, [], _∷_}
 use mathlib.Core.Bool.{Bool, true, false, not}
-use Prim.Native.Nat.{ℕ, zero, suc, _+_, _-_, _*_, _%_, _^_}
+use Prim.Native.Nat.{ℕ, suc, _+_, _-_, _*_, _%_, _^_}
 use lib.ListN.{length, replicate, take}
 use lib.Dec.{leb, eqb}
 use Rattle.bits.specs.Field.{both, pick}
 use Rattle.csn1.specs.Format.{noRefusal, ground}
-use Rattle.csn1.specs.Told.{asBit}
+use Rattle.csn1.specs.Told.{asBit, padded}
 use Rattle.call.specs.declared.Call.{Call}
 use Rattle.call.specs.Call.{noCall, ciphered}
 use Rattle.receiver.specs.declared.Common.{Common}
@@ -19,6 +19,7 @@ use Rattle.receiver.specs.declared.Met.{Met}
 use Rattle.receiver.specs.declared.Setup.{Setup}
 use Rattle.receiver.specs.declared.Started.{Started}
 use Rattle.pch.specs.Entry.{lastKey as highestKey}
+use Rattle.receiver.specs.Count.{noCount, noBit, setsRight}
 use Rattle.receiver.specs.Halving.{halving, rises}
 use Rattle.receiver.specs.Channels.{keyCount, places, sideOf, indexIn, byNumber, asks, leads, Channel, onNch, onFacch, onPch}
 
@@ -53,7 +54,7 @@ abbrev pub noNln : ℕ
 noNln = 4
 
 abbrev pub noCell : Cell
-noCell = record { nln = noNln }
+noCell = record { nln = noNln; count = noCount; bit = noBit }
 
 -- ## The clock: a 32-bit millisecond counter that wraps
 
@@ -243,13 +244,13 @@ meetOf ch now s e =
 
 -- ## Setup
 
-abbrev pub newReceiver : Setup → List ℕ → ℕ → Receiver
-newReceiver s keys n =
-    record { slots = replicate places emptySlot; keys = keys; keycount = n; tick = s .tick; t3206 = s .t3206; t3208 = s .t3208; t3210 = s .t3210; cell = noCell }
+abbrev pub newReceiver : Setup → List ℕ → List ℕ → ℕ → Receiver
+newReceiver s keys groups n =
+    record { slots = replicate places emptySlot; keys = keys; sets = groups; keycount = n; tick = s .tick; t3206 = s .t3206; t3208 = s .t3208; t3210 = s .t3210; cell = noCell }
 
 -- the receiver with other places, at another tick, with what is known of another cell
 abbrev pub remade : Receiver → List Slot → ℕ → Cell → Receiver
-remade r l now cell = record { slots = l; keys = r .keys; keycount = r .keycount; tick = now; t3206 = r .t3206; t3208 = r .t3208; t3210 = r .t3210; cell = cell }
+remade r l now cell = record { slots = l; keys = r .keys; sets = r .sets; keycount = r .keycount; tick = now; t3206 = r .t3206; t3208 = r .t3208; t3210 = r .t3210; cell = cell }
 
 -- a receiver with other places
 abbrev pub withSlots : Receiver → List Slot → Receiver
@@ -257,9 +258,11 @@ withSlots r l = remade r l (r .tick) (r .cell)
 
 -- the key places: the keys as they were lent, then unused ones
 abbrev pub keyPlaces : ℕ → List ℕ → List ℕ
-keyPlaces zero l = []
-keyPlaces (suc n) [] = noKey ∷ keyPlaces n []
-keyPlaces (suc n) (k ∷ ks) = k ∷ keyPlaces n ks
+keyPlaces n keys = padded noKey n keys
+
+-- the sets of group keys, one for each key; an unused place has none
+abbrev pub setPlaces : ℕ → List ℕ → List ℕ
+setPlaces n groups = padded 0 n groups
 
 abbrev pub longestTimer : ℕ
 longestTimer = 60000
@@ -276,18 +279,18 @@ allLow (k ∷ ks) = both (leb k lastKey) (allLow ks)
 abbrev pub keysRight : List ℕ → Bool
 keysRight keys = both (allLow keys) (rises keys)
 
-unfoldable pub setupRight : Setup → List ℕ → Bool
-setupRight s keys =
-    both (leb (length keys) keyCount) (both (isTimer (s .t3206)) (both (isTimer (s .t3208)) (both (isTimer (s .t3210)) (keysRight keys))))
+unfoldable pub setupRight : Setup → List ℕ → List ℕ → Bool
+setupRight s keys groups =
+    both (leb (length keys) keyCount) (both (isTimer (s .t3206)) (both (isTimer (s .t3208)) (both (isTimer (s .t3210)) (both (setsRight keys groups) (keysRight keys)))))
 
 abbrev pub noSetup : Setup
 noSetup = record { tick = 0; t3206 = 0; t3208 = 0; t3210 = 0 }
 
 -- a refused setup is its number alone
-unfoldable pub startedOf : Setup → List ℕ → Started
-startedOf s keys =
-    pick (setupRight s keys) (record { refusal = noRefusal; receiver = newReceiver s (keyPlaces keyCount keys) (length keys) })
-    (record { refusal = ground 10; receiver = newReceiver noSetup (replicate keyCount noKey) 0 })
+unfoldable pub startedOf : Setup → List ℕ → List ℕ → Started
+startedOf s keys groups =
+    pick (setupRight s keys groups) (record { refusal = noRefusal; receiver = newReceiver s (keyPlaces keyCount keys) (setPlaces keyCount groups) (length keys) })
+    (record { refusal = ground 10; receiver = newReceiver noSetup (replicate keyCount noKey) (replicate keyCount 0) 0 })
 
 -- the ready defaults
 abbrev pub readySetup : ℕ → Setup

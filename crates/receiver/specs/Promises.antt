@@ -42,8 +42,8 @@ Rising-keys-are-found-as-from-the-front =
 -- Wherever a key is not above one before it, be it the same or less, the setup is refused.
 abbrev pub Keys-that-do-not-rise-are-refused : Type 0
 Keys-that-do-not-rise-are-refused =
-    (s : Setup) (keys : List ℕ) (i j : ℕ) → i < j → j < length keys → getD keys j 0 ≤ getD keys i 0 → startedOf s keys .refusal .number ≡ 10
+    (s : Setup) (keys groups : List ℕ) (i j : ℕ) → i < j → j < length keys → getD keys j 0 ≤ getD keys i 0 → startedOf s keys groups .refusal .number ≡ 10
 
 -- An accepted setup's receiver looks among the keys as they were lent, and no others.
 abbrev pub The-lent-keys-are-looked-among : Type 0
-The-lent-keys-are-looked-among = (s : Setup) (keys : List ℕ) → startedOf s keys .refusal .number ≡ 0 → (Rising keys) × (keysOf (startedOf s keys .receiver) ≡ keys)
+The-lent-keys-are-looked-among = (s : Setup) (keys groups : List ℕ) → startedOf s keys groups .refusal .number ≡ 0 → (Rising keys) × (keysOf (startedOf s keys groups .receiver) ≡ keys)

@@ -20,7 +20,8 @@ use Rattle.receiver.specs.declared.Rule.{Rule}
 use Rattle.receiver.specs.declared.Cell.{Cell}
 use Rattle.receiver.specs.declared.Move.{Move}
 use Rattle.receiver.specs.declared.Move.the-variants.{Reselection, Handover, Reconfiguration, LeftIdle}
-use Rattle.receiver.specs.Channels.{keyCount, placeOn, Channel, onNch, onFacch, onPch, numberOf, hasNln, hasPages, drops, forgets}
+use Rattle.receiver.specs.Channels.{keyCount, placeOn, Channel, onNch, onFacch, onPch, numberOf, hasNln, hasPages, drops, forgets, forgetsCount}
+use Rattle.receiver.specs.Count.{noCount, noBit, News, noNews, bits, counting, countingOver, cellWith, followOf, countBeside}
 use Rattle.receiver.specs.declared.Met.{Met}
 use Rattle.receiver.specs.declared.messages.Entries.{Entries}
 use Rattle.receiver.specs.Model.{noRecord, emptySlot, noNln, lastKey, late, keyOf, keysOf, indexOf, ruleFor, sweptSlots, expiredOf, droppedOf, meetOf, remade}
@@ -49,22 +50,43 @@ metAt keys ch now slots e = meetOf ch now (getD slots (placeOf keys ch e) emptyS
 unfoldable pub slotsAfter : List ℕ → ℕ → ℕ → List Slot → Record → List Slot
 slotsAfter keys ch now slots e = pick (ours keys e) (set slots (placeOf keys ch e) (metAt keys ch now slots e .held)) slots
 
+-- what a number told and a record say under a key; whether the call can be followed goes by the set of group keys
+abbrev pub toldAs : ℕ → Cell → ℕ → ℕ → Record → Told
+toldAs group cell key number e =
+    record {
+      key = key;
+      number = number;
+      «record» = e;
+      follow = followOf group cell number (e .call .cipher);
+      kept = countBeside (followOf group cell number (e .call .cipher)) cell;
+    }
+
+-- a number alone
+abbrev pub toldOnly : ℕ → ℕ → Told
+toldOnly key number = record { key = key; number = number; «record» = noRecord; follow = 0; kept = 0 }
+
+-- the set of the subscription at an index
+abbrev pub setAt : List ℕ → ℕ → ℕ
+setAt groups i = getD groups i 0
+
 -- 0 where the key is not subscribed
-unfoldable pub toldOf : List ℕ → ℕ → ℕ → List Slot → Record → Told
-toldOf keys ch now slots e =
-    pick (ours keys e) (record { key = keyOf (e .call); number = metAt keys ch now slots e .number; «record» = metAt keys ch now slots e .told })
-    (record { key = keyOf (e .call); number = 0; «record» = noRecord })
+unfoldable pub toldOf : List ℕ → List ℕ → Cell → ℕ → ℕ → List Slot → Record → Told
+toldOf keys groups cell ch now slots e =
+    pick (ours keys e)
+    (toldAs (setAt groups (indexOf keys (keyOf (e .call)))) cell (keyOf (e .call)) (metAt keys ch now slots e .number) (metAt keys ch now slots e .told))
+    (toldOnly (keyOf (e .call)) 0)
 
 unfoldable pub allAfter : List ℕ → ℕ → ℕ → List Slot → List Record → List Slot
 allAfter keys ch now slots [] = slots
 allAfter keys ch now slots (e ∷ es) = allAfter keys ch now (slotsAfter keys ch now slots e) es
 
-unfoldable pub allTold : List ℕ → ℕ → ℕ → List Slot → List Record → List Told
-allTold keys ch now slots [] = []
-allTold keys ch now slots (e ∷ es) = toldOf keys ch now slots e ∷ allTold keys ch now (slotsAfter keys ch now slots e) es
+unfoldable pub allTold : List ℕ → List ℕ → Cell → ℕ → ℕ → List Slot → List Record → List Told
+allTold keys groups cell ch now slots [] = []
+allTold keys groups cell ch now slots (e ∷ es) =
+    toldOf keys groups cell ch now slots e ∷ allTold keys groups cell ch now (slotsAfter keys ch now slots e) es
 
 abbrev pub noTold : Told
-noTold = record { key = 0; number = 0; «record» = noRecord }
+noTold = toldOnly 0 0
 
 -- ## Events
 
@@ -76,6 +98,8 @@ pub data Happening : Type 0 where
   -- the call of a key is joined
   joins : ℕ → Happening
   moves : Move → Happening
+  -- bit 22 of COUNT has a value
+  bitIs : ℕ → Happening
   passes : Happening
 
 pub record Event : Type 0 where
@@ -109,6 +133,9 @@ reconfigured t = moved t Reconfiguration
 abbrev pub leftIdle : ℕ → Event
 leftIdle t = moved t LeftIdle
 
+abbrev pub bit22 : ℕ → ℕ → Event
+bit22 t b = record { tick = t; happening = bitIs b }
+
 abbrev pub tick : ℕ → Event
 tick t = record { tick = t; happening = passes }
 
@@ -121,13 +148,14 @@ groundsOf (heardFacch s) = readFacch s .refusal
 groundsOf (heardPch ns) = readPch ns .refusal
 groundsOf (joins k) = pick (leb k lastKey) noRefusal (ground 4)
 groundsOf (moves m) = noRefusal
+groundsOf (bitIs b) = pick (leb b 1) noRefusal (ground 12)
 groundsOf passes = noRefusal
 
 -- 9 goes before the rest
 unfoldable pub refusalOf : Receiver → Event → Refusal
 refusalOf r e = pick (late (e .tick) (r .tick)) (ground 9) (groundsOf (e .happening))
 
--- ## What is in an event: what may discard halves, then entries on a channel
+-- ## What is in an event: what may discard halves, what it tells of the cell's count, then entries on a channel
 
 pub data Cause : Type 0 where
   nothing : Cause
@@ -140,6 +168,7 @@ pub data Cause : Type 0 where
 
 pub record Content : Type 0 where
   pub cause : Cause
+  pub news : News
   pub channel : Channel
   pub entries : List Record
 
@@ -148,18 +177,35 @@ abbrev pub numbering : Bool → ℕ → Cause
 numbering b n = pick b (numbered n) nothing
 
 -- an event without entries
-abbrev pub plainly : Cause → Content
-plainly x = record { cause = x; channel = onNch; entries = [] }
+abbrev pub plainly : Cause → News → Content
+plainly x w = record { cause = x; news = w; channel = onNch; entries = [] }
 
 abbrev pub contentOf : Happening → Content
 contentOf (heardNch s) =
-    record { cause = numbering (readOf s .«record» .hasNln) (readOf s .«record» .nln); channel = onNch; entries = nchEntries (readOf s .«record») }
-contentOf (heardFacch s) = record { cause = nothing; channel = onFacch; entries = facchEntries (readFacch s .«record») }
+    record {
+      cause = numbering (readOf s .«record» .hasNln) (readOf s .«record» .nln);
+      news = counting (readOf s .«record» .release6 .hasCount) (readOf s .«record» .release6 .cellcount);
+      channel = onNch;
+      entries = nchEntries (readOf s .«record»);
+    }
+contentOf (heardFacch s) =
+    record {
+      cause = nothing;
+      news = countingOver (readFacch s .«record» .release6 .hasCount) (readFacch s .«record» .release6 .b22) (readFacch s .«record» .release6 .cellcount);
+      channel = onFacch;
+      entries = facchEntries (readFacch s .«record»);
+    }
 contentOf (heardPch ns) =
-    record { cause = paged (keyOf (readPch ns .«record» .call)); channel = onPch; entries = pchEntries (readPch ns .«record») }
-contentOf (joins k) = plainly (joining k)
-contentOf (moves m) = plainly (moving m)
-contentOf passes = plainly nothing
+    record {
+      cause = paged (keyOf (readPch ns .«record» .call));
+      news = counting (readPch ns .«record» .hasCount) (readPch ns .«record» .cellcount);
+      channel = onPch;
+      entries = pchEntries (readPch ns .«record»);
+    }
+contentOf (joins k) = plainly (joining k) noNews
+contentOf (moves m) = plainly (moving m) noNews
+contentOf (bitIs b) = plainly nothing (bits b)
+contentOf passes = plainly nothing noNews
 
 -- ## What is known of the cell
 
@@ -167,12 +213,17 @@ contentOf passes = plainly nothing
 abbrev pub changes : Cell → ℕ → Bool
 changes l n = both (not (eqb (l .nln) noNln)) (not (eqb (l .nln) n))
 
-abbrev pub cellAfter : Cell → Cause → Cell
-cellAfter l nothing = l
-cellAfter l (joining k) = l
-cellAfter l (paged k) = l
-cellAfter l (moving m) = record { nln = pick (forgets m) noNln (l .nln) }
-cellAfter l (numbered n) = record { nln = n }
+-- what is forgotten, and the NLN
+abbrev pub cellBy : Cell → Cause → Cell
+cellBy l nothing = l
+cellBy l (joining k) = l
+cellBy l (paged k) = l
+cellBy l (moving m) =
+    record { nln = pick (forgets m) noNln (l .nln); count = pick (forgetsCount m) noCount (l .count); bit = pick (forgetsCount m) noBit (l .bit) }
+cellBy l (numbered n) = record { nln = n; count = l .count; bit = l .bit }
+
+abbrev pub cellAfter : Cell → Cause → News → Cell
+cellAfter l x w = cellWith (cellBy l x) w
 
 -- ## What is dropped
 
@@ -203,6 +254,7 @@ ruleOf r e = ruleBy r (contentOf (e .happening) .cause)
 abbrev pub refusedWith : Receiver → Refusal → Answer
 refusedWith r w = record { refusal = w; expired = 0; dropped = 0; count = 0; entries = padded noTold mostEntries []; receiver = r }
 
+-- the entries are told with what is known of the cell then: the message's own count is taken before
 abbrev pub acceptedWith : Receiver → ℕ → Rule → Cell → ℕ → List Record → Answer
 acceptedWith r now rule cell ch es =
     record {
@@ -210,12 +262,12 @@ acceptedWith r now rule cell ch es =
       expired = expiredOf r now (r .slots);
       dropped = droppedOf r now rule;
       count = length es;
-      entries = padded noTold mostEntries (allTold (keysOf r) ch now (sweptSlots r now rule) es);
+      entries = padded noTold mostEntries (allTold (keysOf r) (r .sets) cell ch now (sweptSlots r now rule) es);
       receiver = remade r (allAfter (keysOf r) ch now (sweptSlots r now rule) es) now cell;
     }
 
 abbrev pub acceptedAs : Receiver → ℕ → Content → Answer
-acceptedAs r now x = acceptedWith r now (ruleBy r (x .cause)) (cellAfter (r .cell) (x .cause)) (numberOf (x .channel)) (x .entries)
+acceptedAs r now x = acceptedWith r now (ruleBy r (x .cause)) (cellAfter (r .cell) (x .cause) (x .news)) (numberOf (x .channel)) (x .entries)
 
 unfoldable pub stepOf : Receiver → Event → Answer
 stepOf r e = pick (eqb (refusalOf r e .number) 0) (acceptedAs r (e .tick) (contentOf (e .happening))) (refusedWith r (refusalOf r e))

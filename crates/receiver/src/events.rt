@@ -4,17 +4,19 @@ ghost use mathlib.Core.List.{[]};
 ghost use mathlib.Core.Bool.{true};
 ghost use Prim.Native.Nat.{_<_, _≤_};
 ghost use Rattle.bits.specs.Field.{both};
-ghost use Rattle.receiver.specs.Channels.{channels, keyCount, Channel, hasNln, hasPages, drops, forgets};
+ghost use Rattle.receiver.specs.Channels.{channels, keyCount, Channel, hasNln, hasPages, drops, forgets, forgetsCount};
 ghost use Rattle.receiver.specs.Model.{keysOf, ruleFor, withSlots};
 ghost use lib.ListN.{take};
 ghost use Rattle.csn1.specs.Told.{padded};
-ghost use Rattle.receiver.specs.Step.{mostEntries, noTold, toldOf, slotsAfter, allAfter, allTold, refusedWith, acceptedWith, changes, numbering, moving};
-ghost use Rattle.receiver.specs.Step.{cellAfter, stepOf, nch, facch, pch, joined, moved, reselected, handedOver, reconfigured, leftIdle, tick};
+ghost use Rattle.receiver.specs.Step.{mostEntries, toldAs, toldOnly, noTold, toldOf, slotsAfter, allAfter, allTold, refusedWith, acceptedWith, changes, numbering, moving};
+ghost use Rattle.receiver.specs.Step.{cellBy, stepOf, nch, facch, pch, joined, moved, reselected, handedOver, reconfigured, leftIdle, bit22, tick};
 use crate::Answer;
 use crate::Cell;
 use crate::LAST_KEY;
 use crate::MOST_ENTRIES;
 use crate::Move;
+use crate::NO_BIT;
+use crate::NO_COUNT;
 use crate::NO_NLN;
 use crate::Receiver;
 use crate::Record;
@@ -22,6 +24,7 @@ use crate::Rule;
 use crate::Setup;
 use crate::Told;
 use crate::channels;
+use crate::count;
 use crate::finding;
 use crate::meeting;
 use crate::messages;
@@ -29,13 +32,36 @@ use crate::messages::Entries;
 use crate::store;
 use csn1::Refusal;
 
+// A number alone.
+fn told_only(key: u64, number: u8) -> Told
+    ensures { λ r. ⌜ r ≡ toldOnly key number ⌝ }
+{
+    Told {
+        key,
+        number,
+        record: meeting::no_record(),
+        follow: 0,
+        kept: 0,
+    }
+}
+
 fn no_told() -> Told
     ensures { λ r. ⌜ r ≡ noTold ⌝ }
 {
+    told_only(0, 0)
+}
+
+// What a number told and a record say under a key, with whether the call can be followed.
+pub fn told_as(set: u32, cell: Cell, key: u64, number: u8, record: Record) -> Told
+    ensures { λ r. ⌜ r ≡ toldAs set cell key number «record» ⌝ }
+{
+    let follow = count::follow(set, cell, number, record.call.cipher);
     Told {
-        key: 0,
-        number: 0,
-        record: meeting::no_record(),
+        key,
+        number,
+        record,
+        follow,
+        kept: count::beside(follow, cell),
     }
 }
 
@@ -47,7 +73,7 @@ struct Entry {
 // One entry: what it is told, and the receiver then.
 fn tell(r: Receiver, ch: usize, now: u32, e: Record) -> Entry
     requires { ⌜ ch < channels ⌝ }
-    ensures { λ t. ⌜ (t .told ≡ toldOf (keysOf r) ch now (r .slots) e) × (t .receiver ≡ withSlots r (slotsAfter (keysOf r) ch now (r .slots) e)) ⌝ }
+    ensures { λ t. ⌜ (t .told ≡ toldOf (keysOf r) (r .sets) (r .cell) ch now (r .slots) e) × (t .receiver ≡ withSlots r (slotsAfter (keysOf r) ch now (r .slots) e)) ⌝ }
 {
     let call = e.call;
     let key = meeting::key_of(call);
@@ -55,11 +81,7 @@ fn tell(r: Receiver, ch: usize, now: u32, e: Record) -> Entry
     let i = finding::index_of(keys, r.keycount, key);
     if Setup::KEYS <= i {
         return Entry {
-            told: Told {
-                key,
-                number: 0,
-                record: meeting::no_record(),
-            },
+            told: told_only(key, 0),
             receiver: r,
         };
     }
@@ -70,12 +92,9 @@ fn tell(r: Receiver, ch: usize, now: u32, e: Record) -> Entry
     let left = m.held;
     after.slots[at] = left;
     let told = m.told;
+    let cell = r.cell;
     Entry {
-        told: Told {
-            key,
-            number: m.number,
-            record: told,
-        },
+        told: told_as(r.sets[i], cell, key, m.number, told),
         receiver: after,
     }
 }
@@ -88,7 +107,7 @@ struct Telling {
 // All entries of a message, in order.
 fn tell_all(r: Receiver, ch: usize, now: u32, e: Entries) -> Telling
     requires { ⌜ (ch < channels) × (e .count ≤ mostEntries) ⌝ }
-    ensures { λ t. ⌜ (t .entries ≡ padded noTold mostEntries (allTold (keysOf r) ch now (r .slots) (take (e .count) (e .items))))
+    ensures { λ t. ⌜ (t .entries ≡ padded noTold mostEntries (allTold (keysOf r) (r .sets) (r .cell) ch now (r .slots) (take (e .count) (e .items))))
         × (t .receiver ≡ withSlots r (allAfter (keysOf r) ch now (r .slots) (take (e .count) (e .items)))) ⌝ }
 {
     let mut entries = [no_told(); MOST_ENTRIES];
@@ -120,17 +139,18 @@ fn refused(r: Receiver, refusal: Refusal) -> Answer
     }
 }
 
-// An accepted event: one sweep, the new tick, what is known of the cell, then the entries.
+// An accepted event: one sweep, the new tick, what is known of the cell now, then the entries.
 fn accepted(r: Receiver, now: u32, rule: Rule, cell: Cell, ch: usize, e: Entries) -> Answer
     requires { ⌜ (ch < channels) × (e .count ≤ mostEntries) ⌝ }
     ensures { λ a. ⌜ a ≡ acceptedWith r now rule cell ch (take (e .count) (e .items)) ⌝ }
 {
     let swept = store::sweep(r, now, rule);
-    let t = tell_all(swept.receiver, ch, now, e);
+    let mut before = swept.receiver;
+    before.tick = now;
+    before.cell = cell;
+    let t = tell_all(before, ch, now, e);
     let entries = t.entries;
-    let mut after = t.receiver;
-    after.tick = now;
-    after.cell = cell;
+    let after = t.receiver;
     Answer {
         refusal: csn1::no_refusal(),
         expired: swept.expired,
@@ -175,12 +195,16 @@ pub fn nln_rule(cell: Cell, numbered: bool, nln: u8) -> Rule
     }
 }
 
-// What is known of the cell, behind a message.
-pub fn cell_after(cell: Cell, numbered: bool, nln: u8) -> Cell
-    ensures { λ r. ⌜ r ≡ cellAfter cell (numbering numbered nln) ⌝ }
+// What is known of the cell, behind a message's NLN.
+pub fn nln_cell(cell: Cell, numbered: bool, nln: u8) -> Cell
+    ensures { λ r. ⌜ r ≡ cellBy cell (numbering numbered nln) ⌝ }
 {
     if numbered {
-        return Cell { nln };
+        return Cell {
+            nln,
+            count: cell.count,
+            bit: cell.bit,
+        };
     }
     cell
 }
@@ -255,14 +279,31 @@ fn forgets(m: Move) -> bool
     }
 }
 
+// Whether a move makes the cell's count and bit 22 unknown.
+fn forgets_count(m: Move) -> bool
+    ensures { λ r. ⌜ r ≡ forgetsCount m ⌝ }
+{
+    match m {
+        Move::Reselection => true,
+        Move::Handover => true,
+        Move::Reconfiguration => false,
+        Move::LeftIdle => false,
+    }
+}
+
 // What is known of the cell, behind a move.
 pub fn move_cell(cell: Cell, m: Move) -> Cell
-    ensures { λ r. ⌜ r ≡ cellAfter cell (moving m) ⌝ }
+    ensures { λ r. ⌜ r ≡ cellBy cell (moving m) ⌝ }
 {
+    let mut after = cell;
     if forgets(m) {
-        return Cell { nln: NO_NLN };
+        after.nln = NO_NLN;
     }
-    cell
+    if forgets_count(m) {
+        after.count = NO_COUNT;
+        after.bit = NO_BIT;
+    }
+    after
 }
 
 // The mobile moved.
@@ -293,7 +334,9 @@ impl Receiver {
         let n = m.record;
         let last = self.cell;
         let rule = nln_rule(last, n.hasNln, n.nln);
-        let cell = cell_after(last, n.hasNln, n.nln);
+        let cell = nln_cell(last, n.hasNln, n.nln);
+        let six = n.release6;
+        let cell = count::taken(cell, six.hasCount, six.cellcount);
         accepted(
             self,
             tick,
@@ -316,7 +359,9 @@ impl Receiver {
             return refused(self, m.refusal);
         }
         let n = m.record;
-        let cell = self.cell;
+        let last = self.cell;
+        let six = n.release6;
+        let cell = count::taken_over(last, six.hasCount, six.b22, six.cellcount);
         accepted(
             self,
             tick,
@@ -341,7 +386,8 @@ impl Receiver {
         let p = m.record;
         let call = p.call;
         let keys = self.keys;
-        let cell = self.cell;
+        let last = self.cell;
+        let cell = count::taken(last, p.hasCount, p.cellcount);
         let but = finding::index_of(keys, self.keycount, meeting::key_of(call));
         accepted(
             self,
@@ -395,6 +441,20 @@ impl Receiver {
         ensures { λ a. ⌜ a ≡ stepOf self (leftIdle tick) ⌝ }
     {
         move_on(self, tick, Move::LeftIdle)
+    }
+
+    // Bit 22 of COUNT has a value, 0 or 1.
+    pub fn bit_22(self, tick: u32, bit: u32) -> Answer
+        ensures { λ a. ⌜ a ≡ stepOf self (bit22 tick bit) ⌝ }
+    {
+        if store::is_late(tick, self.tick) {
+            return refused(self, csn1::ground(9));
+        }
+        if 1 < bit {
+            return refused(self, csn1::ground(12));
+        }
+        let last = self.cell;
+        plain(self, tick, store::keep(), count::turned(last, bit as u8))
     }
 
     // Time passed.

@@ -3,6 +3,7 @@ use call::Call;
 use csn1::Refusal;
 
 pub mod channels;
+pub mod count;
 pub mod events;
 pub mod finding;
 pub mod meeting;
@@ -54,10 +55,20 @@ pub struct Slot {
 // An NLN has two bits: this says that none is known.
 pub const NO_NLN: u8 = 4;
 
+// CELL_GLOBAL_COUNT has two bits: this, and any number above, says that none is kept.
+pub const NO_COUNT: u8 = 4;
+
+// The same of bit 22 of COUNT.
+pub const NO_BIT: u8 = 2;
+
 // What is known of the cell.
 pub struct Cell {
     // The last NLN seen, or NO_NLN.
     pub nln: u8,
+    // The kept CELL_GLOBAL_COUNT, or NO_COUNT.
+    pub count: u8,
+    // The present value of bit 22 of COUNT, or NO_BIT.
+    pub bit: u8,
 }
 
 // The highest key: reference 99,999,999 times 2, plus the service flag.
@@ -72,6 +83,8 @@ pub const PLACES: usize = channels::CHANNELS * Setup::KEYS;
 pub struct Receiver {
     pub slots: [Slot; PLACES],
     pub keys: [u32; Setup::KEYS],
+    // The group keys held for each key: bit n for key number n, 1 to 15.
+    pub sets: [u32; Setup::KEYS],
     // How many of the key places are used: the first so many, or all.
     pub keycount: usize,
     pub tick: u32,
@@ -87,6 +100,9 @@ pub struct Told {
     pub key: u64,
     pub number: u8,
     pub record: Record,
+    // Beside 2 and 3: 1 no key, 2 no count, 3 follow, with the kept count.
+    pub follow: u8,
+    pub kept: u8,
 }
 
 // A message has at most this many entries: four calls and five reduced references.
@@ -131,7 +147,7 @@ pub struct Met {
     pub held: Slot,
 }
 
-// The numbers of a setup, beside its keys.
+// The numbers of a setup, beside its keys and their sets of group keys.
 pub struct Setup {
     pub tick: u32,
     pub t3206: u32,

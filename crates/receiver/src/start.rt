@@ -1,10 +1,14 @@
 // Setting up: the numbers and the lent keys are tested, and a receiver that holds nothing is made.
 ghost use mathlib.Core.Path.{_≡_};
 ghost use Rattle.receiver.specs.Channels.{keyCount};
-ghost use Rattle.receiver.specs.Model.{newReceiver, noSetup, keyPlaces, isTimer, allLow, setupRight, startedOf, readySetup};
+ghost use Rattle.receiver.specs.Count.{isSet, setsRight};
+ghost use Rattle.receiver.specs.Model.{newReceiver, noSetup, isTimer, allLow, setupRight, startedOf, readySetup};
 ghost use Rattle.receiver.specs.Halving.{rises};
+ghost use Rattle.csn1.specs.Told.{padded};
 use crate::Cell;
 use crate::LAST_KEY;
+use crate::NO_BIT;
+use crate::NO_COUNT;
 use crate::NO_KEY;
 use crate::NO_NLN;
 use crate::PLACES;
@@ -36,20 +40,21 @@ impl Setup {
         }
     }
 
-    // A receiver for the lent keys, or refusal 10.
-    pub fn start(self, keys: &[u32]) -> Started
-        ensures { λ r. ⌜ r ≡ startedOf self (now (keys .entry)) ⌝ }
+    // A receiver for the lent keys, each with its set of group keys, or refusal 10.
+    pub fn start(self, keys: &[u32], sets: &[u32]) -> Started
+        ensures { λ r. ⌜ r ≡ startedOf self (now (keys .entry)) (now (sets .entry)) ⌝ }
     {
-        if !is_right(self, keys) {
+        if !is_right(self, keys, sets) {
             return Started {
                 refusal: csn1::ground(10),
-                receiver: made(no_setup(), [NO_KEY; Setup::KEYS], 0),
+                receiver: made(no_setup(), [NO_KEY; Setup::KEYS], [0; Setup::KEYS], 0),
             };
         }
-        let places = key_places(keys);
+        let places = placed(keys, NO_KEY);
+        let groups = placed(sets, 0);
         Started {
             refusal: csn1::no_refusal(),
-            receiver: made(self, places, keys.len()),
+            receiver: made(self, places, groups, keys.len()),
         }
     }
 }
@@ -66,19 +71,24 @@ fn no_setup() -> Setup
 }
 
 // A receiver whose first n key places are used.
-fn made(s: Setup, keys: [u32; Setup::KEYS], n: usize) -> Receiver
-    ensures { λ r. ⌜ r ≡ newReceiver s keys n ⌝ }
+fn made(s: Setup, keys: [u32; Setup::KEYS], sets: [u32; Setup::KEYS], n: usize) -> Receiver
+    ensures { λ r. ⌜ r ≡ newReceiver s keys sets n ⌝ }
 {
     let e = meeting::empty_slot();
     Receiver {
         slots: [e; PLACES],
         keys,
+        sets,
         keycount: n,
         tick: s.tick,
         t3206: s.t3206,
         t3208: s.t3208,
         t3210: s.t3210,
-        cell: Cell { nln: NO_NLN },
+        cell: Cell {
+            nln: NO_NLN,
+            count: NO_COUNT,
+            bit: NO_BIT,
+        },
     }
 }
 
@@ -91,9 +101,9 @@ fn is_timer(t: u32) -> bool
     t <= Setup::LONGEST
 }
 
-// Whether a setup is accepted: at most KEYS keys, the timers, each key in range and above the one before it.
-pub fn is_right(s: Setup, keys: &[u32]) -> bool
-    ensures { λ r. ⌜ r ≡ setupRight s (now (keys .entry)) ⌝ }
+// Whether a setup is accepted: at most KEYS keys, the timers, a right set for each key, each key in range and above the one before it.
+pub fn is_right(s: Setup, keys: &[u32], sets: &[u32]) -> bool
+    ensures { λ r. ⌜ r ≡ setupRight s (now (keys .entry)) (now (sets .entry)) ⌝ }
 {
     if Setup::KEYS < keys.len() {
         return false;
@@ -107,10 +117,42 @@ pub fn is_right(s: Setup, keys: &[u32]) -> bool
     if !is_timer(s.t3210) {
         return false;
     }
+    if !sets_right(keys, sets) {
+        return false;
+    }
     if !all_low(keys) {
         return false;
     }
     rises(keys)
+}
+
+// A set of group keys has no number 0 and none above 15.
+const SETS: u32 = 65536;
+
+fn is_set(set: u32) -> bool
+    ensures { λ r. ⌜ r ≡ isSet set ⌝ }
+{
+    if SETS <= set {
+        return false;
+    }
+    set % 2 == 0
+}
+
+// Whether there is one set for each key, each of them right.
+fn sets_right(keys: &[u32], sets: &[u32]) -> bool
+    ensures { λ r. ⌜ r ≡ setsRight (now (keys .entry)) (now (sets .entry)) ⌝ }
+{
+    if sets.len() != keys.len() {
+        return false;
+    }
+    let mut i: usize = 0;
+    while i < sets.len() {
+        if !is_set(sets[i]) {
+            return false;
+        }
+        i += 1;
+    }
+    true
 }
 
 // Whether no key is above the highest.
@@ -141,15 +183,15 @@ fn rises(keys: &[u32]) -> bool
     true
 }
 
-// The keys as they were lent, then unused places.
-fn key_places(keys: &[u32]) -> [u32; Setup::KEYS]
-    ensures { λ r. ⌜ r ≡ keyPlaces keyCount (now (keys .entry)) ⌝ }
+// A place for each key: the numbers as they were lent, then unused places.
+fn placed(numbers: &[u32], unused: u32) -> [u32; Setup::KEYS]
+    ensures { λ r. ⌜ r ≡ padded unused keyCount (now (numbers .entry)) ⌝ }
 {
-    let mut places = [NO_KEY; Setup::KEYS];
+    let mut places = [unused; Setup::KEYS];
     let mut i: usize = 0;
     while i < Setup::KEYS {
-        if i < keys.len() {
-            places[i] = keys[i];
+        if i < numbers.len() {
+            places[i] = numbers[i];
         }
         i += 1;
     }

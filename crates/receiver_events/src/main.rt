@@ -164,7 +164,7 @@ fn message(r: Receiver, tick: u32, digits: &[u8], nch: bool) -> Answer {
     r.facch(tick, &octets[..n])
 }
 
-// A setup with the keys from a place on, of which 64 are kept at most.
+// A setup with the keys from a place on, of which 64 are kept at most; no group keys are held.
 fn started(setup: Setup, line: &[u8], from: usize) -> Started
     requires { ⌜ from ≤ length (now line) ⌝ }
 {
@@ -179,7 +179,8 @@ fn started(setup: Setup, line: &[u8], from: usize) -> Started
         at = after(line, at);
         n += 1;
     }
-    setup.start(&keys[..n])
+    let sets = [0u32; 64];
+    setup.start(&keys[..n], &sets[..n])
 }
 
 fn set_up(r: Receiver, line: &[u8], first: usize) -> Receiver
@@ -247,8 +248,9 @@ fn event(r: Receiver, line: &[u8]) -> Receiver {
 
 // Before the first setup the receiver has no key.
 fn no_receiver() -> Receiver {
-    let none = [0u32; 1];
-    let s = Setup::ready(0).start(&none[..0]);
+    let keys = [0u32; 1];
+    let sets = [0u32; 1];
+    let s = Setup::ready(0).start(&keys[..0], &sets[..0]);
     s.receiver
 }
 

@@ -14,11 +14,12 @@ use Rattle.receiver.specs.declared.Met.{Met}
 use Rattle.receiver.specs.declared.Record.{Record}
 use Rattle.receiver.specs.declared.Slot.{Slot}
 use Rattle.receiver.specs.Channels.{keyCount, places, placeOn}
-use Rattle.receiver.specs.Model.{noRecord, keyOf, indexOf, meetOf}
-use Rattle.receiver.specs.Step.{Event, contentOf}
+use Rattle.receiver.specs.declared.Cell.{Cell}
+use Rattle.receiver.specs.Model.{keyOf, indexOf, meetOf}
+use Rattle.receiver.specs.Step.{setAt, toldAs, toldOnly, Event, contentOf}
 use Rattle.receiver.proofs.Cases.{by-test}
 use Rattle.layout.specs.Octets.{lowOctets}
-use Rattle.layout.specs.Layout.{markFrom, kindsFrom, recordOctets, kindPlace, sincePlace, recordPlace, slotNo, keysIn, putSlot, putTold}
+use Rattle.layout.specs.Layout.{markFrom, kindsFrom, recordOctets, kindPlace, sincePlace, recordPlace, slotNo, keysIn, setsIn, putSlot, putTold}
 use Rattle.layout.proofs.Decoding.{told-elsewhere, head-elsewhere}
 use Rattle.layout.proofs.Sweeps.{run-elsewhere}
 use Rattle.lent.specs.Events.{afterMeet, metOctets, tellAt, tellOctets, allOctets, eventCode, octetsAfter}
@@ -40,22 +41,21 @@ module _ (j : ℕ) (h : j < kindsFrom) where
   met-stays : (l : List ℕ) (i : ℕ) (m : Met) → getD (afterMeet l i m) j 0 ≡ getD l j 0
   met-stays l i m = by-pick (λ (x : List ℕ). getD x j 0 ≡ getD l j 0) (both (ltb 2 (m .number)) (ltb (m .number) 5)) (putSlot l i (m .held)) l (put-stays l i (m .held)) refl
 
-  at-stays : (l : List ℕ) (ch now n i : ℕ) (e : Record) → getD (tellAt l ch now n i e) j 0 ≡ getD l j 0
-  at-stays l ch now n i e =
+  at-stays : (l : List ℕ) (cell : Cell) (ch now n i : ℕ) (e : Record) → getD (tellAt l cell ch now n i e) j 0 ≡ getD l j 0
+  at-stays l cell ch now n i e =
       let m = meetOf ch now (slotNo l (placeOn i ch)) e in
-      by-pick (λ (x : List ℕ). getD x j 0 ≡ getD l j 0) (ltb i keyCount) (metOctets l ch n i (keyOf (e .call)) m)
-      (putTold l n (record { key = keyOf (e .call); number = 0; «record» = noRecord }))
-      (told-elsewhere (afterMeet l (placeOn i ch) m) n (record { key = keyOf (e .call); number = m .number; «record» = m .told }) j (λ q. omega arith) ∙ met-stays l (placeOn i ch) m)
-      (told-elsewhere l n (record { key = keyOf (e .call); number = 0; «record» = noRecord }) j (λ q. omega arith))
+      by-pick (λ (x : List ℕ). getD x j 0 ≡ getD l j 0) (ltb i keyCount) (metOctets l cell ch n i (keyOf (e .call)) m) (putTold l n (toldOnly (keyOf (e .call)) 0))
+      (told-elsewhere (afterMeet l (placeOn i ch) m) n (toldAs (setAt (setsIn l) i) cell (keyOf (e .call)) (m .number) (m .told)) j (λ q. omega arith) ∙ met-stays l (placeOn i ch) m)
+      (told-elsewhere l n (toldOnly (keyOf (e .call)) 0) j (λ q. omega arith))
 
-  tell-stays : (l : List ℕ) (ch now n : ℕ) (e : Record) → getD (tellOctets l ch now n e) j 0 ≡ getD l j 0
+  tell-stays : (l : List ℕ) (cell : Cell) (ch now n : ℕ) (e : Record) → getD (tellOctets l cell ch now n e) j 0 ≡ getD l j 0
   unfolding tellOctets
-  tell-stays l ch now n e = at-stays l ch now n (indexOf (keysIn l) (keyOf (e .call))) e
+  tell-stays l cell ch now n e = at-stays l cell ch now n (indexOf (keysIn l) (keyOf (e .call))) e
 
-  all-stays : (l : List ℕ) (ch now n : ℕ) (es : List Record) → getD (allOctets l ch now n es) j 0 ≡ getD l j 0
+  all-stays : (l : List ℕ) (cell : Cell) (ch now n : ℕ) (es : List Record) → getD (allOctets l cell ch now n es) j 0 ≡ getD l j 0
   unfolding allOctets
-  all-stays l ch now n [] = refl
-  all-stays l ch now n (e ∷ es) = all-stays (tellOctets l ch now n e) ch now (suc n) es ∙ tell-stays l ch now n e
+  all-stays l cell ch now n [] = refl
+  all-stays l cell ch now n (e ∷ es) = all-stays (tellOctets l cell ch now n e) cell ch now (suc n) es ∙ tell-stays l cell ch now n e
 
 pub mark-stays : (l : List ℕ) (e : Event) (j : ℕ) → j < 4 → getD (octetsAfter l e) (markFrom + j) 0 ≡ getD l (markFrom + j) 0
 unfolding octetsAfter
@@ -63,6 +63,6 @@ mark-stays l e j h =
     by-test (eqb (eventCode l e) 0)
     (λ p. rw p
     (head-elsewhere _ _ _ _ _ _ (markFrom + j) (omega arith) (λ q. omega arith) (λ q. omega arith)
-    ∙ all-stays (markFrom + j) (omega arith) _ _ (e .tick) 0 (contentOf (e .happening) .entries)
+    ∙ all-stays (markFrom + j) (omega arith) _ _ _ (e .tick) 0 (contentOf (e .happening) .entries)
     ∙ run-elsewhere (e .tick) _ 0 places l (omega arith) (markFrom + j) (λ q. omega arith) (λ q. omega arith)))
     (λ p. rw p)

@@ -1,6 +1,6 @@
 // A record as numbers, in the order of the header's parts, and behind the numbers that lead it.
 ghost use mathlib.Core.Path.{_≡_};
-ghost use mathlib.Core.List.{_∷_};
+ghost use mathlib.Core.List.{[], _∷_, _++_};
 ghost use Rattle.layout.specs.Parts.{recordNumbers};
 use arrays::fill;
 use receiver::Record;
@@ -8,8 +8,8 @@ use receiver::Record;
 // How many numbers a record has: four wide ones, twenty flags, six small ones.
 const RECORD: usize = 30;
 
-// A told entry: its key, its number and its record.
-pub(crate) const TOLD: usize = 2 + RECORD;
+// A told entry: its key, its number, its record, whether it can be followed and with which count.
+pub(crate) const TOLD: usize = 2 + RECORD + 2;
 
 // A half held: its key, its channel, which half, for how long it stays, and its record.
 pub(crate) const HELD: usize = 4 + RECORD;
@@ -52,14 +52,16 @@ fn record_numbers(r: Record) -> [u64; RECORD]
 }
 
 // A told entry.
-pub(crate) fn told_numbers(key: u64, number: u64, r: Record) -> [u64; TOLD]
-    ensures { λ a. ⌜ a ≡ key ∷ number ∷ recordNumbers r ⌝ }
+pub(crate) fn told_numbers(key: u64, number: u64, r: Record, follow: u64, kept: u64) -> [u64; TOLD]
+    ensures { λ a. ⌜ a ≡ key ∷ number ∷ recordNumbers r ++ (follow ∷ kept ∷ []) ⌝ }
 {
     let mut all = [0u64; TOLD];
     let head = [key, number];
     fill::run(&head, &mut all, 0);
     let rest = record_numbers(r);
     fill::run(&rest, &mut all, 2);
+    let tail = [follow, kept];
+    fill::run(&tail, &mut all, 2 + RECORD);
     all
 }
 

@@ -12,10 +12,14 @@ use arrays::fill;
 use layout::LENGTH;
 use layout::parts;
 
-// Key and number told, among the parts of an answer.
+// Key and number told, whether the call can be followed and with which count, among the parts of an answer.
 const KEY: usize = 3;
 
 const NUMBER: usize = 4;
+
+const FOLLOW: usize = 35;
+
+const KEPT: usize = 36;
 
 // Into as many places as there are; what is not there is 0.
 pub fn entry(b: &[u8], entry: usize, numbers: &mut [u64]) -> u8
@@ -29,7 +33,9 @@ pub fn entry(b: &[u8], entry: usize, numbers: &mut [u64]) -> u8
     let key = parts::part_of(b, entry, KEY);
     let number = parts::part_of(b, entry, NUMBER);
     let record = parts::record_of(b, entry);
-    let all = told_numbers(key, number, record);
+    let follow = parts::part_of(b, entry, FOLLOW);
+    let kept = parts::part_of(b, entry, KEPT);
+    let all = told_numbers(key, number, record, follow, kept);
     fill::store(&all, &mut *numbers);
     0
 }

@@ -43,6 +43,12 @@ array-share-prefix-keys c = search needs
 slice-aggregate-start : tie.Need-slice-aggregate-start Inv-loop μ-loop
 slice-aggregate-start c = simp length-take (omega arith)
 
+array-share-prefix-sets : tie.Need-array-share-prefix-sets Inv-loop μ-loop
+array-share-prefix-sets c = search needs
+
+slice-aggregate-start-2 : tie.Need-slice-aggregate-start-2 Inv-loop μ-loop
+slice-aggregate-start-2 c = simp length-take (omega arith)
+
 start-requires : tie.Need-start-requires Inv-loop μ-loop
 start-requires c κs = search needs
 
@@ -65,5 +71,7 @@ started-spec =
     loop-again
     array-share-prefix-keys
     slice-aggregate-start
+    array-share-prefix-sets
+    slice-aggregate-start-2
     start-requires
     returns)

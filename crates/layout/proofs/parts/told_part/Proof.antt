@@ -2,7 +2,7 @@
 use mathlib.Core.Path.{_∙_}
 use borrow.Author.Needs.{needs}
 use Rattle.layout.proofs.Reading.{carries-low, carries-high, carries-in}
-use Rattle.layout.proofs.Reading.{told-key, told-number, told-bare, told-record}
+use Rattle.layout.proofs.Reading.{told-key, told-number, told-beside, told-bare, told-record}
 use Rattle.layout.proofs.parts.told_part.Statement.{statement}
 use Rattle.layout.proofs.parts.told_part.Tie as tie
 
@@ -30,15 +30,24 @@ wide-requires c κs = search needs
 returns-2 : tie.Need-returns-2
 returns-2 c = let a = c .before .before .before .before .before .args in c .wide .ensures ∙ told-number (a .b .now) (a .entry) (a .part) (c .before .if2 .taken)
 
+beside-requires : tie.Need-beside-requires
+beside-requires c κs = search needs
+
 returns-3 : tie.Need-returns-3
 returns-3 c =
-    let a = c .before .before .before .before .before .args in
-    told-bare (a .b .now) (a .entry) (a .part) (c .before .before .before .if1 .left) (c .before .if2 .left) (carries-low _ (c .if3 .taken))
+    let a = c .before .before .before .before .before .before .args in
+    c .beside .ensures ∙ told-beside (a .b .now) (a .entry) (a .part) (c .before .if3 .taken)
 
 returns-4 : tie.Need-returns-4
 returns-4 c =
     let a = c .before .before .before .before .before .before .args in
-    told-bare (a .b .now) (a .entry) (a .part) (c .before .before .before .before .if1 .left) (c .before .before .if2 .left) (carries-high _ (c .if4 .taken))
+    told-bare (a .b .now) (a .entry) (a .part) (c .before .before .before .before .if1 .left) (c .before .before .if2 .left) (c .before .if3 .left) (carries-low _ (c .if4 .taken))
+
+returns-5 : tie.Need-returns-5
+returns-5 c =
+    let a = c .before .before .before .before .before .before .before .args in
+    told-bare (a .b .now) (a .entry) (a .part) (c .before .before .before .before .before .if1 .left) (c .before .before .before .if2 .left) (c .before .before .if3 .left)
+    (carries-high _ (c .if5 .taken))
 
 add-record-part : tie.Need-add-record-part
 add-record-part c = search needs
@@ -49,12 +58,12 @@ sub-record-part c = search needs
 record-part-requires : tie.Need-record-part-requires
 record-part-requires c κs = search needs
 
-returns-5 : tie.Need-returns-5
-returns-5 c =
-    let tests = c .before .before .before in
+returns-6 : tie.Need-returns-6
+returns-6 c =
+    let tests = c .before .before .before .before in
     let a = tests .before .before .before .before .args in
-    let carried = carries-in _ (c .before .before .if3 .left) (c .before .if4 .left) in
-    c .record-part .ensures ∙ told-record (a .b .now) (a .entry) (a .part) (tests .before .before .if1 .left) (tests .if2 .left) carried
+    let carried = carries-in _ (c .before .before .if4 .left) (c .before .if5 .left) in
+    c .record-part .ensures ∙ told-record (a .b .now) (a .entry) (a .part) (tests .before .before .if1 .left) (tests .if2 .left) (c .before .before .before .if3 .left) carried
 
 pub told-part-spec : {M : Type 1} → statement M
 told-part-spec =
@@ -68,9 +77,11 @@ told-part-spec =
     shared-slice-read-number
     wide-requires
     returns-2
+    beside-requires
     returns-3
     returns-4
+    returns-5
     add-record-part
     sub-record-part
     record-part-requires
-    returns-5)
+    returns-6)

@@ -25,7 +25,7 @@ returns c =
     let a = c9 .args in
     let s = c6 .sweep in
     accepted-by (a .b .now) (a .time) (a .rule) (a .cell) 0 [] (c9 .pre) (omega arith) _ _ _ _ _ 0 (s .ensures) (omega (arith, s .ok)) (omega (arith, s .ok)) refl
-    (omega arith) (all-none _ 0 (a .time)) (c2 .put-head .ensures)
+    (omega arith) (all-none _ _ 0 (a .time)) (c2 .put-head .ensures)
 
 pub accept-spec : {M : Type 1} → statement M
 accept-spec = tie.close (tie.spec sweep-requires put-head-requires same-length returns)

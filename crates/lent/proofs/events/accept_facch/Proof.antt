@@ -11,6 +11,9 @@ use Rattle.lent.proofs.events.accept_facch.Tie as tie
 cell-of-requires : tie.Need-cell-of-requires
 cell-of-requires c κs = tt
 
+taken-over-requires : tie.Need-taken-over-requires
+taken-over-requires c κs = tt
+
 pass-requires : tie.Need-pass-requires
 pass-requires c κs = tt
 
@@ -30,13 +33,14 @@ returns c =
     let c6 = c2 .before .before .before .before in
     let c10 = c6 .before .before .before .before in
     let c12 = c10 .before .before in
-    let c15 = c12 .before .before .before in
-    let a = c15 .args in
+    let c13 = c12 .before in
+    let c17 = c13 .before .before .before .before in
+    let a = c17 .args in
     let l = a .b .now in
     let s = c10 .pass in
-    rw (← cell-read l (c15 .pre) _ (c12 .cell-of .ensures))
-    (accepted-by l (a .time) keep _ 1 (facchEntries (a .m)) (c15 .pre) (omega arith) _ _ _ _ _ 1 (s .ensures) (omega (arith, s .ok)) (omega (arith, s .ok)) refl
+    rw (← cell-read l (c17 .pre) _ (c13 .cell-of .ensures), ← c12 .taken-over .ensures)
+    (accepted-by l (a .time) keep _ 1 (facchEntries (a .m)) (c17 .pre) (omega arith) _ _ _ _ _ 1 (s .ensures) (omega (arith, s .ok)) (omega (arith, s .ok)) refl
     (omega arith) (c6 .tell-facch .ensures) (c2 .put-head .ensures))
 
 pub accept-facch-spec : {M : Type 1} → statement M
-accept-facch-spec = tie.close (tie.spec cell-of-requires pass-requires tell-facch-requires put-head-requires same-length returns)
+accept-facch-spec = tie.close (tie.spec cell-of-requires taken-over-requires pass-requires tell-facch-requires put-head-requires same-length returns)

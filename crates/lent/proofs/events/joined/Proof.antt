@@ -6,6 +6,7 @@ use borrow.Author.Needs.{needs}
 use Rattle.csn1.specs.Format.{ground}
 use Rattle.receiver.specs.Channels.{keyCount, Channel}
 use Rattle.receiver.specs.Model.{indexOf, ruleFor}
+use Rattle.receiver.specs.Count.{noNews}
 use Rattle.receiver.specs.Step.{joining, plainly, joined}
 use Rattle.layout.specs.Layout.{keysIn}
 use Rattle.layout.proofs.States.{at-state}
@@ -69,7 +70,7 @@ returns-3 c =
     let q = c11 .early .ensures in
     let z = c10 .if1 .left in
     let i = c5 .index-of .ensures ∙ at-state l (indexOf (keysIn l) (a .key)) keyCount (whole-then l e _ q z) in
-    fed-accepted l e _ q z _ _ _ (joined-in (a .key) (c9 .if2 .left)) (plainly (joining (a .key))) refl
+    fed-accepted l e _ q z _ _ _ (joined-in (a .key) (c9 .if2 .left)) (plainly (joining (a .key)) noNews) refl
     (c3 .join-rule .ensures ∙ ap (λ (x : ℕ). ruleFor (λ (y : Channel). true) x) i) (cell-then l e _ q z _ (c7 .cell-of .ensures)) (c2 .accept .ensures)
 
 pub joined-spec : {M : Type 1} → statement M

@@ -2,7 +2,8 @@
 use mathlib.Core.Path.{refl, ap, _∙_}
 use borrow.Author.Needs.{needs}
 use Rattle.receiver.specs.declared.Cell.{Cell}
-use Rattle.receiver.specs.Step.{moving, plainly, cellAfter, moved}
+use Rattle.receiver.specs.Count.{noNews}
+use Rattle.receiver.specs.Step.{moving, plainly, cellBy, moved}
 use Rattle.lent.proofs.Feeding.{fed-early, whole-then, cell-then, fed-accepted}
 use Rattle.lent.proofs.events.move_on.Statement.{statement}
 use Rattle.lent.proofs.events.move_on.Tie as tie
@@ -51,8 +52,8 @@ returns-2 c =
     let q = c9 .early .ensures in
     let z = c8 .if1 .left in
     let k = cell-then l e _ q z _ (c6 .cell-of .ensures) in
-    fed-accepted l e _ q z _ _ _ refl (plainly (moving (a .m))) refl (c3 .move-rule .ensures)
-    (c5 .move-cell .ensures ∙ ap (λ (x : Cell). cellAfter x (moving (a .m))) k) (c2 .accept .ensures)
+    fed-accepted l e _ q z _ _ _ refl (plainly (moving (a .m)) noNews) refl (c3 .move-rule .ensures)
+    (c5 .move-cell .ensures ∙ ap (λ (x : Cell). cellBy x (moving (a .m))) k) (c2 .accept .ensures)
 
 pub move-on-spec : {M : Type 1} → statement M
 move-on-spec =

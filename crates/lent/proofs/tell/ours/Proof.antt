@@ -1,5 +1,5 @@
 -- `lent::tell::ours` meets its contract. Assumes nothing.
-use mathlib.Core.Path.{_≡_, sym, _∙_}
+use mathlib.Core.Path.{_≡_, refl, sym, _∙_}
 use mathlib.Core.Bool.{true}
 use mathlib.Core.Logic.{⊎-elim}
 use native.Mathlib.Omega.{arith}
@@ -16,8 +16,11 @@ key-of-requires c κs = tt
 class-requires : tie.Need-class-requires
 class-requires c κs = tt
 
-put-told-requires : tie.Need-put-told-requires
-put-told-requires c κs = tt
+set-at-requires : tie.Need-set-at-requires
+set-at-requires c κs = tt
+
+put-complete-requires : tie.Need-put-complete-requires
+put-complete-requires c κs = tt
 
 same-length : tie.Need-same-length
 same-length c = search needs
@@ -26,13 +29,14 @@ returns : tie.Need-returns
 returns c =
     let c2 = c .before .before in
     let c4 = c2 .before .before in
-    let c5 = c4 .before in
-    let c6 = c5 .before in
-    let c9 = c6 .before .before .before in
-    let a = c9 .args in
-    let p = c9 .pre in
-    left-whole (a .b .now) (a .ch) (a .tick) (a .j) (a .i) (a .e) (p .0) (p .1 .1 .0) _ _ (c6 .key-of .ensures) (c5 .class .ensures) _
-    (c4 .if1 .taken) (c2 .put-told .ensures)
+    let c6 = c4 .before .before in
+    let c7 = c6 .before in
+    let c8 = c7 .before in
+    let c11 = c8 .before .before .before in
+    let a = c11 .args in
+    let p = c11 .pre in
+    left-whole (a .b .now) (a .cell) (a .ch) (a .tick) (a .j) (a .i) (a .e) (p .0) (p .1 .1 .0) _ _ (c8 .key-of .ensures) (c7 .class .ensures) _
+    (c6 .if1 .taken) (p .1 .1 .1) _ (c4 .set-at .ensures) _ refl (c2 .put-complete .ensures)
 
 put-number-requires : tie.Need-put-number-requires
 put-number-requires c κs = tt
@@ -49,7 +53,7 @@ returns-2 c =
     let c10 = c7 .before .before .before in
     let a = c10 .args in
     let p = c10 .pre in
-    left-none (a .b .now) (a .ch) (a .tick) (a .j) (a .i) (a .e) (p .0) (p .1 .1 .0) _ _ (c7 .key-of .ensures) (c6 .class .ensures) _
+    left-none (a .b .now) (a .cell) (a .ch) (a .tick) (a .j) (a .i) (a .e) (p .0) (p .1 .1 .0) _ _ (c7 .key-of .ensures) (c6 .class .ensures) _
     (c4 .if2 .taken) (c2 .put-number .ensures)
 
 place-on-requires : tie.Need-place-on-requires
@@ -74,7 +78,7 @@ met-half-requires c κs =
     let a = c11 .args in
     let p = c11 .pre in
     let n =
-    place-held (a .b .now) (a .ch) (a .tick) (a .j) (a .i) (a .e) (p .0) (p .1 .1 .0) _ _ (c8 .key-of .ensures) (c7 .class .ensures) _ (c4 .place-on .ensures)
+    place-held (a .b .now) (a .cell) (a .ch) (a .tick) (a .j) (a .i) (a .e) (p .0) (p .1 .1 .0) _ _ (c8 .key-of .ensures) (c7 .class .ensures) _ (c4 .place-on .ensures)
     (c6 .if1 .left) (c5 .if2 .left) _ (c2 .half-at .ensures) (c1 .if3 .taken)
     in
     (p .0, (p .1 .0, (p .1 .1 .0, (p .1 .1 .1, (n, (omega (arith, c6 .if1 .left), omega (arith, c5 .if2 .left)))))))
@@ -95,7 +99,7 @@ returns-3 c =
     let c14 = c11 .before .before .before in
     let a = c14 .args in
     let p = c14 .pre in
-    left-half (a .b .now) (a .ch) (a .tick) (a .j) (a .i) (a .e) (p .0) (p .1 .1 .0) _ _ (c11 .key-of .ensures) (c10 .class .ensures) _
+    left-half (a .b .now) (a .cell) (a .ch) (a .tick) (a .j) (a .i) (a .e) (p .0) (p .1 .1 .0) _ _ (c11 .key-of .ensures) (c10 .class .ensures) _
     (c7 .place-on .ensures) (c9 .if1 .left) (c8 .if2 .left) _ (c5 .half-at .ensures) _ (c4 .if3 .taken) (c2 .met-half .ensures)
 
 leads-requires : tie.Need-leads-requires
@@ -123,7 +127,7 @@ returns-4 c =
     let c17 = c14 .before .before .before in
     let a = c17 .args in
     let p = c17 .pre in
-    left-early (a .b .now) (a .ch) (a .tick) (a .j) (a .i) (a .e) (p .0) (p .1 .1 .0) _ _ (c14 .key-of .ensures) (c13 .class .ensures) _
+    left-early (a .b .now) (a .cell) (a .ch) (a .tick) (a .j) (a .i) (a .e) (p .0) (p .1 .1 .0) _ _ (c14 .key-of .ensures) (c13 .class .ensures) _
     (c10 .place-on .ensures) (c12 .if1 .left) (c11 .if2 .left) _ (c8 .half-at .ensures) (c7 .if3 .left) _ (c6 .if4 .taken)
     (sym (c5 .leads .ensures) ∙ not-true (c5 .leads .result) (c4 .if5 .taken)) (c2 .put-number2 .ensures)
 
@@ -157,7 +161,7 @@ returns-5 c =
     let f : c15 .class .result ≡ 4 → leads (a .ch) ≡ true =
     λ q. ⊎-elim (λ w. sym (w .1 .ensures) ∙ not-false (w .1 .result) (w .2 .left)) (λ w. absurd (w .left q)) (c8 .if4 .came)
     in
-    left-stored (a .b .now) (a .ch) (a .tick) (a .j) (a .i) (a .e) (p .0) (p .1 .1 .0) _ _ (c16 .key-of .ensures) (c15 .class .ensures) _ (c12 .place-on .ensures)
+    left-stored (a .b .now) (a .cell) (a .ch) (a .tick) (a .j) (a .i) (a .e) (p .0) (p .1 .1 .0) _ _ (c16 .key-of .ensures) (c15 .class .ensures) _ (c12 .place-on .ensures)
     (c14 .if1 .left) (c13 .if2 .left) _ (c10 .half-at .ensures) (c9 .if3 .left) _ _ f (c6 .store .ensures) (c2 .put-number3 .ensures)
 
 pub ours-spec : {M : Type 1} → statement M
@@ -166,7 +170,8 @@ ours-spec =
     (tie.spec
     key-of-requires
     class-requires
-    put-told-requires
+    set-at-requires
+    put-complete-requires
     same-length
     returns
     put-number-requires

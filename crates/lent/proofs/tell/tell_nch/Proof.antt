@@ -14,17 +14,17 @@ use Rattle.lent.proofs.tell.tell_nch.Statement.{statement}
 use Rattle.lent.proofs.tell.tell_nch.Tie as tie
 
 abbrev Inv-calls : tie.InvT-calls
-Inv-calls b₀ tick m n count random₀ mark₀ i₀ b random mark i = (i ≤ n) × Told-to b₀ tick (recordFrom m) random mark i b
+Inv-calls b₀ cell tick m n count random₀ mark₀ i₀ b random mark i = (i ≤ n) × Told-to b₀ cell tick (recordFrom m) random mark i b
 
 abbrev μ-calls : tie.MeasureT-calls
-μ-calls b₀ tick m n count random₀ mark₀ i₀ b random mark i = n - i
+μ-calls b₀ cell tick m n count random₀ mark₀ i₀ b random mark i = n - i
 
 abbrev Inv-reduceds : tie.InvT-reduceds
-Inv-reduceds b₀ tick m n count random₀ mark i₀ b random i =
-    (n ≤ i) × ((i ≤ count) × ((l : List ℕ) → Told-to l tick (recordFrom m) random₀ mark i₀ b₀ → Told-to l tick (recordFrom m) random mark i b))
+Inv-reduceds b₀ cell tick m n count random₀ mark i₀ b random i =
+    (n ≤ i) × ((i ≤ count) × ((l : List ℕ) → Told-to l cell tick (recordFrom m) random₀ mark i₀ b₀ → Told-to l cell tick (recordFrom m) random mark i b))
 
 abbrev μ-reduceds : tie.MeasureT-reduceds
-μ-reduceds b₀ tick m n count random₀ mark i₀ b random i = count - i
+μ-reduceds b₀ cell tick m n count random₀ mark i₀ b random i = count - i
 
 shared-slice-read-least :
     tie.Need-shared-slice-read-least Inv-calls μ-calls Inv-reduceds μ-reduceds
@@ -44,7 +44,7 @@ add-count : tie.Need-add-count Inv-calls μ-calls Inv-reduceds μ-reduceds
 add-count c = omega arith
 
 calls-holds : tie.Need-calls-holds Inv-calls μ-calls Inv-reduceds μ-reduceds
-calls-holds c = (omega arith, none-told _ _ _)
+calls-holds c = (omega arith, none-told _ _ _ _)
 
 mul-at : tie.Need-mul-at Inv-calls μ-calls Inv-reduceds μ-reduceds
 mul-at c = omega arith
@@ -60,7 +60,7 @@ tell-numbers-requires c κs =
     let c9 = c5 .before .before .before .before in
     let a = c9 .args in
     let l = c2 .calls in
-    call-asks (now (a .m)) (c9 .pre .1) (a .b .now) (a .tick) (l .random) (l .mark) (l .i) (l .b) (l .inv .1) _ (c5 .least .ensures) (c1 .calls-test .taken) (c9 .pre .0)
+    call-asks (now (a .m)) (c9 .pre .1) (a .b .now) (a .cell) (a .tick) (l .random) (l .mark) (l .i) (l .b) (l .inv .1) _ (c5 .least .ensures) (c1 .calls-test .taken) (c9 .pre .0)
 
 add-random : tie.Need-add-random Inv-calls μ-calls Inv-reduceds μ-reduceds
 add-random c = omega arith
@@ -83,7 +83,7 @@ add-random-2 c =
     let c13 = c9 .before .before .before .before in
     let a = c13 .args in
     let l = c6 .calls in
-    let f = call-next (now (a .m)) (c13 .pre .1) (a .b .now) (a .tick) (l .random) (l .mark) (l .i) (l .b) (l .inv .1) _ (c9 .least .ensures) (c5 .calls-test .taken) in
+    let f = call-next (now (a .m)) (c13 .pre .1) (a .b .now) (a .cell) (a .tick) (l .random) (l .mark) (l .i) (l .b) (l .inv .1) _ (c9 .least .ensures) (c5 .calls-test .taken) in
     omega (arith, f, byte-lt (leb 1 (getD (now (a .m)) (callAt (l .i) + 4) 0)))
 
 add-mark : tie.Need-add-mark Inv-calls μ-calls Inv-reduceds μ-reduceds
@@ -103,7 +103,7 @@ add-mark-2 c =
     let c14 = c10 .before .before .before .before in
     let a = c14 .args in
     let l = c7 .calls in
-    let f = call-next (now (a .m)) (c14 .pre .1) (a .b .now) (a .tick) (l .random) (l .mark) (l .i) (l .b) (l .inv .1) _ (c10 .least .ensures) (c6 .calls-test .taken) in
+    let f = call-next (now (a .m)) (c14 .pre .1) (a .b .now) (a .cell) (a .tick) (l .random) (l .mark) (l .i) (l .b) (l .inv .1) _ (c10 .least .ensures) (c6 .calls-test .taken) in
     omega (arith, f)
 
 add-i : tie.Need-add-i Inv-calls μ-calls Inv-reduceds μ-reduceds
@@ -121,7 +121,8 @@ calls-again c =
     let c14 = c10 .before .before .before .before in
     let a = c14 .args in
     let l = c7 .calls in
-    let t = turn-call (now (a .m)) (c14 .pre .1) (a .b .now) (a .tick) (l .random) (l .mark) (l .i) (l .b) (l .inv .1) _ (c10 .least .ensures) (c6 .calls-test .taken) _ (c4 .tell-numbers .ensures) in
+    let told = c4 .tell-numbers .ensures in
+    let t = turn-call (now (a .m)) (c14 .pre .1) (a .b .now) (a .cell) (a .tick) (l .random) (l .mark) (l .i) (l .b) (l .inv .1) _ (c10 .least .ensures) (c6 .calls-test .taken) _ told in
     (omega (arith, c6 .calls-test .taken), t)
 
 reduceds-holds : tie.Need-reduceds-holds Inv-calls μ-calls Inv-reduceds μ-reduceds
@@ -147,7 +148,7 @@ tell-numbers-requires-2 c κs =
     let a = c11 .args in
     let r = c2 .reduceds in
     let p = r .inv .1 .1 (a .b .now) (c4 .calls .inv .1) in
-    reduced-asks (now (a .m)) (c11 .pre .1) (a .b .now) (a .tick) (r .random) _ (r .i) (r .b) p _ (c7 .least .ensures) (r .inv .0) (omega (arith, c5 .least2 .ensures)) (c11 .pre .0)
+    reduced-asks (now (a .m)) (c11 .pre .1) (a .b .now) (a .cell) (a .tick) (r .random) _ (r .i) (r .b) p _ (c7 .least .ensures) (r .inv .0) (omega (arith, c5 .least2 .ensures)) (c11 .pre .0)
 
 add-random-3 : tie.Need-add-random-3 Inv-calls μ-calls Inv-reduceds μ-reduceds
 add-random-3 c =
@@ -159,7 +160,8 @@ add-random-3 c =
     let a = c14 .args in
     let r = c5 .reduceds in
     let p = r .inv .1 .1 (a .b .now) (c7 .calls .inv .1) in
-    let f = reduced-asks (now (a .m)) (c14 .pre .1) (a .b .now) (a .tick) (r .random) _ (r .i) (r .b) p _ (c10 .least .ensures) (r .inv .0) (omega (arith, c8 .least2 .ensures)) (c14 .pre .0) in
+    let few = c10 .least .ensures in
+    let f = reduced-asks (now (a .m)) (c14 .pre .1) (a .b .now) (a .cell) (a .tick) (r .random) _ (r .i) (r .b) p _ few (r .inv .0) (omega (arith, c8 .least2 .ensures)) (c14 .pre .0) in
     omega (arith, f .1 .1 .1 .0)
 
 add-i-2 : tie.Need-add-i-2 Inv-calls μ-calls Inv-reduceds μ-reduceds
@@ -181,7 +183,7 @@ reduceds-again c =
       (
         omega arith,
         λ l p.
-            turn-reduced (now (a .m)) (c14 .pre .1) l (a .tick) (r .random) _ (r .i) (r .b) (r .inv .1 .1 l p) _ (c10 .least .ensures) (r .inv .0)
+            turn-reduced (now (a .m)) (c14 .pre .1) l (a .cell) (a .tick) (r .random) _ (r .i) (r .b) (r .inv .1 .1 l p) _ (c10 .least .ensures) (r .inv .0)
             (omega (arith, c8 .least2 .ensures)) _ (c2 .tell-numbers2 .ensures),
       ),
     )
@@ -195,7 +197,7 @@ same-length c =
     let c3 = c1 .before .before in
     let c10 = c3 .before .before .before .before .before .before .before in
     let p = c1 .reduceds .inv .1 .1 (c10 .args .b .now) (c3 .calls .inv .1) in
-    all-length _ _ _ _ _ (p .told)
+    all-length _ _ _ _ _ _ (p .told)
 
 returns : tie.Need-returns Inv-calls μ-calls Inv-reduceds μ-reduceds
 returns c =
@@ -209,7 +211,7 @@ returns c =
     let e = entries-are (now (a .m)) _ (c6 .least .ensures) in
     let d = c4 .least2 .ensures in
     let p = r .inv .1 .1 (a .b .now) (c3 .calls .inv .1) in
-    (omega (arith, e, d), all-told (a .b .now) (a .tick) (recordFrom (now (a .m))) (r .random) _ (r .i) (r .b) p (omega (arith, e, d, r .inv .1 .0)))
+    (omega (arith, e, d), all-told (a .b .now) (a .cell) (a .tick) (recordFrom (now (a .m))) (r .random) _ (r .i) (r .b) p (omega (arith, e, d, r .inv .1 .0)))
 
 pub tell-nch-spec : {M : Type 1} → statement M
 tell-nch-spec =

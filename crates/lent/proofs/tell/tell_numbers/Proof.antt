@@ -52,7 +52,7 @@ returns c =
     let p = c11 .pre in
     let f = p .1 .1 .1 .1 in
     let k = key-from (now (a .m)) (a .full) (a .at) (a .random) (a .mark) (f .service) in
-    telling-other (a .b .now) 0 (a .tick) (a .j) _ (entryFrom (now (a .m)) (a .full) (a .at) (a .random) (a .mark)) _ k (p .0) (c5 .index-of .ensures) _
+    telling-other (a .b .now) (a .cell) 0 (a .tick) (a .j) _ (entryFrom (now (a .m)) (a .full) (a .at) (a .random) (a .mark)) _ k (p .0) (c5 .index-of .ensures) _
     (c4 .if1 .taken) (p .1 .0) (omega (arith, f .reference, f .service)) (c2 .put-number .ensures)
 
 entry-at-requires : tie.Need-entry-at-requires
@@ -77,7 +77,7 @@ returns-2 c =
     let e = c3 .entry-at in
     let k = key-from (now (a .m)) (a .full) (a .at) (a .random) (a .mark) (p .1 .1 .1 .1 .service) ∙ ap (λ (r : Record). keyOf (r .call)) (sym (e .ensures)) in
     rw (sym (e .ensures))
-    (telling-ours (a .b .now) 0 (a .tick) (a .j) _ (e .result) _ k (p .0) (c6 .index-of .ensures) _ (omega (arith, c5 .if1 .left))
+    (telling-ours (a .b .now) (a .cell) 0 (a .tick) (a .j) _ (e .result) _ k (p .0) (c6 .index-of .ensures) _ (omega (arith, c5 .if1 .left))
     (λ x. omega (arith, c11 .slice-known .given x)) (lit< tt) (p .1 .0) (omega arith) (wide-value _ _ (e .ok)) (c2 .ours .ensures))
 
 pub tell-numbers-spec : {M : Type 1} → statement M

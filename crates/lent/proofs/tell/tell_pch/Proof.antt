@@ -35,8 +35,8 @@ returns c =
     let l = a .b .now in
     let e = pchEntry (a .p) in
     let k = c7 .key-of in
-    let t = telling-other l 2 (a .tick) 0 _ e _ (k .ensures) (c10 .pre) (c5 .index-of .ensures) _ (c4 .if1 .taken) (lit< tt) (omega (arith, k .ok)) (c2 .put-number .ensures) in
-    all-one-told l 2 (a .tick) e _ (lit< tt) t
+    let t = telling-other l (a .cell) 2 (a .tick) 0 _ e _ (k .ensures) (c10 .pre) (c5 .index-of .ensures) _ (c4 .if1 .taken) (lit< tt) (omega (arith, k .ok)) (c2 .put-number .ensures) in
+    all-one-told l (a .cell) 2 (a .tick) e _ (lit< tt) t
 
 pch-entry-requires : tie.Need-pch-entry-requires
 pch-entry-requires c κs = tt
@@ -63,10 +63,10 @@ returns-2 c =
     let e = f .result in
     let k : c8 .key-of .result ≡ keyOf (e .call) = c8 .key-of .ensures ∙ ap (λ (r : Record). keyOf (r .call)) (sym (f .ensures)) in
     let t =
-    telling-ours l 2 (a .tick) 0 _ e _ k (c11 .pre) (c6 .index-of .ensures) _ (omega (arith, c5 .if1 .left)) (λ x. omega (arith, c10 .slice-known .given x)) (lit< tt)
+    telling-ours l (a .cell) 2 (a .tick) 0 _ e _ k (c11 .pre) (c6 .index-of .ensures) _ (omega (arith, c5 .if1 .left)) (λ x. omega (arith, c10 .slice-known .given x)) (lit< tt)
     (lit< tt) (omega arith) (wide-value _ _ (f .ok)) (c2 .ours .ensures)
     in
-    rw (sym (f .ensures)) (all-one-told l 2 (a .tick) e _ (lit< tt) t)
+    rw (sym (f .ensures)) (all-one-told l (a .cell) 2 (a .tick) e _ (lit< tt) t)
 
 pub tell-pch-spec : {M : Type 1} → statement M
 tell-pch-spec =

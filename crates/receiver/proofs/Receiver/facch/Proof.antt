@@ -1,5 +1,5 @@
 -- `receiver::Receiver::facch` meets its contract. Assumes nothing.
-use mathlib.Core.Path.{refl, sym, ap, _∙_}
+use mathlib.Core.Path.{sym, ap, _∙_}
 use denote.Ref.{now}
 use native.Mathlib.Omega.{arith}
 use Rattle.facch.specs.declared.Reading.{Reading as Facch}
@@ -36,6 +36,9 @@ returns-2 c =
     c .refused2 .ensures
     ∙ is-refused _ _ (heardFacch (now (s .before .before .args .octets))) (s .is-late .ensures) (m .before .if1 .left) (ap (λ (x : Facch). x .refusal) (m .read .ensures)) (c .before .if2 .taken)
 
+taken-over-requires : tie.Need-taken-over-requires
+taken-over-requires c κs = search needs
+
 keep-requires : tie.Need-keep-requires
 keep-requires c κs = search needs
 
@@ -44,9 +47,9 @@ facch-entries-requires c κs = search needs
 
 accepted-requires : tie.Need-accepted-requires
 accepted-requires c κs =
-    let m = c .before .before .before .before .before .before in
+    let m = c .before .before .before .before .before .before .before .before in
     let s = m .before .before in
-    let z = ap (λ (x : Facch). x .refusal .number) (sym (m .read .ensures)) ∙ c .before .before .before .before .if2 .left in (
+    let z = ap (λ (x : Facch). x .refusal .number) (sym (m .read .ensures)) ∙ c .before .before .before .before .before .before .if2 .left in (
       omega arith,
       is-few (s .before .before .args .self) _ (heardFacch (now (s .before .before .args .octets))) (s .is-late .ensures) (m .before .if1 .left) z
           (rw (m .read .ensures) at (c .facch-entries .ensures)),
@@ -54,13 +57,13 @@ accepted-requires c κs =
 
 returns-3 : tie.Need-returns-3
 returns-3 c =
-    let m = c .before .before .before .before .before .before .before in
+    let m = c .before .before .before .before .before .before .before .before .before in
     let s = m .before .before in
     let a = s .before .before .args in
-    let z = ap (λ (x : Facch). x .refusal .number) (sym (m .read .ensures)) ∙ c .before .before .before .before .before .if2 .left in
+    let z = ap (λ (x : Facch). x .refusal .number) (sym (m .read .ensures)) ∙ c .before .before .before .before .before .before .before .if2 .left in
     c .accepted .ensures
     ∙ is-accepted (a .self) _ (heardFacch (now (a .octets))) (s .is-late .ensures) (m .before .if1 .left) z (rw (m .read .ensures) at (c .before .facch-entries .ensures))
-    (c .before .before .keep .ensures) refl
+    (c .before .before .keep .ensures) (rw (m .read .ensures) at (c .before .before .before .taken-over .ensures))
 
 pub facch-spec : {M : Type 1} → statement M
 facch-spec =
@@ -73,6 +76,7 @@ facch-spec =
     read-requires
     refused-requires-2
     returns-2
+    taken-over-requires
     keep-requires
     facch-entries-requires
     accepted-requires

@@ -3,6 +3,8 @@ use mathlib.Core.Path.{sym, ap, _∙_}
 use denote.Ref.{now}
 use native.Mathlib.Omega.{arith}
 use Rattle.nch.specs.declared.Reading.{Reading as Nch}
+use Rattle.receiver.specs.declared.Cell.{Cell}
+use Rattle.receiver.specs.Count.{counting, cellWith}
 use Rattle.receiver.specs.Step.{heardNch, numbering, ruleBy}
 use Rattle.receiver.proofs.Entering.{is-late, is-refused, is-few, is-accepted, numbering-rule}
 use borrow.Author.Needs.{needs}
@@ -39,17 +41,20 @@ returns-2 c =
 nln-rule-requires : tie.Need-nln-rule-requires
 nln-rule-requires c κs = search needs
 
-cell-after-requires : tie.Need-cell-after-requires
-cell-after-requires c κs = search needs
+nln-cell-requires : tie.Need-nln-cell-requires
+nln-cell-requires c κs = search needs
+
+taken-requires : tie.Need-taken-requires
+taken-requires c κs = search needs
 
 nch-entries-requires : tie.Need-nch-entries-requires
 nch-entries-requires c κs = search needs
 
 accepted-requires : tie.Need-accepted-requires
 accepted-requires c κs =
-    let m = c .before .before .before .before .before .before .before in
+    let m = c .before .before .before .before .before .before .before .before .before in
     let s = m .before .before in
-    let z = ap (λ (x : Nch). x .refusal .number) (sym (m .read .ensures)) ∙ c .before .before .before .before .before .if2 .left in (
+    let z = ap (λ (x : Nch). x .refusal .number) (sym (m .read .ensures)) ∙ c .before .before .before .before .before .before .before .if2 .left in (
       omega arith,
       is-few (s .before .before .args .self) _ (heardNch (now (s .before .before .args .octets))) (s .is-late .ensures) (m .before .if1 .left) z
           (rw (m .read .ensures) at (c .nch-entries .ensures)),
@@ -57,15 +62,16 @@ accepted-requires c κs =
 
 returns-3 : tie.Need-returns-3
 returns-3 c =
-    let m = c .before .before .before .before .before .before .before .before in
+    let m = c .before .before .before .before .before .before .before .before .before .before in
     let s = m .before .before in
     let a = s .before .before .args in
-    let z = ap (λ (x : Nch). x .refusal .number) (sym (m .read .ensures)) ∙ c .before .before .before .before .before .before .if2 .left in
+    let z = ap (λ (x : Nch). x .refusal .number) (sym (m .read .ensures)) ∙ c .before .before .before .before .before .before .before .before .if2 .left in
     let n = m .read .result .«record» in
+    let cell = c .before .before .taken .ensures ∙ ap (λ (l : Cell). cellWith l (counting (n .release6 .hasCount) (n .release6 .cellcount))) (c .before .before .before .before .nln-cell .ensures) in
     let rule = numbering-rule (a .self) (n .hasNln) (n .nln) ∙ ap (λ (x : Nch). ruleBy (a .self) (numbering (x .«record» .hasNln) (x .«record» .nln))) (m .read .ensures) in
     c .accepted .ensures
     ∙ is-accepted (a .self) _ (heardNch (now (a .octets))) (s .is-late .ensures) (m .before .if1 .left) z (rw (m .read .ensures) at (c .before .nch-entries .ensures))
-    (c .before .before .before .nln-rule .ensures ∙ rule) (rw (m .read .ensures) at (c .before .before .cell-after .ensures))
+    (c .before .before .before .before .before .nln-rule .ensures ∙ rule) (rw (m .read .ensures) at cell)
 
 pub nch-spec : {M : Type 1} → statement M
 nch-spec =
@@ -79,7 +85,8 @@ nch-spec =
     refused-requires-2
     returns-2
     nln-rule-requires
-    cell-after-requires
+    nln-cell-requires
+    taken-requires
     nch-entries-requires
     accepted-requires
     returns-3)

@@ -1,5 +1,5 @@
 -- `receiver::Receiver::pch` meets its contract. Assumes nothing.
-use mathlib.Core.Path.{refl, sym, ap, _∙_}
+use mathlib.Core.Path.{sym, ap, _∙_}
 use denote.Ref.{now}
 use native.Mathlib.Omega.{arith}
 use Rattle.pch.specs.declared.Reading.{Reading as Pch}
@@ -38,6 +38,9 @@ returns-2 c =
     c .refused2 .ensures
     ∙ is-refused _ _ (heardPch (now (s .before .before .args .numbers))) (s .is-late .ensures) (m .before .if1 .left) (ap (λ (x : Pch). x .refusal) (m .read .ensures)) (c .before .if2 .taken)
 
+taken-requires : tie.Need-taken-requires
+taken-requires c κs = search needs
+
 key-of-requires : tie.Need-key-of-requires
 key-of-requires c κs = search needs
 
@@ -52,9 +55,10 @@ pch-entries-requires c κs = search needs
 
 accepted-requires : tie.Need-accepted-requires
 accepted-requires c κs =
-    let m = c .before .before .before .before .before .before .before .before .before .before in
+    let c9 = c .before .before .before .before .before .before .before .before .before in
+    let m = c9 .before .before in
     let s = m .before .before in
-    let z = ap (λ (x : Pch). x .refusal .number) (sym (m .read .ensures)) ∙ c .before .before .before .before .before .before .before .before .if2 .left in (
+    let z = ap (λ (x : Pch). x .refusal .number) (sym (m .read .ensures)) ∙ c9 .if2 .left in (
       omega arith,
       is-few (s .before .before .args .self) _ (heardPch (now (s .before .before .args .numbers))) (s .is-late .ensures) (m .before .if1 .left) z
           (rw (m .read .ensures) at (c .pch-entries .ensures)),
@@ -62,14 +66,17 @@ accepted-requires c κs =
 
 returns-3 : tie.Need-returns-3
 returns-3 c =
-    let m = c .before .before .before .before .before .before .before .before .before .before .before in
+    let c4 = c .before .before .before .before in
+    let c10 = c4 .before .before .before .before .before .before in
+    let m = c10 .before .before in
     let s = m .before .before in
     let a = s .before .before .args in
-    let z = ap (λ (x : Pch). x .refusal .number) (sym (m .read .ensures)) ∙ c .before .before .before .before .before .before .before .before .before .if2 .left in
-    let k = c .before .before .before .before .key-of .ensures ∙ ap (λ (x : Pch). keyOf (x .«record» .call)) (m .read .ensures) in
+    let z = ap (λ (x : Pch). x .refusal .number) (sym (m .read .ensures)) ∙ c10 .if2 .left in
+    let k = c4 .key-of .ensures ∙ ap (λ (x : Pch). keyOf (x .«record» .call)) (m .read .ensures) in
     c .accepted .ensures
     ∙ is-accepted (a .self) _ (heardPch (now (a .numbers))) (s .is-late .ensures) (m .before .if1 .left) z (rw (m .read .ensures) at (c .before .pch-entries .ensures))
-    (c .before .before .page-rule .ensures ∙ ap (ruleFor hasPages) (c .before .before .before .index-of .ensures ∙ ap (indexOf (keysOf (a .self))) k)) refl
+    (c .before .before .page-rule .ensures ∙ ap (ruleFor hasPages) (c .before .before .before .index-of .ensures ∙ ap (indexOf (keysOf (a .self))) k))
+    (rw (m .read .ensures) at (c4 .before .taken .ensures))
 
 pub pch-spec : {M : Type 1} → statement M
 pch-spec =
@@ -82,6 +89,7 @@ pch-spec =
     read-requires
     refused-requires-2
     returns-2
+    taken-requires
     key-of-requires
     index-of-requires
     page-rule-requires

@@ -28,8 +28,11 @@ returns c =
       c .before .no-setup .ensures,
     )
 
-key-places-requires : tie.Need-key-places-requires
-key-places-requires c κs = search needs
+placed-requires : tie.Need-placed-requires
+placed-requires c κs = search needs
+
+placed-requires-2 : tie.Need-placed-requires-2
+placed-requires-2 c κs = search needs
 
 no-refusal-requires : tie.Need-no-refusal-requires
 no-refusal-requires c κs = search needs
@@ -41,10 +44,11 @@ returns-2 : tie.Need-returns-2
 unfolding startedOf
 returns-2 c =
     simp (
-      sym (c .before .before .before .before .is-right .ensures) ∙ not-false _ (c .before .before .before .if1 .left),
+      sym (c .before .before .before .before .before .is-right .ensures) ∙ not-false _ (c .before .before .before .before .if1 .left),
       c .before .no-refusal .ensures,
       c .made2 .ensures,
-      c .before .before .key-places .ensures,
+      c .before .before .before .placed .ensures,
+      c .before .before .placed2 .ensures,
     )
 
 pub start-spec : {M : Type 1} → statement M
@@ -56,7 +60,8 @@ start-spec =
     no-setup-requires
     made-requires
     returns
-    key-places-requires
+    placed-requires
+    placed-requires-2
     no-refusal-requires
     made-requires-2
     returns-2)

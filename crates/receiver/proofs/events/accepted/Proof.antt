@@ -19,9 +19,9 @@ no-refusal-requires c κs = search needs
 
 returns : tie.Need-returns
 returns c =
-    let b = c .before .before .before .before .before in
+    let b = c .before .before .before .before .before .before in
     let a = b .args in
-    let s = c .before .before .before .before .sweep in
+    let s = c .before .before .before .before .before .sweep in
     let t = c .before .before .before .tell-all in
     let k : length (a .e .items) ≡ mostEntries = sym (length-map (a .e .items) _) ∙ b .good .1 .1 .1 .1 .1 .0 .1 .1 .0 .1 .0 .1 in
     let n : a .e .count ≡ length (take (a .e .count) (a .e .items)) = sym (length-take (a .e .count) (a .e .items) ∙ omega (arith, b .pre .1)) in

@@ -1,5 +1,5 @@
 -- `receiver::events::tell` meets its contract. Assumes nothing.
-use mathlib.Core.Path.{ap}
+use mathlib.Core.Path.{ap, _∙_}
 use Rattle.receiver.specs.Model.{keysOf, withSlots}
 use Rattle.receiver.proofs.Entering.{miss-told, miss-slots, hit-told, hit-slots}
 use native.Mathlib.Omega.{arith}
@@ -13,16 +13,16 @@ key-of-requires c κs = search needs
 index-of-requires : tie.Need-index-of-requires
 index-of-requires c κs = search needs
 
-no-record-requires : tie.Need-no-record-requires
-no-record-requires c κs = search needs
+told-only-requires : tie.Need-told-only-requires
+told-only-requires c κs = search needs
 
 returns : tie.Need-returns
 returns c =
     let k = c .before .before .before .before in
     let a = k .before .before .args in
     let i = c .before .before .index-of .ensures in (
-      miss-told (keysOf (a .t1)) (a .ch) (a .now) (a .t1 .slots) (a .e) (k .key-of .ensures) i (omega arith) (c .no-record .ensures),
-      ap (withSlots (a .t1)) (miss-slots (keysOf (a .t1)) (a .ch) (a .now) (a .t1 .slots) (a .e) (k .key-of .ensures) i (omega arith)),
+      c .told-only .ensures ∙ miss-told (keysOf (a .t1)) (a .t1 .sets) (a .t1 .cell) (a .ch) (a .now) (a .t1 .slots) (a .e) (k .key-of .ensures) i (omega arith),
+      ap (withSlots (a .t1)) (miss-slots (keysOf (a .t1)) (a .t1 .sets) (a .t1 .cell) (a .ch) (a .now) (a .t1 .slots) (a .e) (k .key-of .ensures) i (omega arith)),
     )
 
 place-on-requires : tie.Need-place-on-requires
@@ -43,16 +43,25 @@ mul-left c = search needs
 element-set-from-left : tie.Need-element-set-from-left
 element-set-from-left c = search needs
 
+mul-told-as : tie.Need-mul-told-as
+mul-told-as c = search needs
+
+element-copy-out-told-as : tie.Need-element-copy-out-told-as
+element-copy-out-told-as c = search needs
+
+told-as-requires : tie.Need-told-as-requires
+told-as-requires c κs = search needs
+
 returns-2 : tie.Need-returns-2
 returns-2 c =
-    let p = c .before .before .before .before in
+    let p = c .before .before .before .before .before .before .before in
     let i = p .before .before in
     let k = i .before .before in
     let a = k .before .before .args in
     let q = p .place-on .ensures .0 in
-    let m = rw q at (c .before .before .meet .ensures) in (
-      hit-told (keysOf (a .t1)) (a .ch) (a .now) (a .t1 .slots) (a .e) (k .key-of .ensures) (i .index-of .ensures) (omega arith) m,
-      rw q (ap (withSlots (a .t1)) (hit-slots (keysOf (a .t1)) (a .ch) (a .now) (a .t1 .slots) (a .e) (k .key-of .ensures) (i .index-of .ensures) (omega arith) m)),
+    let m = rw q at (c .before .before .before .before .before .meet .ensures) in (
+      c .told-as .ensures ∙ hit-told (keysOf (a .t1)) (a .t1 .sets) (a .t1 .cell) (a .ch) (a .now) (a .t1 .slots) (a .e) (k .key-of .ensures) (i .index-of .ensures) (omega arith) m,
+      rw q (ap (withSlots (a .t1)) (hit-slots (keysOf (a .t1)) (a .t1 .sets) (a .t1 .cell) (a .ch) (a .now) (a .t1 .slots) (a .e) (k .key-of .ensures) (i .index-of .ensures) (omega arith) m)),
     )
 
 pub tell-spec : {M : Type 1} → statement M
@@ -61,7 +70,7 @@ tell-spec =
     (tie.spec
     key-of-requires
     index-of-requires
-    no-record-requires
+    told-only-requires
     returns
     place-on-requires
     mul-held
@@ -69,4 +78,7 @@ tell-spec =
     meet-requires
     mul-left
     element-set-from-left
+    mul-told-as
+    element-copy-out-told-as
+    told-as-requires
     returns-2)

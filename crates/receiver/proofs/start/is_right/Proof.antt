@@ -42,8 +42,8 @@ returns-4 c =
       sym (c .before .is-timer3 .ensures) ∙ not-true _ (c .if4 .taken),
     )
 
-all-low-requires : tie.Need-all-low-requires
-all-low-requires c κs = search needs
+sets-right-requires : tie.Need-sets-right-requires
+sets-right-requires c κs = search needs
 
 returns-5 : tie.Need-returns-5
 unfolding setupRight
@@ -56,25 +56,46 @@ returns-5 c =
       sym (t1 .is-timer .ensures) ∙ not-false _ (t2 .before .if2 .left),
       sym (t2 .is-timer2 .ensures) ∙ not-false _ (t3 .before .if3 .left),
       sym (t3 .is-timer3 .ensures) ∙ not-false _ (c .before .before .if4 .left),
-      sym (c .before .all-low .ensures) ∙ not-true _ (c .if5 .taken),
+      sym (c .before .sets-right .ensures) ∙ not-true _ (c .if5 .taken),
     )
 
-rises-requires : tie.Need-rises-requires
-rises-requires c κs = search needs
+all-low-requires : tie.Need-all-low-requires
+all-low-requires c κs = search needs
 
 returns-6 : tie.Need-returns-6
 unfolding setupRight
 returns-6 c =
-    let low = c .before .before in
-    let t3 = low .before .before in
+    let t4 = c .before .before .before in
+    let t3 = t4 .before .before in
     let t2 = t3 .before .before in
     let t1 = t2 .before .before in
     simp (
       le-leb _ _ (t1 .before .if1 .left),
       sym (t1 .is-timer .ensures) ∙ not-false _ (t2 .before .if2 .left),
       sym (t2 .is-timer2 .ensures) ∙ not-false _ (t3 .before .if3 .left),
-      sym (t3 .is-timer3 .ensures) ∙ not-false _ (low .before .if4 .left),
-      sym (low .all-low .ensures) ∙ not-false _ (c .before .if5 .left),
+      sym (t3 .is-timer3 .ensures) ∙ not-false _ (t4 .before .if4 .left),
+      sym (t4 .sets-right .ensures) ∙ not-false _ (c .before .before .if5 .left),
+      sym (c .before .all-low .ensures) ∙ not-true _ (c .if6 .taken),
+    )
+
+rises-requires : tie.Need-rises-requires
+rises-requires c κs = search needs
+
+returns-7 : tie.Need-returns-7
+unfolding setupRight
+returns-7 c =
+    let low = c .before .before in
+    let t4 = low .before .before in
+    let t3 = t4 .before .before in
+    let t2 = t3 .before .before in
+    let t1 = t2 .before .before in
+    simp (
+      le-leb _ _ (t1 .before .if1 .left),
+      sym (t1 .is-timer .ensures) ∙ not-false _ (t2 .before .if2 .left),
+      sym (t2 .is-timer2 .ensures) ∙ not-false _ (t3 .before .if3 .left),
+      sym (t3 .is-timer3 .ensures) ∙ not-false _ (t4 .before .if4 .left),
+      sym (t4 .sets-right .ensures) ∙ not-false _ (low .before .if5 .left),
+      sym (low .all-low .ensures) ∙ not-false _ (c .before .if6 .left),
       c .rises .ensures,
     )
 
@@ -89,7 +110,9 @@ is-right-spec =
     returns-3
     is-timer-requires-3
     returns-4
-    all-low-requires
+    sets-right-requires
     returns-5
+    all-low-requires
+    returns-6
     rises-requires
-    returns-6)
+    returns-7)

@@ -28,6 +28,12 @@ part-of-requires-2 c κs = search needs
 record-of-requires : tie.Need-record-of-requires
 record-of-requires c κs = search needs
 
+part-of-requires-3 : tie.Need-part-of-requires-3
+part-of-requires-3 c κs = search needs
+
+part-of-requires-4 : tie.Need-part-of-requires-4
+part-of-requires-4 c κs = search needs
+
 told-numbers-requires : tie.Need-told-numbers-requires
 told-numbers-requires c κs = search needs
 
@@ -43,12 +49,15 @@ same-length-2 c = search needs
 returns-2 : tie.Need-returns-2
 returns-2 c =
     let told = c .before .before .before .before .before in
-    let a = told .before .before .before .before .before .before .before .args in
+    let made = told .before .before .before in
+    let test = made .before .before .before in
+    let a = test .before .before .before .args in
     let b = now (a .b) in
-    let whole = told .before .before .before .before .if1 .left in
+    let whole = test .if1 .left in
     left-all b (length (now (a .numbers))) _ _ whole _
-    (told-all b (a .entry) _ _ _ _ (told .before .before .before .part-of .ensures ∙ at-state b _ _ whole) (told .before .before .part-of2 .ensures ∙ at-state b _ _ whole)
-    (told .before .record-of .ensures ∙ at-state b _ _ whole) (told .told-numbers .ensures))
+    (told-all b (a .entry) _ _ _ _ _ _ (made .before .before .part-of .ensures ∙ at-state b _ _ whole) (made .before .part-of2 .ensures ∙ at-state b _ _ whole)
+    (made .record-of .ensures ∙ at-state b _ _ whole) (told .before .before .part-of3 .ensures ∙ at-state b _ _ whole) (told .before .part-of4 .ensures ∙ at-state b _ _ whole)
+    (told .told-numbers .ensures))
     (c .before .before .store .ensures)
 
 pub entry-spec : {M : Type 1} → statement M
@@ -61,6 +70,8 @@ entry-spec =
     part-of-requires
     part-of-requires-2
     record-of-requires
+    part-of-requires-3
+    part-of-requires-4
     told-numbers-requires
     slice-aggregate-store
     store-requires

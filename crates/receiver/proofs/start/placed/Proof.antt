@@ -1,22 +1,21 @@
--- `receiver::start::key_places` meets its contract. Assumes nothing.
+-- `receiver::start::placed` meets its contract. Assumes nothing.
 use mathlib.Core.Path.{_≡_, refl, _∙_}
 use mathlib.Core.Logic.{⊎-elim}
 use Prim.Native.Nat.{_-_, _≤_}
 use lib.ListN.{replicate}
 use Rattle.receiver.specs.Channels.{keyCount}
-use Rattle.receiver.specs.Model.{noKey}
 use Rattle.receiver.proofs.Loops.{partAt}
 use Rattle.receiver.proofs.KeyPlaces.{placed, place-set, place-keep, place-all}
 use native.Mathlib.Omega.{arith}
 use borrow.Author.Needs.{needs}
-use Rattle.receiver.proofs.start.key_places.Statement.{statement}
-use Rattle.receiver.proofs.start.key_places.Tie as tie
+use Rattle.receiver.proofs.start.placed.Statement.{statement}
+use Rattle.receiver.proofs.start.placed.Tie as tie
 
 abbrev Inv-loop : tie.InvT-loop
-Inv-loop keys places₀ i₀ places i = (i ≤ keyCount) × (places ≡ partAt (placed keys) 0 i (replicate keyCount noKey))
+Inv-loop numbers unused places₀ i₀ places i = (i ≤ keyCount) × (places ≡ partAt (placed unused numbers) 0 i (replicate keyCount unused))
 
 abbrev μ-loop : tie.MeasureT-loop
-μ-loop keys places₀ i₀ places i = keyCount - i
+μ-loop numbers unused places₀ i₀ places i = keyCount - i
 
 loop-holds : tie.Need-loop-holds Inv-loop μ-loop
 loop-holds c = (omega arith, refl)
@@ -42,21 +41,21 @@ loop-less c = omega arith
 loop-again : tie.Need-loop-again Inv-loop μ-loop
 loop-again c =
     let l = c .before .before .loop in
-    let ks = c .before .before .before .args .keys .now in (
+    let a = c .before .before .before .args in (
       omega arith,
       ⊎-elim
-          (λ w. w .2 ∙ place-set ks (l .places) keyCount (l .i) (l .inv .1) 0 (w .0 .taken))
-          (λ w. w .1 ∙ place-keep ks (l .places) keyCount (l .i) (l .inv .1) (omega arith) (w .0 .left))
+          (λ w. w .2 ∙ place-set (a .unused) (a .numbers .now) (l .places) keyCount (l .i) (l .inv .1) 0 (w .0 .taken))
+          (λ w. w .1 ∙ place-keep (a .unused) (a .numbers .now) (l .places) keyCount (l .i) (l .inv .1) (omega arith) (w .0 .left))
           (c .if1 .came),
     )
 
 returns : tie.Need-returns Inv-loop μ-loop
 returns c =
     let l = c .before .loop in
-    place-all (c .before .before .args .keys .now) (l .places) keyCount (l .i) (l .inv .1) (omega arith)
+    place-all (c .before .before .args .unused) (c .before .before .args .numbers .now) (l .places) keyCount (l .i) (l .inv .1) (omega arith)
 
-pub key-places-spec : {M : Type 1} → statement M
-key-places-spec =
+pub placed-spec : {M : Type 1} → statement M
+placed-spec =
     tie.close
     (tie.spec
     Inv-loop
