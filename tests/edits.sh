@@ -1,5 +1,5 @@
 #!/usr/bin/env bash
-# Each must-fail edit was refused for what it says: the prover knew every name and could read it. Looks at what rt ci wrote of each; the last line is 'N passed, M failed'.
+# Each must-fail edit is refused (tools/must-fail), and for what it says: the prover knew every name and could read it. The last line is 'N passed, M failed'.
 set -u
 cd "$(dirname "${BASH_SOURCE[0]}")/.." || exit 1
 passed=0 failed=0
@@ -24,6 +24,33 @@ sample 1 'no verdict' 'rattle: no verdict: out of memory'
 sample 1 'proved' 'logic=proved functions=3'
 sample 1 'nothing' ''
 
+# tools/must-fail itself, on a crate of the kit's: of three edits one is refused, one changes nothing that is proved, one has a text that is not there.
+mkdir -p "$tmp/tiny/tools" "$tmp/tiny/crates"
+cp tools/must-fail "$tmp/tiny/tools/"
+cp -R "$(dirname "$(rt doc)")/../examples/first" "$tmp/tiny/crates/first" && mkdir -p "$tmp/tiny/crates/first/must-fail"
+echo first: > "$tmp/tiny/crates.txt"
+printf 'file: src/lib.rt\nold:     7\nnew:     8\n' > "$tmp/tiny/crates/first/must-fail/eight.edit"
+said() { "$tmp/tiny/tools/must-fail" > "$tmp/said" 2>&1; echo $? >> "$tmp/said"; }
+said
+[ "$(tail -n 2 "$tmp/said")" = $'3 passed, 0 failed\n0' ]
+note $? "tools/must-fail does not pass a crate that is proved and an edit that is refused: $(tail -n 5 "$tmp/said")"
+printf 'file: src/lib.rt\nold:     7\nnew:     (7)\n' > "$tmp/tiny/crates/first/must-fail/same.edit"
+printf 'file: src/lib.rt\nold: no such text\nnew: 8\n' > "$tmp/tiny/crates/first/must-fail/absent.edit"
+said
+[ "$(tail -n 2 "$tmp/said")" = $'3 passed, 2 failed\n1' ] && grep -q '^must-fail first/same: NOT REFUSED' "$tmp/said" && grep -q '^must-fail first/absent: BAD EDIT' "$tmp/said"
+note $? "tools/must-fail passes an edit that is not refused, or one that cannot be made: $(tail -n 5 "$tmp/said")"
+rm -r "$tmp/tiny/crates/first/must-fail"
+sed -i 's/    7/    8/' "$tmp/tiny/crates/first/src/lib.rt"
+mkdir "$tmp/tiny/crates/first/must-fail" && printf 'file: src/lib.rt\nold:     8\nnew:     9\n' > "$tmp/tiny/crates/first/must-fail/nine.edit"
+said
+[ "$(tail -n 2 "$tmp/said")" = $'0 passed, 1 failed\n1' ] && grep -q '^must-fail first: NOT PROVED before its edits' "$tmp/said"
+note $? "tools/must-fail tries edits of a crate that is not proved without them: $(tail -n 5 "$tmp/said")"
+
+# All of ours, each from this run.
+rm -rf target/must-fail
+tools/must-fail | tee "$tmp/ours"
+[ "${PIPESTATUS[0]}" = 0 ]
+note $? "tools/must-fail: $(tail -n 1 "$tmp/ours")"
 for edit in crates/*/must-fail/*.edit; do
     name=${edit#crates/} name=${name%%/*}/$(basename "$edit" .edit)
     seen "target/must-fail/$name/.log"
