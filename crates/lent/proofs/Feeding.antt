@@ -179,6 +179,14 @@ pub cell-read : (l : List ℕ) → length l ≡ stateLength → (cell : Cell) �
 unfolding decodeOf
 cell-read l whole cell h = h ∙ at-state l (cellAt l) noCell whole
 
+-- the same behind a sweep, which leaves it
+pub cell-behind : (l : List ℕ) (now : ℕ) (rule : Rule) → length l ≡ stateLength → (o : List ℕ) → o ≡ pick (isState l) (sweptOctets now rule l) l → (cell : Cell)
+    → cell ≡ pick (isState o) (cellAt o) noCell → cell ≡ decodeOf l .cell
+cell-behind l now rule whole o q cell h =
+    let po : o ≡ sweptOctets now rule l = q ∙ at-state l (sweptOctets now rule l) l whole in
+    let long : length o ≡ stateLength = ap length po ∙ length-run now rule 0 places l ∙ whole in
+    cell-read o long cell h ∙ ap (λ (r : List ℕ). decodeOf r .cell) po ∙ ap (λ (r : Receiver). r .cell) (swept-decode l now rule whole)
+
 -- n is the number that comes before the event's own
 module _ (l : List ℕ) (e : Event) (n : ℕ) (q : n ≡ earlyCode l (e .tick)) where
   early-first : (n ≡ 0 → ⊥) → n ≡ eventCode l e

@@ -54,12 +54,13 @@ fn accept(b: &mut [u8], time: u32, rule: Rule, cell: Cell)
     put_head(b, time, cell, lost.expired, lost.dropped, 0);
 }
 
-// An accepted event without entries that takes nothing by its own rule. It has one caller, so that a tick is one function.
-fn accept_pass(b: &mut [u8], time: u32, cell: Cell)
+// An accepted tick. What is known of the cell is read behind the sweep and written as it was read, so that the compiler leaves out both.
+fn accept_tick(b: &mut [u8], time: u32)
     requires { ⌜ length (now b) ≡ stateLength ⌝ }
-    ensures { λ _. ⌜ Accepted (now (b .entry)) time keep cell 0 [] (now (b .exit)) ⌝ }
+    ensures { λ _. ⌜ Accepted (now (b .entry)) time keep (decodeOf (now (b .entry)) .cell) 0 [] (now (b .exit)) ⌝ }
 {
     let lost = pass(b, time);
+    let cell = cell_of(b);
     put_head(b, time, cell, lost.expired, lost.dropped, 0);
 }
 
@@ -90,8 +91,8 @@ fn accept_facch(b: &mut [u8], time: u32, m: facch::Notification)
         (cellWith (decodeOf (now (b .entry)) .cell) (countingOver (m .release6 .hasCount) (m .release6 .b22) (m .release6 .cellcount))) 1 (facchEntries m) (now (b .exit)) ⌝ }
 {
     let six = m.release6;
-    let cell = count::taken_over(cell_of(b), six.hasCount, six.b22, six.cellcount);
     let lost = pass(b, time);
+    let cell = count::taken_over(cell_of(b), six.hasCount, six.b22, six.cellcount);
     tell_facch(b, cell, time, m);
     put_head(b, time, cell, lost.expired, lost.dropped, 1);
 }
@@ -242,7 +243,6 @@ pub fn tick(b: &mut [u8], time: u32) -> u32
     if n != 0 {
         return n;
     }
-    let cell = cell_of(b);
-    accept_pass(b, time, cell);
+    accept_tick(b, time);
     0
 }
