@@ -1,4 +1,4 @@
-/* The words and sentences for refusal numbers, told numbers and whether a call can be followed. No promise speaks of this file: it is plain C beside the proved functions, and touches no state. */
+/* The words and sentences for refusal numbers, told numbers and whether a call can be followed, and the words for a page. No promise speaks of this file: it is plain C beside the proved functions, and touches no state. */
 #include <asternhaken.h>
 
 struct row {
@@ -15,10 +15,10 @@ static const struct row refusals[] = {
     [ASTERNHAKEN_REFUSED_HOPPING] = { "hopping", "The hopping bit of a channel description is unlike the hopping flag behind it." },
     [ASTERNHAKEN_REFUSED_RANDOM_ENTRIES] = { "random entries", "The NCH message has more random entries than ciphered calls, reduced references included." },
     [ASTERNHAKEN_REFUSED_EMERGENCY_MARKS] = { "emergency marks", "The NCH message has more emergency marks than calls with a channel description." },
-    [ASTERNHAKEN_REFUSED_PAGING] = { "paging", "The FACCH message has the paging branch, which is not read." },
+    [ASTERNHAKEN_REFUSED_IDENTITY_LENGTH] = { "identity length", "The length of the mobile identity that is paged is not 1 to 9." },
     [ASTERNHAKEN_REFUSED_CLOCK] = { "clock", "The tick is before the last one, or 2^31 ms or more behind it; after such a pause, set up anew." },
     [ASTERNHAKEN_REFUSED_SETUP] = { "setup", "The setup has over 50 keys, a key above 199,999,999, keys that do not strictly rise, a timer outside 1 to 60,000 ms, not one set of group keys for each key, or a group key number that is not 1 to 15." },
-    [ASTERNHAKEN_REFUSED_FORM_SIZE] = { "form size", "The written form is over 160 bits, or the buffer to write is not of its exact size." },
+    [ASTERNHAKEN_REFUSED_FORM_SIZE] = { "form size", "The written form is over 160 bits, the buffer to write is not of its exact size, or that of a FACCH message is too small or not of 2 to 23 octets." },
     [ASTERNHAKEN_REFUSED_RANGE] = { "range", "A field is out of its range, an absent part or an unused place to be written is not zero, parts of a PCH entry do not fit each other, or bit 22 is above 1." },
     [ASTERNHAKEN_REFUSED_LENGTH] = { "length", "An element, an array to write, a PCH entry or the lent state has a wrong length, or a cause never ends." },
     [ASTERNHAKEN_REFUSED_RAN_OUT_6] = { "bits ran out in Release 6", "The bits of the message ran out inside Release 6." },
@@ -44,6 +44,26 @@ static const struct row followings[] = {
     [ASTERNHAKEN_FOLLOW_WITH_COUNT] = { "follow", "The call can be followed: its group key is held, and the cell's count stands beside." },
 };
 
+static const char *const identities[] = {
+    [ASTERNHAKEN_IDENTITY_NONE] = "no identity",
+    [ASTERNHAKEN_IDENTITY_IMSI] = "IMSI",
+    [ASTERNHAKEN_IDENTITY_IMEI] = "IMEI",
+    [ASTERNHAKEN_IDENTITY_IMEISV] = "IMEISV",
+    [ASTERNHAKEN_IDENTITY_TMSI] = "TMSI",
+};
+
+static const char *const channels_first[] = {
+    [ASTERNHAKEN_CHANNEL_FIRST_ANY] = "any channel",
+    [ASTERNHAKEN_CHANNEL_FIRST_SDCCH] = "SDCCH",
+    [ASTERNHAKEN_CHANNEL_FIRST_TCH_F] = "TCH/F",
+    [ASTERNHAKEN_CHANNEL_FIRST_TCH_H_OR_F] = "TCH/H or TCH/F",
+};
+
+static const char *const paging_causes[] = {
+    [ASTERNHAKEN_PAGED_FOR_CALL] = "mobile terminating call",
+    [ASTERNHAKEN_PAGED_FOR_SHORT_MESSAGE] = "short message",
+};
+
 static const struct row unknown_refusal = { "unknown", "This version of the library does not know this refusal number." };
 static const struct row unknown_telling = { "unknown", "This version of the library does not know this told number." };
 static const struct row unknown_following = { "unknown", "This version of the library does not know this number for following a call." };
@@ -52,6 +72,8 @@ static const struct row *row_of(const struct row *rows, size_t n, const struct r
 {
     return number < n && rows[number].word ? &rows[number] : unknown;
 }
+
+static const char *word_of(const char *const *words, size_t n, uint64_t number) { return number < n ? words[number] : "unknown"; }
 
 static const struct row *refusal_row(uint32_t refusal) { return row_of(refusals, sizeof refusals / sizeof *refusals, &unknown_refusal, refusal); }
 static const struct row *told_row(uint64_t told) { return row_of(tellings, sizeof tellings / sizeof *tellings, &unknown_telling, told); }
@@ -63,3 +85,6 @@ const char *asternhaken_told_word(uint64_t told) { return told_row(told)->word; 
 const char *asternhaken_told_sentence(uint64_t told) { return told_row(told)->sentence; }
 const char *asternhaken_follow_word(uint64_t follow) { return follow_row(follow)->word; }
 const char *asternhaken_follow_sentence(uint64_t follow) { return follow_row(follow)->sentence; }
+const char *asternhaken_identity_word(uint64_t kind) { return word_of(identities, sizeof identities / sizeof *identities, kind); }
+const char *asternhaken_channel_first_word(uint64_t channel_first) { return word_of(channels_first, sizeof channels_first / sizeof *channels_first, channel_first); }
+const char *asternhaken_paging_cause_word(uint64_t paging_cause) { return word_of(paging_causes, sizeof paging_causes / sizeof *paging_causes, paging_cause); }

@@ -2,7 +2,7 @@
  *
  *     setup TICK T3206 T3208 T3210 CALL..   the calls to follow, in any order; NAME=CALL gives one a name, CALL:3,4 the group keys that are held for it
  *     nch TICK HEX                          NT/N Rest Octets came
- *     facch TICK HEX                        NOTIFICATION/FACCH came
+ *     facch TICK HEX                        NOTIFICATION/FACCH came: it tells of a call, or pages somebody
  *     pch TICK CALL PART..                  the paging channel told of the call
  *     joined TICK CALL                      the call was joined
  *     bit_22 TICK VALUE                     bit 22 of COUNT has this value now, 0 or 1
@@ -81,6 +81,16 @@ static void show_follow(const struct asternhaken_entry *entry)
 {
     printf("%s", asternhaken_follow_word(entry->follow));
     if (entry->follow == ASTERNHAKEN_FOLLOW_WITH_COUNT) printf(", count %d", (int)entry->kept_count);
+}
+
+/* Who is paged: the kind and the octets of the mobile identity, the channel, and what for. Without a Paging Cause that is 0, a mobile terminating call. */
+static void show_page(const struct asternhaken_paged *paged)
+{
+    printf("paging %s ", asternhaken_identity_word(ASTERNHAKEN_IDENTITY_KIND(paged->page.identity_first)));
+    for (uint32_t i = 0; i < paged->page.identity_octets; i++) printf("%02lx", (unsigned long)asternhaken_identity_octet(&paged->page, i));
+    printf(", %s", asternhaken_channel_first_word(paged->page.channel_first));
+    if (paged->page.emlpp_priority_given) printf(", priority %d", (int)paged->page.emlpp_priority);
+    printf(", %s", asternhaken_paging_cause_word(paged->paging_cause));
 }
 
 /* The numbers of a set of group keys. */
@@ -162,11 +172,17 @@ static void show_answer(uint32_t result, uint32_t tick, const char *word)
     }
     struct asternhaken_answer answer;
     struct asternhaken_entry entry;
+    struct asternhaken_paged paged;
     asternhaken_answer_get(state, sizeof state, &answer);
+    asternhaken_paged_get(state, sizeof state, &paged);
     if (answer.expired) show_lost(answer.expired, "ran out");
     if (answer.expired && answer.dropped) printf(", ");
     if (answer.dropped) show_lost(answer.dropped, "dropped");
-    if (!answer.expired && !answer.dropped && !answer.entry_count) printf("-");
+    if (!answer.expired && !answer.dropped && !answer.entry_count && !paged.paged) printf("-");
+    if (paged.paged) {
+        if (answer.expired) next_line(); /* a page drops nothing */
+        show_page(&paged);
+    }
     for (uint32_t i = 0; i < answer.entry_count; i++) {
         if (i || answer.expired || answer.dropped) next_line();
         asternhaken_entry_get(state, sizeof state, i, &entry);

@@ -2,7 +2,7 @@
 
     setup TICK T3206 T3208 T3210 CALL..   the calls to follow, in any order; NAME=CALL gives one a name, CALL:3,4 the group keys that are held for it
     nch TICK HEX                          NT/N Rest Octets came
-    facch TICK HEX                        NOTIFICATION/FACCH came
+    facch TICK HEX                        NOTIFICATION/FACCH came: it tells of a call, or pages somebody
     pch TICK CALL PART..                  the paging channel told of the call
     joined TICK CALL                      the call was joined
     bit_22 TICK VALUE                     bit 22 of COUNT has this value now, 0 or 1
@@ -103,6 +103,11 @@ class ControlRoom:
             return text + entry.told_word
         return text + "%-19s  %06x" % (entry.told_word, entry.record.channel) + ("   " + self.follow(entry) if entry.follow else "")
 
+    def page(self, paged):
+        """Who is paged: the kind and the octets of the mobile identity, the channel, and what for."""
+        priority = "" if paged.emlpp_priority is None else ", priority %d" % paged.emlpp_priority
+        return "paging %s %s, %s%s, %s" % (paged.identity_word, paged.identity.hex(), paged.channel_first_word, priority, paged.paging_cause_word)
+
     def show_list(self):
         print("\nCall list")
         for key in self.names:
@@ -187,7 +192,8 @@ class ControlRoom:
         answer = self.answer(tick, words)
         lost = [(n, how) for n, how in ((answer.expired, "ran out"), (answer.dropped, "dropped")) if n]
         parts = [", ".join("%d %s %s" % (n, "half" if n == 1 else "halves", how) for n, how in lost)] if lost else []
-        self.show(tick, words[0], parts + [self.shown(entry) for entry in answer.entries] or ["-"])
+        pages = [self.page(answer.paged)] if answer.paged else []
+        self.show(tick, words[0], parts + pages + [self.shown(entry) for entry in answer.entries] or ["-"])
         for entry in answer.entries:
             if entry.record and entry.key in self.names:
                 self.complete[entry.key] = entry, tick, self.cells

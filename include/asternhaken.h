@@ -19,12 +19,12 @@
  * as long as the length beside it says, and what one call lends to be written must not overlap anything else lent to it. Nothing is kept between calls
  * but what stands in the state, so each state may be used by a thread of its own, and a state may be copied, saved and sent.
  *
- * Every function that is lent something, but for asternhaken_is_set_up, answers with a refusal number in the low octet of its result, and ASTERNHAKEN_ACCEPTED (0)
+ * Every function that is lent something, but for asternhaken_is_set_up and asternhaken_identity_octet, answers with a refusal number in the low octet of its result, and ASTERNHAKEN_ACCEPTED (0)
  * where it refuses nothing. Where bits ran out (2, 14, 15), the number of the bit where the missing field begins stands above it, else 0: take the two apart with
  * ASTERNHAKEN_REFUSAL(result) and ASTERNHAKEN_BIT(result). A refused event leaves every octet of the state as it was, the clock included. The octets of the state are laid out in docs/STATE.md; docs/C-API.md tells a host's programmer the rest.
  *
  * Names: ASTERNHAKEN_REFUSED_ is a refusal number, ASTERNHAKEN_TOLD_ a told number, ASTERNHAKEN_FOLLOW_ says whether a call can be followed, ASTERNHAKEN_PART_ is a part for
- * asternhaken_read, ASTERNHAKEN_PCH_ a number of a PCH entry.
+ * asternhaken_read, ASTERNHAKEN_PCH_ a number of a PCH entry; of a page, ASTERNHAKEN_IDENTITY_ is a kind of identity, ASTERNHAKEN_CHANNEL_FIRST_ and ASTERNHAKEN_PAGED_FOR_ are what is wanted.
  * A flag that says whether something is there ends in _GIVEN, or _given: channel_given stands beside channel. What is not there is 0.
  * Each struct is made of uint64_t alone and has the layout of the array of numbers that it stands for; get, put, decode and encode are for structs, read, write and numbers for arrays. */
 #ifndef ASTERNHAKEN_H
@@ -64,7 +64,7 @@ extern "C" {
 
 /* The version of this header, in three numbers. Everything else that names a version follows from them: the text, the number, the library's file names, the pkg-config file. */
 #define ASTERNHAKEN_VERSION_MAJOR 0
-#define ASTERNHAKEN_VERSION_MINOR 3
+#define ASTERNHAKEN_VERSION_MINOR 4
 #define ASTERNHAKEN_VERSION_PATCH 0
 #define ASTERNHAKEN_VERSION_NUMBER (ASTERNHAKEN_VERSION_MAJOR * 10000 + ASTERNHAKEN_VERSION_MINOR * 100 + ASTERNHAKEN_VERSION_PATCH)
 #define ASTERNHAKEN_VERSION ASTERNHAKEN_TEXT_(ASTERNHAKEN_VERSION_MAJOR, ASTERNHAKEN_VERSION_MINOR, ASTERNHAKEN_VERSION_PATCH) /* as "1.2.3" */
@@ -75,11 +75,11 @@ extern "C" {
 uint32_t asternhaken_version(void);
 
 /* Sizes and limits. */
-#define ASTERNHAKEN_STATE_LENGTH 10240 /* octets of the lent state */
+#define ASTERNHAKEN_STATE_LENGTH 10256 /* octets of the lent state */
 #define ASTERNHAKEN_KEYS 50            /* subscriptions at most */
 #define ASTERNHAKEN_LOOKS 6            /* keys that a key is compared with at most, where there are so many */
 #define ASTERNHAKEN_ENTRIES 9          /* entries of one message at most */
-#define ASTERNHAKEN_PARTS 37           /* parts for asternhaken_read, from 0 */
+#define ASTERNHAKEN_PARTS 46           /* parts for asternhaken_read, from 0 */
 #define ASTERNHAKEN_LONGEST 60000      /* ms: the longest timer; the shortest is 1 */
 #define ASTERNHAKEN_T3206 10000        /* ms: how long an NCH half is kept, unless the setup says another time */
 #define ASTERNHAKEN_T3208 5000         /* ms: the same for a FACCH half */
@@ -89,9 +89,12 @@ uint32_t asternhaken_version(void);
 #define ASTERNHAKEN_NCH_LENGTH 20      /* octets of an NCH message */
 #define ASTERNHAKEN_FACCH_SHORTEST 2   /* octets of a FACCH message */
 #define ASTERNHAKEN_FACCH_LONGEST 23
+#define ASTERNHAKEN_IDENTITY_LONGEST 9 /* octets of a mobile identity; the fewest are 1 */
 #define ASTERNHAKEN_PCH_NUMBERS 14     /* numbers of a PCH entry */
 #define ASTERNHAKEN_RECORD_NUMBERS 30  /* numbers of a record: the parts from ASTERNHAKEN_PART_CALL_REFERENCE to ASTERNHAKEN_PART_HR_AMR_CONFIG */
-#define ASTERNHAKEN_ENTRY_NUMBERS 34   /* numbers of an entry of an answer: the parts from ASTERNHAKEN_PART_KEY on */
+#define ASTERNHAKEN_ENTRY_NUMBERS 34   /* numbers of an entry of an answer: the parts from ASTERNHAKEN_PART_KEY to ASTERNHAKEN_PART_KEPT_COUNT */
+#define ASTERNHAKEN_PAGE_NUMBERS 6     /* numbers of a page: the parts from ASTERNHAKEN_PART_IDENTITY_OCTETS to ASTERNHAKEN_PART_EMLPP_PRIORITY */
+#define ASTERNHAKEN_PAGED_NUMBERS 9    /* numbers of who is paged: the parts from ASTERNHAKEN_PART_PAGED on */
 #define ASTERNHAKEN_HELD_NUMBERS 34    /* numbers of a half that is held */
 #define ASTERNHAKEN_NEVER 4294967295u  /* ms: no half is held, and none will run out */
 
@@ -114,10 +117,10 @@ enum asternhaken_refusal {
     ASTERNHAKEN_REFUSED_HOPPING = 5,           /* the hopping bit is unlike the hopping flag */
     ASTERNHAKEN_REFUSED_RANDOM_ENTRIES = 6,    /* NCH: more random entries than ciphered calls, reduced references included */
     ASTERNHAKEN_REFUSED_EMERGENCY_MARKS = 7,   /* NCH: more emergency marks than described calls */
-    ASTERNHAKEN_REFUSED_PAGING = 8,            /* FACCH: the paging branch */
+    ASTERNHAKEN_REFUSED_IDENTITY_LENGTH = 8,   /* FACCH: the length of the mobile identity that is paged is not 1 to 9 */
     ASTERNHAKEN_REFUSED_CLOCK = 9,             /* a clock step of 2^31 ms or more: after such a pause, set up anew */
     ASTERNHAKEN_REFUSED_SETUP = 10,            /* over 50 keys, a key above 199,999,999, keys that do not strictly rise, a timer outside 1 to 60,000, not one set of group keys for each key, a number in it that is not 1 to 15 */
-    ASTERNHAKEN_REFUSED_FORM_SIZE = 11,        /* a written form over 160 bits, or a write buffer not of the form's exact size */
+    ASTERNHAKEN_REFUSED_FORM_SIZE = 11,        /* a written form over 160 bits, or a write buffer not of the form's exact size; FACCH: a write buffer not of 2 to 23 octets, or too small for the form */
     ASTERNHAKEN_REFUSED_RANGE = 12,            /* a field out of its range; to write, anything but zero in an absent part or an unused place; PCH: parts that do not fit each other; a bit 22 above 1 */
     ASTERNHAKEN_REFUSED_LENGTH = 13,           /* an element, an array to write, a PCH entry or the lent state of a wrong length; a cause that never ends */
     ASTERNHAKEN_REFUSED_RAN_OUT_6 = 14,        /* the bits ran out inside Release 6 */
@@ -189,7 +192,41 @@ enum asternhaken_part {
     ASTERNHAKEN_PART_HR_AMR_CONFIG = 34,
     /* of an entry again, where it was told 2 or 3 */
     ASTERNHAKEN_PART_FOLLOW = 35,            /* enum asternhaken_follow */
-    ASTERNHAKEN_PART_KEPT_COUNT = 36         /* beside ASTERNHAKEN_FOLLOW_WITH_COUNT: the CELL_GLOBAL_COUNT that is kept of the cell, 0 to 3, as it stood behind this message */
+    ASTERNHAKEN_PART_KEPT_COUNT = 36,        /* beside ASTERNHAKEN_FOLLOW_WITH_COUNT: the CELL_GLOBAL_COUNT that is kept of the cell, 0 to 3, as it stood behind this message */
+    /* of the last accepted event again, where it was a FACCH message that pages a mobile station; the entry is not looked at */
+    ASTERNHAKEN_PART_PAGED = 37,                /* 1, and 0 where nobody is paged */
+    ASTERNHAKEN_PART_IDENTITY_OCTETS = 38,      /* the octets of the mobile identity, 1 to 9 */
+    ASTERNHAKEN_PART_IDENTITY_FIRST = 39,       /* the first of them, whose low three bits are its kind, enum asternhaken_identity */
+    ASTERNHAKEN_PART_IDENTITY_REST = 40,        /* the others as one number, the first of them the highest: of a TMSI the TMSI */
+    ASTERNHAKEN_PART_CHANNEL_FIRST = 41,        /* the channel wanted, enum asternhaken_channel_first */
+    ASTERNHAKEN_PART_EMLPP_PRIORITY_GIVEN = 42, /* an eMLPP priority is there */
+    ASTERNHAKEN_PART_EMLPP_PRIORITY = 43,       /* 0 to 7 */
+    ASTERNHAKEN_PART_PAGING_CAUSE_GIVEN = 44,   /* a Paging Cause is there; without one, a mobile terminating call is assumed */
+    ASTERNHAKEN_PART_PAGING_CAUSE = 45          /* enum asternhaken_paging_cause */
+};
+
+/* The kinds of mobile identity, by the low three bits of the first octet (3GPP TS 24.008, 10.5.1.4). */
+enum asternhaken_identity {
+    ASTERNHAKEN_IDENTITY_NONE = 0,
+    ASTERNHAKEN_IDENTITY_IMSI = 1,
+    ASTERNHAKEN_IDENTITY_IMEI = 2,
+    ASTERNHAKEN_IDENTITY_IMEISV = 3,
+    ASTERNHAKEN_IDENTITY_TMSI = 4
+};
+#define ASTERNHAKEN_IDENTITY_KIND(first) ((first) & 7u)
+
+/* The channel that a page wants first (Channel Needed, 3GPP TS 44.018, 10.5.2.8). */
+enum asternhaken_channel_first {
+    ASTERNHAKEN_CHANNEL_FIRST_ANY = 0,
+    ASTERNHAKEN_CHANNEL_FIRST_SDCCH = 1,
+    ASTERNHAKEN_CHANNEL_FIRST_TCH_F = 2,     /* full rate */
+    ASTERNHAKEN_CHANNEL_FIRST_TCH_H_OR_F = 3 /* half or full rate */
+};
+
+/* What a mobile station is paged for. A Paging Cause that is absent is 0 as well: a call is then assumed. */
+enum asternhaken_paging_cause {
+    ASTERNHAKEN_PAGED_FOR_CALL = 0, /* a mobile terminating call */
+    ASTERNHAKEN_PAGED_FOR_SHORT_MESSAGE = 1
 };
 
 /* The numbers of a PCH entry. What stands behind a flag of 0 is not looked at, nor is what the description does not use: behind a hopping flag of 0 the short list flag, the
@@ -243,6 +280,30 @@ struct asternhaken_entry {
 };
 ASTERNHAKEN_SIZE_(asternhaken_entry, ASTERNHAKEN_ENTRY_NUMBERS);
 
+/* A page: the mobile identity, the channel wanted first, and how urgently. */
+struct asternhaken_page {
+    uint64_t identity_octets;               /* how many, 1 to 9; asternhaken_identity_octet gives each */
+    uint64_t identity_first, identity_rest; /* the first, and the others as one number: of a TMSI the TMSI */
+    uint64_t channel_first;                 /* enum asternhaken_channel_first */
+    uint64_t emlpp_priority_given, emlpp_priority;
+};
+ASTERNHAKEN_SIZE_(asternhaken_page, ASTERNHAKEN_PAGE_NUMBERS);
+
+/* Who is paged by the last accepted event, and for what; all zeros where nobody is. */
+struct asternhaken_paged {
+    uint64_t paged; /* 1, and 0 where nobody is */
+    struct asternhaken_page page;
+    uint64_t paging_cause_given, paging_cause; /* enum asternhaken_paging_cause */
+};
+ASTERNHAKEN_SIZE_(asternhaken_paged, ASTERNHAKEN_PAGED_NUMBERS);
+
+/* The i-th octet of a page's identity, from 0; 0 where there is none. */
+static inline uint32_t asternhaken_identity_octet(const struct asternhaken_page *page, uint32_t i)
+{
+    if (i >= page->identity_octets || page->identity_octets > ASTERNHAKEN_IDENTITY_LONGEST) return 0;
+    return (i ? page->identity_rest >> 8 * (page->identity_octets - 1 - i) : page->identity_first) & 255;
+}
+
 /* What a half came on, and which it is. */
 enum asternhaken_on { ASTERNHAKEN_ON_NCH = 0, ASTERNHAKEN_ON_FACCH = 1, ASTERNHAKEN_ON_PCH = 2 };
 enum asternhaken_half { ASTERNHAKEN_FIRST_HALF = 1, ASTERNHAKEN_SECOND_HALF = 2 };
@@ -272,7 +333,7 @@ uint32_t asternhaken_is_set_up(const uint8_t *state, size_t state_length);
 
 /* NT/N Rest Octets came: 20 octets, those behind the pseudo length, 06 and 20 of the block of 23. */
 ASTERNHAKEN_MUST_USE uint32_t asternhaken_nch(uint8_t *state, size_t state_length, uint32_t tick, const uint8_t *octets, size_t n);
-/* NOTIFICATION/FACCH came: 2 to 23 octets, from the message's first on. */
+/* NOTIFICATION/FACCH came: 2 to 23 octets, from the message's first on. One that pages a mobile station has no entries: asternhaken_paged_get says who is paged. */
 ASTERNHAKEN_MUST_USE uint32_t asternhaken_facch(uint8_t *state, size_t state_length, uint32_t tick, const uint8_t *octets, size_t n);
 /* A notification came on the paging channel: its numbers in the order of enum asternhaken_pch_number. */
 ASTERNHAKEN_MUST_USE uint32_t asternhaken_pch(uint8_t *state, size_t state_length, uint32_t tick, const uint64_t *entry, size_t n);
@@ -302,6 +363,8 @@ ASTERNHAKEN_MUST_USE static inline uint32_t asternhaken_pch_put(uint8_t *state, 
 uint32_t asternhaken_read(const uint8_t *state, size_t state_length, uint32_t entry, uint32_t part, uint64_t *value);
 /* All numbers of an entry, as struct asternhaken_entry has them: as many as there are places, and zeros beyond them. */
 uint32_t asternhaken_entry_numbers(const uint8_t *state, size_t state_length, uint32_t entry, uint64_t *numbers, size_t n);
+/* Who is paged, as struct asternhaken_paged has it: as many numbers as there are places, and zeros beyond them. */
+uint32_t asternhaken_paged_numbers(const uint8_t *state, size_t state_length, uint64_t *numbers, size_t n);
 
 static inline uint32_t asternhaken_answer_get(const uint8_t *state, size_t state_length, struct asternhaken_answer *into)
 {
@@ -313,6 +376,11 @@ static inline uint32_t asternhaken_answer_get(const uint8_t *state, size_t state
 static inline uint32_t asternhaken_entry_get(const uint8_t *state, size_t state_length, uint32_t entry, struct asternhaken_entry *into)
 {
     return asternhaken_entry_numbers(state, state_length, entry, ASTERNHAKEN_AS_(uint64_t, into), ASTERNHAKEN_ENTRY_NUMBERS);
+}
+
+static inline uint32_t asternhaken_paged_get(const uint8_t *state, size_t state_length, struct asternhaken_paged *into)
+{
+    return asternhaken_paged_numbers(state, state_length, ASTERNHAKEN_AS_(uint64_t, into), ASTERNHAKEN_PAGED_NUMBERS);
 }
 
 /* What the state holds. A state of another length is ASTERNHAKEN_REFUSED_LENGTH, and every number is then 0; nothing else is refused. */
@@ -397,23 +465,36 @@ ASTERNHAKEN_MUST_USE static inline uint32_t asternhaken_nch_encode(const struct 
     return asternhaken_nch_write(ASTERNHAKEN_AS_(const uint64_t, from), ASTERNHAKEN_NCH_NUMBERS, octets, n);
 }
 
-/* NOTIFICATION/FACCH: 0 the number of bits used; 1 to 11 a call as above; 12 Release 6 there, 13 count there, 14 CELL_GLOBAL_COUNT, 15 B22_COUNT, 16 VSTK_RAND there,
- * 17 VSTK_RAND; 18 Release 7 there, 19 Priority Uplink Access, 20 emergency, 21 Paging Cause there. */
-#define ASTERNHAKEN_FACCH_NUMBERS 22
+/* NOTIFICATION/FACCH, a call or a page:
+ *   0 the number of bits used (when read), 1 paging: 0 for a call, 1 for a page; 2 to 12 a call as above; the page: 13 the octets of the mobile identity,
+ *   14 the first of them, 15 the others as one number, 16 channel first, 17 eMLPP priority there, 18 eMLPP priority;
+ *   19 Release 6 there, 20 count there, 21 CELL_GLOBAL_COUNT, 22 B22_COUNT, 23 VSTK_RAND there, 24 VSTK_RAND;
+ *   25 Release 7 there, 26 Priority Uplink Access, 27 emergency, 28 Paging Cause there, 29 Paging Cause (a call's is kept too, and means nothing).
+ * Of a call the page's numbers are 0, and of a page the call's. The writer fills a buffer of 2 to 23 octets, padding included; the first octet, which no reader looks at,
+ * is written as 0. A release that is absent is nothing where the buffer is used up, else one bit. */
+#define ASTERNHAKEN_FACCH_NUMBERS 30
 #define ASTERNHAKEN_FACCH_USED 0
 ASTERNHAKEN_MUST_USE uint32_t asternhaken_facch_read(const uint8_t *octets, size_t n, uint64_t *numbers, size_t n_numbers);
+ASTERNHAKEN_MUST_USE uint32_t asternhaken_facch_write(const uint64_t *numbers, size_t n_numbers, uint8_t *octets, size_t n);
 
 struct asternhaken_facch_message {
-    uint64_t used; /* bits */
+    uint64_t used; /* bits, when read */
+    uint64_t paging; /* 0 for a call, 1 for a page; the other one is all zeros */
     struct asternhaken_call call;
+    struct asternhaken_page page;
     uint64_t release_6_given, count_given, cell_global_count, b22_count, rand_given, vstk_rand;
-    uint64_t release_7_given, uplink_access, emergency, paging_cause_given;
+    uint64_t release_7_given, uplink_access, emergency, paging_cause_given, paging_cause;
 };
 ASTERNHAKEN_SIZE_(asternhaken_facch_message, ASTERNHAKEN_FACCH_NUMBERS);
 
 ASTERNHAKEN_MUST_USE static inline uint32_t asternhaken_facch_decode(const uint8_t *octets, size_t n, struct asternhaken_facch_message *into)
 {
     return asternhaken_facch_read(octets, n, ASTERNHAKEN_AS_(uint64_t, into), ASTERNHAKEN_FACCH_NUMBERS);
+}
+
+ASTERNHAKEN_MUST_USE static inline uint32_t asternhaken_facch_encode(const struct asternhaken_facch_message *from, uint8_t *octets, size_t n)
+{
+    return asternhaken_facch_write(ASTERNHAKEN_AS_(const uint64_t, from), ASTERNHAKEN_FACCH_NUMBERS, octets, n);
 }
 
 /* Elements of 44.068, clause 9. */
@@ -606,13 +687,17 @@ ASTERNHAKEN_MUST_USE static inline uint32_t asternhaken_digits_encode(const stru
 /* ---- Words ----
  *
  * A short word and a sentence for each refusal number, each told number and each number of enum asternhaken_follow, to be shown or logged. They answer for every number: one
- * that this version does not know has the word "unknown" and a sentence that says so. The texts are constant; they are for people, and a program goes by the numbers. */
+ * that this version does not know has the word "unknown" and a sentence that says so. Of a page, each kind of identity (ASTERNHAKEN_IDENTITY_KIND of its first octet), channel
+ * first and paging cause has a word. The texts are constant; they are for people, and a program goes by the numbers. */
 const char *asternhaken_refusal_word(uint32_t refusal);
 const char *asternhaken_refusal_sentence(uint32_t refusal);
 const char *asternhaken_told_word(uint64_t told);
 const char *asternhaken_told_sentence(uint64_t told);
 const char *asternhaken_follow_word(uint64_t follow);
 const char *asternhaken_follow_sentence(uint64_t follow);
+const char *asternhaken_identity_word(uint64_t kind);
+const char *asternhaken_channel_first_word(uint64_t channel_first);
+const char *asternhaken_paging_cause_word(uint64_t paging_cause);
 
 #ifdef __cplusplus
 }

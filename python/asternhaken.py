@@ -20,10 +20,11 @@ does not name has none, and what it says of other keys than these is not looked 
 receivers are independent of each other. Calls on one receiver must not run at the same time.
 
 Events. nch, facch, pch, joined, reselected, handed_over, reconfigured, left_idle, bit_22 and tick each take the tick (a millisecond counter of 32 bits that wraps) and what
-belongs to the event, and answer with an Answer: how many halves ran out, how many the event dropped, and its entries. receiver.answer is the answer to the last
+belongs to the event, and answer with an Answer: how many halves ran out, how many the event dropped, its entries, and who is paged. receiver.answer is the answer to the last
 accepted event. An entry told 1 to 3 carries a record, with a number for each part of the header's enum asternhaken_part; the others have None. An entry told 2 or 3, which is
 ciphered, says in follow whether the call can be followed (FOLLOW_NO_KEY, FOLLOW_NO_COUNT or FOLLOW_WITH_COUNT, then with kept_count); beside the others both are 0. What came on the
-paging channel is a PchEntry: its key, and by name those of the other numbers that are not 0.
+paging channel is a PchEntry: its key, and by name those of the other numbers that are not 0. A FACCH message that pages a mobile station has no entries; answer.paged is then a Paged with
+the octets of its identity, what it is paged for and the channel, and None after every other event.
 
 What is held. receiver.held is a tuple of the halves that wait for their other half, each with its key, what it came on, which half it is, how many ms it has left from
 the last accepted event, and its record; receiver.next_expiry is the least of those times, or None.
@@ -45,7 +46,7 @@ import os
 # ---- The library ----
 
 # Octets of the state, and the parts of an answer in their order: the header's, which the tests hold equal.
-STATE_LENGTH = 10240
+STATE_LENGTH = 10256
 KEYS = 50
 LAST_GROUP_KEY = 15
 T3206 = 10000
@@ -55,18 +56,24 @@ PARTS = (
     "expired", "dropped", "entry_count", "key", "told", "call_reference", "channel", "frequencies", "vstk_rand", "full", "vgcs", "acknowledged", "channel_given",
     "hops", "short_list", "segment_given", "segment_id", "rand_given", "emergency", "count_given", "b22_count", "uplink_given", "uplink_access", "amr_given", "fr_amr_given",
     "hr_amr_given", "sms_given", "sms_confidentiality", "sms_privacy", "priority", "cipher_key_number", "allocation_octets", "cell_global_count", "fr_amr_config",
-    "hr_amr_config", "follow", "kept_count",
+    "hr_amr_config", "follow", "kept_count", "paged", "identity_octets", "identity_first", "identity_rest", "channel_first", "emlpp_priority_given", "emlpp_priority",
+    "paging_cause_given", "paging_cause",
 )
 
 # The refusal numbers.
 (ACCEPTED, REFUSED_MESSAGE_LENGTH, REFUSED_RAN_OUT, REFUSED_ALLOCATION_LENGTH, REFUSED_REFERENCE, REFUSED_HOPPING, REFUSED_RANDOM_ENTRIES, REFUSED_EMERGENCY_MARKS,
- REFUSED_PAGING, REFUSED_CLOCK, REFUSED_SETUP, REFUSED_FORM_SIZE, REFUSED_RANGE, REFUSED_LENGTH, REFUSED_RAN_OUT_6, REFUSED_RAN_OUT_7) = range(16)
+ REFUSED_IDENTITY_LENGTH, REFUSED_CLOCK, REFUSED_SETUP, REFUSED_FORM_SIZE, REFUSED_RANGE, REFUSED_LENGTH, REFUSED_RAN_OUT_6, REFUSED_RAN_OUT_7) = range(16)
 
 # The told numbers; 1 to 3 are complete and carry a record.
 (TOLD_NOT_OURS, TOLD_CLEAR, TOLD_ONE_PIECE, TOLD_JOINED, TOLD_HALF_STORED, TOLD_HALF_HELD, TOLD_NO_CHANNEL, TOLD_UNUSABLE, TOLD_SECOND_BEFORE_FIRST) = range(9)
 
 # Whether a complete ciphered call can be followed.
 FOLLOW_NOT_SAID, FOLLOW_NO_KEY, FOLLOW_NO_COUNT, FOLLOW_WITH_COUNT = range(4)
+
+# Of a page: the kinds of mobile identity, the channel wanted first, and what it is for.
+IDENTITY_NONE, IDENTITY_IMSI, IDENTITY_IMEI, IDENTITY_IMEISV, IDENTITY_TMSI = range(5)
+CHANNEL_FIRST_ANY, CHANNEL_FIRST_SDCCH, CHANNEL_FIRST_TCH_F, CHANNEL_FIRST_TCH_H_OR_F = range(4)
+PAGED_FOR_CALL, PAGED_FOR_SHORT_MESSAGE = range(2)
 
 # What a half came on, and which it is.
 ON_NCH, ON_FACCH, ON_PCH = range(3)
@@ -90,7 +97,7 @@ def _load():
         "setup": [_OCTETS, _SIZE, ctypes.POINTER(_U32), _SIZE, ctypes.POINTER(_U32), _SIZE, _U32, _U32, _U32, _U32],
         "nch": message, "facch": message, "pch": plain + [_NUMBERS, _SIZE], "joined": plain + [_U32],
         "reselected": plain, "handed_over": plain, "reconfigured": plain, "left_idle": plain, "bit_22": plain + [_U32], "tick": plain,
-        "read": plain + [_U32, _NUMBERS], "entry_numbers": plain + [_NUMBERS, _SIZE],
+        "read": plain + [_U32, _NUMBERS], "entry_numbers": plain + [_NUMBERS, _SIZE], "paged_numbers": [_OCTETS, _SIZE, _NUMBERS, _SIZE],
         "held_count": [_OCTETS, _SIZE, _NUMBERS], "held_numbers": plain + [_NUMBERS, _SIZE], "next_expiry": [_OCTETS, _SIZE, _NUMBERS],
         "is_set_up": [_OCTETS, _SIZE], "version": [],
     }.items():
@@ -100,6 +107,9 @@ def _load():
         for text in "word", "sentence":
             function = getattr(library, "asternhaken_%s_%s" % (name, text))
             function.argtypes, function.restype = [number], ctypes.c_char_p
+    for name in "identity", "channel_first", "paging_cause":
+        function = getattr(library, "asternhaken_%s_word" % name)
+        function.argtypes, function.restype = [ctypes.c_uint64], ctypes.c_char_p
     return library
 
 
@@ -139,6 +149,21 @@ def follow_word(number):
 def follow_sentence(number):
     """A sentence for a number that says whether a call can be followed."""
     return _library.asternhaken_follow_sentence(_u32(number, "a number of following")).decode()
+
+
+def identity_word(number):
+    """A short word for a kind of mobile identity."""
+    return _library.asternhaken_identity_word(_u32(number, "a kind of identity")).decode()
+
+
+def channel_first_word(number):
+    """A short word for the channel that a page wants first."""
+    return _library.asternhaken_channel_first_word(_u32(number, "a channel first")).decode()
+
+
+def paging_cause_word(number):
+    """A short word for what a mobile station is paged for."""
+    return _library.asternhaken_paging_cause_word(_u32(number, "a paging cause")).decode()
 
 
 def key(reference, vgcs):
@@ -222,8 +247,32 @@ class Entry(_Keyed, collections.namedtuple("Entry", "key told record follow kept
         return follow_sentence(self.follow)
 
 
-class Answer(collections.namedtuple("Answer", "expired dropped entries")):
-    """The answer to an event: halves that ran out at it, halves that it dropped itself, and a tuple of entries."""
+class Paged(collections.namedtuple("Paged", "identity channel_first emlpp_priority paging_cause")):
+    """Who is paged: the octets of the mobile identity, the channel wanted first, and the eMLPP priority and the Paging Cause, each None where it is not there."""
+
+    __slots__ = ()
+
+    @property
+    def identity_kind(self):
+        """IDENTITY_TMSI or another: the low three bits of the first octet."""
+        return self.identity[0] & 7 if self.identity else IDENTITY_NONE
+
+    @property
+    def identity_word(self):
+        return identity_word(self.identity_kind)
+
+    @property
+    def channel_first_word(self):
+        return channel_first_word(self.channel_first)
+
+    @property
+    def paging_cause_word(self):
+        """What for; without a Paging Cause, a mobile terminating call is assumed."""
+        return paging_cause_word(self.paging_cause or PAGED_FOR_CALL)
+
+
+class Answer(collections.namedtuple("Answer", "expired dropped entries paged")):
+    """The answer to an event: halves that ran out at it, halves that it dropped itself, a tuple of entries, and who is paged, a Paged or None."""
 
     __slots__ = ()
 
@@ -355,10 +404,20 @@ class Receiver:
         (key, told), record, (follow, kept_count) = self._numbers(_library.asternhaken_entry_numbers, i, 2, 2)
         return Entry(key, told, record if TOLD_CLEAR <= told <= TOLD_JOINED else None, follow, kept_count)
 
+    def _paged(self):
+        n = len(PARTS) - PARTS.index("paged")
+        numbers = (ctypes.c_uint64 * n)()
+        self._call(_library.asternhaken_paged_numbers, numbers, n)
+        there, octets, first, rest, channel_first, priority_given, priority, cause_given, cause = numbers
+        if not there:
+            return None
+        identity = bytes([first]) + rest.to_bytes(8, "big")[max(0, 9 - octets):]  # other octets than a receiver's may say any length
+        return Paged(identity if octets else b"", channel_first, priority if priority_given else None, cause if cause_given else None)
+
     @property
     def answer(self):
         """The answer to the last accepted event; after a setup it is empty."""
-        return Answer(self._part("expired"), self._part("dropped"), tuple(self._entry(i) for i in range(self._part("entry_count"))))
+        return Answer(self._part("expired"), self._part("dropped"), tuple(self._entry(i) for i in range(self._part("entry_count"))), self._paged())
 
     def _held(self, i):
         leading, record, _ = self._numbers(_library.asternhaken_held_numbers, i, 4, 0)

@@ -15,15 +15,15 @@ enum { STATE = 255, GUARD = 16, SHOWN = 20 };
 
 /* In the order of src/ffi.rs. */
 enum {
-    SETUP, NCH, FACCH, PCH, JOINED, RESELECTED, HANDED_OVER, RECONFIGURED, LEFT_IDLE, BIT_22, TICK, READ, ENTRY_NUMBERS, HELD_NUMBERS, HELD_COUNT, NEXT_EXPIRY, IS_SET_UP,
-    NCH_READ, NCH_WRITE, FACCH_READ, MESSAGE_TYPE_READ, MESSAGE_TYPE_WRITE, CALL_REFERENCE_READ, CALL_REFERENCE_WRITE, CALL_STATE_READ, CALL_STATE_WRITE,
+    SETUP, NCH, FACCH, PCH, JOINED, RESELECTED, HANDED_OVER, RECONFIGURED, LEFT_IDLE, BIT_22, TICK, READ, ENTRY_NUMBERS, HELD_NUMBERS, PAGED_NUMBERS, HELD_COUNT, NEXT_EXPIRY, IS_SET_UP,
+    NCH_READ, NCH_WRITE, FACCH_READ, FACCH_WRITE, MESSAGE_TYPE_READ, MESSAGE_TYPE_WRITE, CALL_REFERENCE_READ, CALL_REFERENCE_WRITE, CALL_STATE_READ, CALL_STATE_WRITE,
     CAUSE_READ, CAUSE_WRITE, ORIGINATOR_READ, ORIGINATOR_WRITE, STATE_ATTRIBUTES_READ, STATE_ATTRIBUTES_WRITE, SMS_READ, SMS_WRITE, TALKER_READ, TALKER_WRITE,
     DIGITS_READ, DIGITS_WRITE, FIND, FUNCTIONS
 };
 
 static const char *const names[FUNCTIONS] = {
-    "setup", "nch", "facch", "pch", "joined", "reselected", "handed_over", "reconfigured", "left_idle", "bit_22", "tick", "read", "entry_numbers", "held_numbers",
-    "held_count", "next_expiry", "is_set_up", "nch_read", "nch_write", "facch_read",
+    "setup", "nch", "facch", "pch", "joined", "reselected", "handed_over", "reconfigured", "left_idle", "bit_22", "tick", "read", "entry_numbers", "held_numbers", "paged_numbers",
+    "held_count", "next_expiry", "is_set_up", "nch_read", "nch_write", "facch_read", "facch_write",
     "message_type_read", "message_type_write", "call_reference_read", "call_reference_write", "call_state_read", "call_state_write",
     "cause_read", "cause_write", "originator_read", "originator_write", "state_attributes_read", "state_attributes_write", "sms_read",
     "sms_write", "talker_read", "talker_write", "digits_read", "digits_write", "find"
@@ -153,14 +153,15 @@ static void state_call(unsigned function)
 /* What looks at the state: it fills numbers, or answers alone. */
 static void view_call(unsigned function)
 {
-    uint32_t a = function <= HELD_NUMBERS ? small() : 0, b = function <= HELD_NUMBERS ? small() : 0, refusal;
-    struct lent into = lend((function == IS_SET_UP ? 0 : function == ENTRY_NUMBERS || function == HELD_NUMBERS ? b : 1) * sizeof(uint64_t));
+    uint32_t a = function <= PAGED_NUMBERS ? small() : 0, b = function <= PAGED_NUMBERS ? small() : 0, refusal;
+    struct lent into = lend((function == IS_SET_UP ? 0 : function > READ && function <= PAGED_NUMBERS ? b : 1) * sizeof(uint64_t));
     uint64_t *numbers = (uint64_t *)(void *)into.at;
     memset(into.at, 0x5a, into.size);
     switch (function) {
     case READ: refusal = asternhaken_read(state.at, state.size, a, b, numbers); break;
     case ENTRY_NUMBERS: refusal = asternhaken_entry_numbers(state.at, state.size, a, numbers, b); break;
     case HELD_NUMBERS: refusal = asternhaken_held_numbers(state.at, state.size, a, numbers, b); break;
+    case PAGED_NUMBERS: refusal = asternhaken_paged_numbers(state.at, state.size, numbers, b); break;
     case HELD_COUNT: refusal = asternhaken_held_count(state.at, state.size, numbers); break;
     case NEXT_EXPIRY: refusal = asternhaken_next_expiry(state.at, state.size, numbers); break;
     default: refusal = asternhaken_is_set_up(state.at, state.size);
@@ -222,6 +223,7 @@ static void codec_call(unsigned f)
     case NCH_READ: octets_reader(f, asternhaken_nch_read); break;
     case NCH_WRITE: octets_writer(f, asternhaken_nch_write); break;
     case FACCH_READ: octets_reader(f, asternhaken_facch_read); break;
+    case FACCH_WRITE: octets_writer(f, asternhaken_facch_write); break;
     case MESSAGE_TYPE_READ: octet_reader(f, asternhaken_message_type_read); break;
     case MESSAGE_TYPE_WRITE: octet_writer(f, asternhaken_message_type_write); break;
     case CALL_REFERENCE_READ: octets_reader(f, asternhaken_call_reference_read); break;

@@ -11,6 +11,9 @@ static int seeded(const char *name)
     return wanted && !strcmp(wanted, name);
 }
 
+/* docs/STATE.md: the kinds of the places, and who is paged. */
+enum { KINDS = 424, PLACES = 150, PAGED = 9592, PAGED_OCTETS = 16 };
+
 uint32_t __real_asternhaken_setup(uint8_t *state, size_t state_length, const uint32_t *keys, size_t n_keys, const uint32_t *sets, size_t n_sets, uint32_t tick, uint32_t t3206, uint32_t t3208, uint32_t t3210);
 uint32_t __wrap_asternhaken_setup(uint8_t *state, size_t state_length, const uint32_t *keys, size_t n_keys, const uint32_t *sets, size_t n_sets, uint32_t tick, uint32_t t3206, uint32_t t3208, uint32_t t3210)
 {
@@ -24,6 +27,7 @@ uint32_t __wrap_asternhaken_setup(uint8_t *state, size_t state_length, const uin
     if (n_keys && seeded("a setup writes the keys")) ++*(uint32_t *)keys;
     if (n_sets && seeded("a setup writes the sets")) ++*(uint32_t *)sets;
     if (result && seeded("a refused setup gives another number")) result++;
+    if (result && seeded("a refused setup forgets who is paged")) memset(state + PAGED, 0, PAGED_OCTETS);
     return result;
 }
 
@@ -31,7 +35,13 @@ uint32_t __real_asternhaken_facch(uint8_t *state, size_t state_length, uint32_t 
 uint32_t __wrap_asternhaken_facch(uint8_t *state, size_t state_length, uint32_t tick, const uint8_t *octets, size_t n)
 {
     uint32_t result = __real_asternhaken_facch(state, state_length, tick, octets, n);
+    static uint8_t last[PAGED_OCTETS];
     if (result && seeded("a refused event moves the clock")) memcpy(state, &tick, sizeof tick);
+    if (!result && seeded("who is paged stays over the next event")) {
+        if (state[PAGED]) memcpy(last, state + PAGED, sizeof last);
+        else memcpy(state + PAGED, last, sizeof last);
+    }
+    if (!result && state[PAGED] && seeded("a page drops the halves")) memset(state + KINDS, 0, PLACES);
     if (seeded("an event has an upper bit")) result |= 256;
     return result;
 }
@@ -40,7 +50,7 @@ uint32_t __real_asternhaken_pch(uint8_t *state, size_t state_length, uint32_t ti
 uint32_t __wrap_asternhaken_pch(uint8_t *state, size_t state_length, uint32_t tick, const uint64_t *entry, size_t n)
 {
     uint32_t result = __real_asternhaken_pch(state, state_length, tick, entry, n);
-    if (result && seeded("a refused PCH entry drops a half")) memset(state + 424, 0, 150);
+    if (result && seeded("a refused PCH entry drops a half")) memset(state + KINDS, 0, PLACES);
     if (seeded("a PCH entry is written")) ++((uint64_t *)entry)[n - 1];
     if (!result && seeded("a PCH entry is handed in twice")) result = __real_asternhaken_pch(state, state_length, tick, entry, n);
     return result;
@@ -83,6 +93,19 @@ uint32_t __wrap_asternhaken_read(const uint8_t *state, size_t state_length, uint
     if (part == ASTERNHAKEN_PART_KEPT_COUNT && *value && seeded("a kept count is another")) --*value;
     if (part == ASTERNHAKEN_PART_FOLLOW && *value == ASTERNHAKEN_FOLLOW_NO_COUNT && seeded("no count is no key")) --*value;
     if (part == ASTERNHAKEN_PART_FOLLOW && !*value && seeded("a clear call has no key")) ++*value;
+    if (part == ASTERNHAKEN_PART_CHANNEL_FIRST && *value && seeded("a part is unlike its number")) --*value;
+    if (part == ASTERNHAKEN_PART_IDENTITY_REST && *value && seeded("an octet of who is paged is another")) *value ^= 256;
+    if (part == ASTERNHAKEN_PART_PAGING_CAUSE && !*value && seeded("nobody is paged for a short message")) ++*value;
+    return result;
+}
+
+uint32_t __real_asternhaken_paged_numbers(const uint8_t *state, size_t state_length, uint64_t *numbers, size_t n);
+uint32_t __wrap_asternhaken_paged_numbers(const uint8_t *state, size_t state_length, uint64_t *numbers, size_t n)
+{
+    uint32_t result = __real_asternhaken_paged_numbers(state, state_length, numbers, n);
+    if (seeded("looking who is paged writes the state")) ((uint8_t *)state)[PAGED] ^= 1;
+    if (numbers[3] && seeded("an octet of who is paged is another")) numbers[3] ^= 256;
+    if (!numbers[8] && seeded("nobody is paged for a short message")) numbers[8] = 1;
     return result;
 }
 
@@ -105,5 +128,33 @@ uint32_t __wrap_asternhaken_nch_write(const uint64_t *numbers, size_t n_numbers,
     if (result && n && seeded("a refused writing writes")) octets[n - 1] = 0x2b;
     if (!result && seeded("a writing is an octet too long")) octets[n] = 0x2b;
     if (!result && seeded("a writing begins an octet before")) octets[-1] = 0x2b;
+    return result;
+}
+
+uint32_t __real_asternhaken_facch_read(const uint8_t *octets, size_t n, uint64_t *numbers, size_t n_numbers);
+uint32_t __wrap_asternhaken_facch_read(const uint8_t *octets, size_t n, uint64_t *numbers, size_t n_numbers)
+{
+    uint32_t result = __real_asternhaken_facch_read(octets, n, numbers, n_numbers);
+    if (result) return result;
+    if (numbers[1] && seeded("an octet of an identity is another")) numbers[numbers[13] > 1 ? 15 : 14] ^= 1;
+    if (!numbers[1] && seeded("the Paging Cause of a call is thrown away")) numbers[28] = numbers[29] = 0;
+    if (!numbers[25] && numbers[ASTERNHAKEN_FACCH_USED] < 8 * n && seeded("the bit of an absent release is not counted")) numbers[ASTERNHAKEN_FACCH_USED]--;
+    return result;
+}
+
+uint32_t __real_asternhaken_facch_write(const uint64_t *numbers, size_t n_numbers, uint8_t *octets, size_t n);
+uint32_t __wrap_asternhaken_facch_write(const uint64_t *numbers, size_t n_numbers, uint8_t *octets, size_t n)
+{
+    uint8_t first[ASTERNHAKEN_FACCH_LONGEST];
+    uint64_t again[ASTERNHAKEN_FACCH_NUMBERS];
+    int fits = n <= sizeof first && !__real_asternhaken_facch_write(numbers, n_numbers, first, n) && !__real_asternhaken_facch_read(first, n, again, ASTERNHAKEN_FACCH_NUMBERS);
+    if (fits && again[ASTERNHAKEN_FACCH_USED] == 8 * n && !numbers[25] && seeded("a bit too many for an absent release")) return ASTERNHAKEN_REFUSED_FORM_SIZE;
+    uint32_t result = __real_asternhaken_facch_write(numbers, n_numbers, octets, n);
+    if (result && n && seeded("a refused FACCH writing writes")) octets[n - 1] = 0x2b;
+    if (result == ASTERNHAKEN_REFUSED_IDENTITY_LENGTH && seeded("the length of an identity is a range")) result = ASTERNHAKEN_REFUSED_RANGE;
+    if (result) return result;
+    if (seeded("a first octet is not zero")) octets[0] = 4;
+    if (again[ASTERNHAKEN_FACCH_USED] <= 8 * n - 8 && seeded("a FACCH writing leaves the last octet")) octets[n - 1] = 0;
+    if (seeded("a FACCH writing is an octet too long")) octets[n] = 0x2b;
     return result;
 }

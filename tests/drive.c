@@ -2,8 +2,8 @@
  * tests/drive.sh compares the answers with those of vectors/.
  *
  * After each call of the library the driver looks at all memory that it lends. A refused call that changes any of it, a call that changes what it may only read,
- * a refused reading that is not all zeros, or a write outside of what was lent ends the run: the last line then begins with FAULT, and the status is 3. A line that is no
- * command is answered with '?' and what is wrong; the run goes on, and its status is then 2.
+ * a refused reading that is not all zeros, a record that reads otherwise than it was written, or a write outside of what was lent ends the run: the last line then begins with FAULT, and
+ * the status is 3. A line that is no command is answered with '?' and what is wrong; the run goes on, and its status is then 2.
  *
  * A new command is a function here and a row in the table of commands, or in that of events; a record is a table of parts, and of runs that say how the library has them. */
 #include <asternhaken.h>
@@ -248,8 +248,7 @@ static int understood(void)
 enum kind {
     SAME,        /* numbers that both have */
     DESCRIPTION, /* 13 places, five numbers: channel, hopping, short list, length, and the octets or the short list as one number */
-    ABSENT,      /* places for which the library has no number: 0 */
-    UNSHOWN,     /* numbers for which the protocol has no place */
+    IDENTITY,    /* 10 places, three numbers: length, first octet, and the other octets as one number */
     END
 };
 
@@ -261,10 +260,11 @@ struct run {
 #define CALL { SAME, 6 }, { DESCRIPTION, 1 }
 
 static const struct run nch_record[] = { { SAME, 3 }, CALL, CALL, CALL, CALL, { SAME, 58 }, { END, 0 } };
-static const struct run facch_record[] = { { ABSENT, 1 }, CALL, { ABSENT, 13 }, { SAME, 9 }, { UNSHOWN, 1 }, { ABSENT, 2 }, { END, 0 } };
+static const struct run facch_record[] = { { SAME, 1 }, CALL, { IDENTITY, 1 }, { SAME, 14 }, { END, 0 } };
 static const struct run call_record[] = { { SAME, 2 }, CALL, { SAME, 19 }, { END, 0 } };
+static const struct run paged_record[] = { { IDENTITY, 1 }, { SAME, 5 }, { END, 0 } };
 
-enum { OCTETS = 8 }; /* places for a mobile allocation */
+enum { OCTETS = 8, IDENTITY_OCTETS = 9 }; /* places for a mobile allocation, and for a mobile identity */
 
 /* The first octet is all that the others leave: more than an octet where the number is too large for the length. */
 static void say_description(const uint64_t *d)
@@ -297,14 +297,36 @@ static void take_description(uint64_t *d)
     d[4] = number | list;
 }
 
+/* The second octet is all that those behind it leave, as the first of an allocation. */
+static void say_identity(const uint64_t *d)
+{
+    uint64_t octets[IDENTITY_OCTETS] = { d[1] }, number = d[2];
+    for (size_t i = count_of(d[0], IDENTITY_OCTETS, "identity"); i > 2; number >>= 8) octets[--i] = number & 255;
+    octets[1] = number;
+    say_number(d[0]);
+    for (size_t i = 0; i < IDENTITY_OCTETS; i++) say_number(octets[i]);
+}
+
+/* One that is not zero beyond the length makes the number the greatest, which is too large for every length that leaves a place unused. */
+static void take_identity(uint64_t *d)
+{
+    d[0] = take_number(UINT64_MAX);
+    d[1] = take_number(UINT64_MAX);
+    d[2] = 0;
+    for (size_t i = 1; i < IDENTITY_OCTETS; i++) {
+        uint64_t octet = take_number(UINT8_MAX);
+        if (i < d[0]) d[2] = d[2] << 8 | octet;
+        else if (octet) d[2] = UINT64_MAX;
+    }
+}
+
 static void say_record(const uint64_t *numbers, const struct run *run)
 {
     for (; run->kind != END; run++)
         for (size_t i = 0; i < run->n; i++) {
             if (run->kind == SAME) say_number(*numbers++);
             if (run->kind == DESCRIPTION) say_description(numbers), numbers += 5;
-            if (run->kind == ABSENT) say_number(0);
-            if (run->kind == UNSHOWN) numbers++;
+            if (run->kind == IDENTITY) say_identity(numbers), numbers += 3;
         }
 }
 
@@ -314,8 +336,7 @@ static void take_record(uint64_t *numbers, const struct run *run)
         for (size_t i = 0; i < run->n; i++) {
             if (run->kind == SAME) *numbers++ = take_number(UINT64_MAX);
             if (run->kind == DESCRIPTION) take_description(numbers), numbers += 5;
-            if (run->kind == ABSENT && take_number(UINT64_MAX)) is_wrong("the library has no place for a number");
-            if (run->kind == UNSHOWN) *numbers++ = 0;
+            if (run->kind == IDENTITY) take_identity(numbers), numbers += 3;
         }
 }
 
@@ -351,7 +372,8 @@ static void read_record(reader *read, size_t n_numbers, const struct run *record
 static void nch(void) { read_record(asternhaken_nch_read, ASTERNHAKEN_NCH_NUMBERS, nch_record); }
 static void facch(void) { read_record(asternhaken_facch_read, ASTERNHAKEN_FACCH_NUMBERS, facch_record); }
 
-/* A writer says nothing of the bits used, nor looks at their place, which is left as it was painted: they are those that the reader uses of what was written. */
+/* A writer says nothing of the bits used, nor looks at their place, which is left as it was painted: they are those that the reader uses of what was written, and it must read the
+ * same record there. */
 static void write_record(writer *write, reader *read, size_t n_numbers, const struct run *record)
 {
     size_t size = (size_t)take_u32();
@@ -361,12 +383,17 @@ static void write_record(writer *write, reader *read, size_t n_numbers, const st
     if (!understood()) return;
     uint32_t result = WATCHED(write(numbers, n_numbers, octets, size), octets, LEAVES);
     say_number(result);
-    if (result == ASTERNHAKEN_ACCEPTED) WATCHED(read(octets, size, again, n_numbers), again, CLEARS);
+    if (result == ASTERNHAKEN_ACCEPTED) {
+        WATCHED(read(octets, size, again, n_numbers), again, CLEARS);
+        for (size_t i = RECORD; i < n_numbers; i++)
+            if (again[i] != numbers[i]) fault("what was written reads as another record", "numbers", i * sizeof *numbers);
+    }
     say_number(result == ASTERNHAKEN_ACCEPTED ? again[USED] : 0);
     say_octets(octets, result == ASTERNHAKEN_ACCEPTED ? size : 0);
 }
 
 static void wnch(void) { write_record(asternhaken_nch_write, asternhaken_nch_read, ASTERNHAKEN_NCH_NUMBERS, nch_record); }
+static void wfacch(void) { write_record(asternhaken_facch_write, asternhaken_facch_read, ASTERNHAKEN_FACCH_NUMBERS, facch_record); }
 
 /* ---- Elements ---- */
 
@@ -613,6 +640,20 @@ static void say_entry(uint32_t entry)
     if (is_ciphered) say_number(follow), say_number(kept_count);
 }
 
+/* Who is paged, in one call and part by part, at any entry; where nobody is, all of it is zero. */
+static void paged(void)
+{
+    uint64_t *numbers = lend_numbers(ASTERNHAKEN_PAGED_NUMBERS);
+    if (!understood()) return;
+    if (WATCHED(asternhaken_paged_numbers(state, LENGTH, numbers, ASTERNHAKEN_PAGED_NUMBERS), numbers, CLEARS) != ASTERNHAKEN_ACCEPTED) fault("asternhaken_paged_numbers refuses", "state", 0);
+    for (uint32_t i = 0; i < ASTERNHAKEN_PAGED_NUMBERS; i++) {
+        if (part(i, ASTERNHAKEN_PART_PAGED + i) != numbers[i]) fault("a part is unlike its number", "paged", i);
+        if (!numbers[0] && numbers[i]) fault("nobody is paged, and a number is not zero", "paged", i);
+    }
+    say_number(numbers[0]);
+    if (numbers[0]) say_record(numbers + 1, paged_record);
+}
+
 static void say_answer(uint32_t result)
 {
     int accepted = say_result(result) == ASTERNHAKEN_ACCEPTED;
@@ -706,8 +747,10 @@ static const struct command commands[] = {
     { "nch", nch },
     { "facch", facch },
     { "wnch", wnch },
+    { "wfacch", wfacch },
     { "setup", setup },
     { "ev", ev },
+    { "paged", paged },
     { "find", find },
     { "message_type", message_type },
     { "call_reference", call_reference },

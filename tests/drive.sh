@@ -98,7 +98,7 @@ a reading is too long:^FAULT .*a write behind what was lent: numbers, octet 848$
 a refused reading leaves a number:^FAULT .*a refused reading is not all zeros: numbers, octet 840$
 a setup writes the keys:^FAULT .*a call changed what it may not write: keys, octet 0$
 a setup writes the sets:^FAULT .*a call changed what it may not write: sets, octet 0$
-reading a part writes the state:^FAULT .*a call changed what it may not write: state, octet 10239$
+reading a part writes the state:^FAULT .*a call changed what it may not write: state, octet 10255$
 a refused PCH entry drops a half:^FAULT .*a refused call changed lent memory: state, octet [45][0-9][0-9]$
 a PCH entry is written:^FAULT .*a call changed what it may not write: numbers, octet 104$
 a PCH entry is handed in twice:must answer: 0 0 
@@ -108,6 +108,22 @@ a bit above 1 is taken:must answer: 12 0 0 0$
 a refused bit is kept:^FAULT .*a refused call changed lent memory: state, octet 18$
 the first set is that of every key:must answer: 0 0 .* [123] [0-3]
 a refused setup gives another number:must answer: 10$
+a refused setup forgets who is paged:^FAULT .*a refused call changed lent memory: state, octet 9592$
+who is paged stays over the next event:must answer: 0$
+a page drops the halves:must answer: 0 0 0 0 | [0-9]* 3 
+an octet of who is paged is another:must answer: 1 [2-9] 
+a part is unlike its number:^FAULT .*a part is unlike its number: paged, octet 4$
+nobody is paged for a short message:^FAULT .*nobody is paged, and a number is not zero: paged, octet 8$
+looking who is paged writes the state:^FAULT .*a call changed what it may not write: state, octet 9592$
+an octet of an identity is another:must answer: 0 0 [0-9]* 1 0 
+the Paging Cause of a call is thrown away:^FAULT .*what was written reads as another record: numbers, octet 224$
+the bit of an absent release is not counted:must answer: 0 0 [0-9]* [01] .* 0 0 0 0 0$
+a bit too many for an absent release:must answer: 0 [0-9]* 00[0-9a-f]*$
+a refused FACCH writing writes:^FAULT .*a refused call changed lent memory: octets, octet [0-9][0-9]*$
+the length of an identity is a range:must answer: 8 0 -$
+a first octet is not zero:must answer: 0 [0-9]* 00[0-9a-f]*$
+a FACCH writing leaves the last octet:must answer: 0 [0-9]* 00[0-9a-f]*2b$
+a FACCH writing is an octet too long:^FAULT .*a write behind what was lent: octets, octet [0-9][0-9]*$
 an event has an upper bit:must answer: 0 0 
 a reading is another:must answer: 0 0 4 
 a bit number is another:must answer: 2 [1-9]

@@ -62,7 +62,7 @@ static int all_zero(const uint64_t *numbers, size_t n)
 /* ---- One receiver, in octets that held anything before ---- */
 
 /* docs/STATE.md: where the blocks begin; places of a subscription, three for each. */
-enum { NLN = 16, KEPT = 17, BIT_22 = 18, N_KEYS = 19, MARK = 20, KEYS = 24, SETS = 224, KINDS = 424, TICKS = 576, RECORDS = 1176, EXPIRED = 9576, COUNT = 9584, ENTRIES = 9592, RECORD = 56, ENTRY = 72 };
+enum { NLN = 16, KEPT = 17, BIT_22 = 18, N_KEYS = 19, MARK = 20, KEYS = 24, SETS = 224, KINDS = 424, TICKS = 576, RECORDS = 1176, EXPIRED = 9576, COUNT = 9584, PAGED = 9592, ENTRIES = 9608, RECORD = 56, ENTRY = 72 };
 enum { ON_NCH, ON_FACCH, ON_PCH, CHANNELS };
 #define PLACE(subscription, channel) (CHANNELS * (subscription) + (channel))
 #define KIND(subscription, channel) state[KINDS + PLACE(subscription, channel)]
@@ -187,6 +187,14 @@ static int follows(uint64_t told, uint64_t follow, uint64_t kept_count)
 #define FACCH_SECOND "040001267aa0aaaaaaaaab2b"                     /* the VGCS call, VSTK_RAND 555555555 */
 #define NOTHING "2b2b2b2b2b2b2b2b2b2b2b2b2b2b2b2b2b2b2b2b"
 
+/* Pages. Of the TMSI 12345678, in five octets, for a TCH/F, priority 3; of the same for an SDCCH with count 2, whose B22 was 0. Of the IMSI 262011234567890, in eight octets, for any channel, with a
+ * Paging Cause that says a mobile terminating call. Of an IMEISV in nine octets, with every part there is: for a TCH/H or TCH/F, priority 7, count 2 with B22, VSTK_RAND 123456789,
+ * uplink 1, emergency, a short message. */
+#define PAGE_TMSI "0482fa091a2b3c572b"
+#define PAGE_COUNT_2 "0482fa091a2b3c262b"
+#define PAGE_IMSI "048414930810a1b2c3848fab"
+#define PAGE_WHOLE "048499ab80810182028303fed891a2b3c4df2b2b2b2b2b"
+
 /* The same calls in one piece, VSTK_RAND 1 on the NCH and 555555555 on the FACCH; on the FACCH with count 2, whose B22 was 0 or 1; and an NCH message of a count alone. */
 #define YARD_PIECE "b00024cea385209192800000000b2b2b2b2b2b2b"
 #define YARD_PIECE_KEY_5 "b00024cea585209192800000000b2b2b2b2b2b2b" /* with key number 5 */
@@ -209,11 +217,11 @@ static const struct asternhaken_pch_entry strange = { 1630, 0, 0, 0, 0, 0, 0, 0,
 #define FACCH_WHOLE "045f5e0ffffe2c7fff8000000000000001ec48d159e253"
 #define FACCH_CAUSED "045f5e0ffffe2c7fff8000000000000001ec48d159e257"
 
-static const uint64_t nch_parts[37] = {
+static const uint64_t nch_parts[ASTERNHAKEN_PARTS] = {
     0, 0, 1, 199999999, ASTERNHAKEN_TOLD_ONE_PIECE, 99999999, 0x71f3c5, 0x5a, 0xfedcba987,
     1, 1, 1, 1, 1, 0, 1, 0, 1, 1, 1, 0, 1, 1, 1, 1, 1, 1, 1, 1, 7, 15, 1, 3, 5, 11, ASTERNHAKEN_FOLLOW_WITH_COUNT, 3
 };
-static const uint64_t facch_parts[37] = {
+static const uint64_t facch_parts[ASTERNHAKEN_PARTS] = {
     0, 0, 1, 199999999, ASTERNHAKEN_TOLD_ONE_PIECE, 99999999, 0x8b1fff, 0x8000000000000001, 0x123456789,
     1, 1, 1, 1, 1, 1, 0, 0, 1, 1, 1, 1, 1, 1, 0, 0, 0, 0, 0, 0, 7, 15, 0, 2, 0, 0, ASTERNHAKEN_FOLLOW_WITH_COUNT, 2
 };
@@ -221,9 +229,13 @@ static const uint64_t facch_parts[37] = {
 static const struct asternhaken_pch_entry pch_whole = {
     199999999, 1, 1, (uint64_t)199999999 << 8 | 0xff, 1, 0x8b1fff, 1, 1, 0, 0x8000000000000001, 1, 0x123456789, 1, 3
 };
-static const uint64_t pch_parts[37] = {
+static const uint64_t pch_parts[ASTERNHAKEN_PARTS] = {
     0, 0, 1, 199999999, ASTERNHAKEN_TOLD_ONE_PIECE, 99999999, 0x8b1fff, 0x8000000000000001, 0x123456789,
     1, 1, 1, 1, 1, 1, 0, 0, 1, 0, 1, 0, 0, 0, 0, 0, 0, 0, 0, 0, 7, 15, 0, 3, 0, 0, ASTERNHAKEN_FOLLOW_WITH_COUNT, 3
+};
+
+static const uint64_t page_parts[ASTERNHAKEN_PARTS] = {
+    0, 0, 0, 0, 0, 0, 0, 0, 0, 0, 0, 0, 0, 0, 0, 0, 0, 0, 0, 0, 0, 0, 0, 0, 0, 0, 0, 0, 0, 0, 0, 0, 0, 0, 0, 0, 0, 1, 9, 0x33, 0x5701020304050607, 3, 1, 7, 1, 1
 };
 
 /* ---- Setup: limits and refusals ---- */
@@ -348,10 +360,10 @@ static void lengths(void)
 {
     fresh(1000);
     ACCEPTED(nch(1000, YARD_FIRST));
-    CHECK(ASTERNHAKEN_STATE_LENGTH == 10240);
-    wrong_length(10239);
-    wrong_length(10241);
-    wrong_length(10040); /* that of the version before */
+    CHECK(ASTERNHAKEN_STATE_LENGTH == 10256);
+    wrong_length(10255);
+    wrong_length(10257);
+    wrong_length(10240); /* that of the version before */
     wrong_length(0);
     CHECK(answers(0, 0, 1));
 }
@@ -467,7 +479,14 @@ static void refusals(void)
     REFUSED(nch(1001, "4000933a8e14a2462b2b2b2b2b2b2b2b2b2b2b2b"), ASTERNHAKEN_REFUSED_HOPPING); /* channel 0a5123, not hopping */
     REFUSED(nch(1001, "4000933a80912b2b2b2b2b2b2b2b2b2b2b2b2b2b"), ASTERNHAKEN_REFUSED_RANDOM_ENTRIES); /* one, and the call is clear */
     REFUSED(nch(1001, "4000933a80702b2b2b2b2b2b2b2b2b2b2b2b2b2b"), ASTERNHAKEN_REFUSED_EMERGENCY_MARKS); /* one, and no channel */
-    REFUSED(facch(1001, "0480"), ASTERNHAKEN_REFUSED_PAGING);
+    REFUSED(facch(1001, "048000"), ASTERNHAKEN_REFUSED_IDENTITY_LENGTH); /* no octets, ten, and 255; the length octet is cut, then the identity, then what stands behind it */
+    REFUSED(facch(1001, "0485002b2b2b2b2b2b2b2b2b2b2b2b2b2b2b2b2b2b2b2b"), ASTERNHAKEN_REFUSED_IDENTITY_LENGTH);
+    REFUSED(facch(1001, "04ffff"), ASTERNHAKEN_REFUSED_IDENTITY_LENGTH);
+    REFUSED(facch(1001, "0480"), ASTERNHAKEN_REFUSED_RAN_OUT | 9 << 8);
+    REFUSED(facch(1001, "0482fa091a2b"), ASTERNHAKEN_REFUSED_RAN_OUT | 17 << 8);
+    REFUSED(facch(1001, "0482fa091a2b3c"), ASTERNHAKEN_REFUSED_RAN_OUT | 17 << 8);
+    REFUSED(facch(1001, "0480fa"), ASTERNHAKEN_REFUSED_RAN_OUT | 17 << 8);
+    REFUSED(facch(1001, "048499ab80810182028303fe"), ASTERNHAKEN_REFUSED_RAN_OUT_6 | 96 << 8);
     REFUSED(nch(999, ""), ASTERNHAKEN_REFUSED_CLOCK);
     REFUSED(facch(999, ""), ASTERNHAKEN_REFUSED_CLOCK);
     REFUSED(asternhaken_joined(state, LENGTH, 999, UINT32_MAX), ASTERNHAKEN_REFUSED_CLOCK);
@@ -679,12 +698,126 @@ static void following(void)
     REFUSED(asternhaken_tick(state, LENGTH, 5999), ASTERNHAKEN_REFUSED_CLOCK);
 }
 
+/* ---- Who is paged ---- */
+
+static int pages(uint64_t there, uint64_t octets, uint64_t first, uint64_t rest, uint64_t channel_first, uint64_t priority_given, uint64_t priority, uint64_t cause_given, uint64_t cause)
+{
+    const struct asternhaken_paged due = { there, { octets, first, rest, channel_first, priority_given, priority }, cause_given, cause };
+    struct asternhaken_paged *all = (struct asternhaken_paged *)lent(sizeof *all);
+    memset(all, 0xff, sizeof *all);
+    int same_by_name = asternhaken_paged_get(state, LENGTH, all) == ASTERNHAKEN_ACCEPTED && !memcmp(all, &due, sizeof due);
+    free(all);
+    const uint64_t parts_of[ASTERNHAKEN_PAGED_NUMBERS] = { there, octets, first, rest, channel_first, priority_given, priority, cause_given, cause };
+    for (uint32_t i = 0; i < ASTERNHAKEN_PAGED_NUMBERS; i++) /* whatever the entry */
+        if (part(0, ASTERNHAKEN_PART_PAGED + i) != parts_of[i] || part(UINT32_MAX - i, ASTERNHAKEN_PART_PAGED + i) != parts_of[i]) return 0;
+    return same_by_name;
+}
+
+static int pages_nobody(void)
+{
+    return pages(0, 0, 0, 0, 0, 0, 0, 0, 0);
+}
+
+static int pages_tmsi(void)
+{
+    return pages(1, 5, 0xf4, 0x12345678, ASTERNHAKEN_CHANNEL_FIRST_TCH_F, 1, 3, 0, 0);
+}
+
+static uint32_t paged_tmsi(uint32_t tick)
+{
+    uint32_t result = facch(tick, PAGE_TMSI);
+    CHECK(result != ASTERNHAKEN_ACCEPTED || pages_tmsi());
+    return result;
+}
+
+static void paging(void)
+{
+    const uint32_t no_key = UINT32_MAX;
+    fresh(1000);
+    CHECK(pages_nobody());
+    ACCEPTED(paged_tmsi(1001));
+    CHECK(answers(0, 0, 0) && tells(0, 0, 0));
+    ACCEPTED(facch(1002, PAGE_IMSI)); /* a cause that is there and 0 */
+    CHECK(answers(0, 0, 0) && pages(1, 8, 0x29, 0x26102143658709, ASTERNHAKEN_CHANNEL_FIRST_ANY, 0, 0, 1, ASTERNHAKEN_PAGED_FOR_CALL));
+    ACCEPTED(facch(1003, PAGE_WHOLE));
+    CHECK(pages(1, 9, 0x33, 0x5701020304050607, ASTERNHAKEN_CHANNEL_FIRST_TCH_H_OR_F, 1, 7, 1, ASTERNHAKEN_PAGED_FOR_SHORT_MESSAGE));
+    ACCEPTED(facch(1004, "ff80fa2b")); /* one octet, SDCCH */
+    CHECK(pages(1, 1, 0xf4, 0, ASTERNHAKEN_CHANNEL_FIRST_SDCCH, 0, 0, 0, 0));
+
+    /* a refused event or setup leaves it; every accepted one that pages nobody ends it */
+    ACCEPTED(paged_tmsi(1005));
+    REFUSED(facch(1004, PAGE_IMSI), ASTERNHAKEN_REFUSED_CLOCK);
+    REFUSED(facch(1005, "048000"), ASTERNHAKEN_REFUSED_IDENTITY_LENGTH);
+    REFUSED(nch(1005, ""), ASTERNHAKEN_REFUSED_MESSAGE_LENGTH);
+    REFUSED(set_up(&no_key, 1, 5, 5000, 5000, 5000), ASTERNHAKEN_REFUSED_SETUP);
+    CHECK(pages_tmsi());
+    ACCEPTED(facch(1005, FACCH_FIRST)); /* of the dispatcher's call, and held on */
+    CHECK(answers(0, 0, 1) && pages_nobody());
+    ACCEPTED(paged_tmsi(1005)), ACCEPTED(nch(1005, YARD_FIRST));
+    CHECK(answers(0, 0, 1) && pages_nobody());
+    ACCEPTED(paged_tmsi(1005)), ACCEPTED(pch(1005, &yard_first));
+    CHECK(pages_nobody());
+    ACCEPTED(paged_tmsi(1005)), ACCEPTED(bit_22(1005, 0));
+    CHECK(pages_nobody());
+    ACCEPTED(paged_tmsi(1005)), ACCEPTED(asternhaken_tick(state, LENGTH, 1005));
+    CHECK(pages_nobody());
+
+    /* a page touches no half, but is an event: what ran out is gone, and its count is taken */
+    ACCEPTED(paged_tmsi(1006));
+    CHECK(answers(0, 0, 0) && KIND(0, ON_NCH) == 1 && KIND(1, ON_FACCH) == 1 && KIND(0, ON_PCH) == 1);
+    ACCEPTED(facch(1007, PAGE_COUNT_2)); /* bit 22 is 0 since 1005 */
+    CHECK(pages(1, 5, 0xf4, 0x12345678, ASTERNHAKEN_CHANNEL_FIRST_SDCCH, 0, 0, 0, 0));
+    ACCEPTED(facch(1008, FACCH_SECOND));
+    CHECK(follows(ASTERNHAKEN_TOLD_JOINED, ASTERNHAKEN_FOLLOW_WITH_COUNT, 2) && pages_nobody());
+    ACCEPTED(facch(1009, PAGE_WHOLE)); /* count 2, whose B22 was 1: it is 3 now */
+    ACCEPTED(nch(1010, YARD_SECOND));
+    CHECK(follows(ASTERNHAKEN_TOLD_JOINED, ASTERNHAKEN_FOLLOW_WITH_COUNT, 3));
+    ACCEPTED(facch(1005 + ASTERNHAKEN_T3210 - 1, PAGE_TMSI));
+    CHECK(answers(0, 0, 0) && pages_tmsi());
+    ACCEPTED(facch(1005 + ASTERNHAKEN_T3210, PAGE_TMSI));
+    CHECK(answers(1, 0, 0) && pages_tmsi() && KIND(0, ON_PCH) == 0);
+    REFUSED(asternhaken_tick(state, LENGTH, 1005 + ASTERNHAKEN_T3210 - 1), ASTERNHAKEN_REFUSED_CLOCK);
+    ACCEPTED(asternhaken_reselected(state, LENGTH, 9000));
+    CHECK(pages_nobody());
+    ACCEPTED(paged_tmsi(9000)), ACCEPTED(asternhaken_handed_over(state, LENGTH, 9000));
+    CHECK(pages_nobody());
+    ACCEPTED(paged_tmsi(9000)), ACCEPTED(asternhaken_reconfigured(state, LENGTH, 9000));
+    CHECK(pages_nobody());
+    ACCEPTED(paged_tmsi(9000)), ACCEPTED(asternhaken_left_idle(state, LENGTH, 9000));
+    CHECK(pages_nobody());
+    ACCEPTED(paged_tmsi(9000)), ACCEPTED(asternhaken_joined(state, LENGTH, 9000, YARD));
+    CHECK(pages_nobody());
+    ACCEPTED(paged_tmsi(9000));
+    fresh(1);
+    CHECK(pages_nobody());
+}
+
+/* The octets of an identity, one by one. */
+static void identities(void)
+{
+    const struct asternhaken_page tmsi = { 5, 0xf4, 0x12345678, 0, 0, 0 }, longest = { 9, 0x33, 0x5701020304050607, 0, 0, 0 }, one = { 1, 0xf4, 0, 0, 0, 0 };
+    static const uint32_t of_tmsi[5] = { 0xf4, 0x12, 0x34, 0x56, 0x78 }, of_longest[9] = { 0x33, 0x57, 1, 2, 3, 4, 5, 6, 7 };
+    for (uint32_t i = 0; i < 12; i++) {
+        CHECK(asternhaken_identity_octet(&tmsi, i) == (i < 5 ? of_tmsi[i] : 0));
+        CHECK(asternhaken_identity_octet(&longest, i) == (i < 9 ? of_longest[i] : 0));
+        CHECK(asternhaken_identity_octet(&one, i) == (i < 1 ? 0xf4 : 0));
+    }
+    for (uint64_t n = 0; n < 3; n++) { /* lengths that no page has */
+        const struct asternhaken_page wrong = { n ? n * 9 + 1 : 0, 0xf4, UINT64_MAX, 0, 0, 0 };
+        for (uint32_t i = 0; i < 22; i++) CHECK(asternhaken_identity_octet(&wrong, i) == 0);
+    }
+    CHECK(asternhaken_identity_octet(&tmsi, UINT32_MAX) == 0);
+    CHECK(ASTERNHAKEN_IDENTITY_KIND(tmsi.identity_first) == ASTERNHAKEN_IDENTITY_TMSI && ASTERNHAKEN_IDENTITY_KIND(0x29) == ASTERNHAKEN_IDENTITY_IMSI);
+    CHECK(ASTERNHAKEN_IDENTITY_KIND(longest.identity_first) == ASTERNHAKEN_IDENTITY_IMEISV && ASTERNHAKEN_IDENTITY_KIND(0xfa) == ASTERNHAKEN_IDENTITY_IMEI);
+    CHECK(ASTERNHAKEN_IDENTITY_KIND(0xf0) == ASTERNHAKEN_IDENTITY_NONE && ASTERNHAKEN_IDENTITY_LONGEST == 9);
+}
+
 /* ---- Parts of an answer ---- */
 
 static int no_parts(uint32_t entry, uint32_t from)
 {
     int there = 0;
-    for (uint32_t p = from; p < 40; p++) there += part(entry, p) != 0;
+    for (uint32_t p = from; p < ASTERNHAKEN_PARTS + 3; p++) there += part(entry, p) != 0;
     return !there;
 }
 
@@ -702,11 +835,15 @@ static void parts(void)
     for (uint32_t p = 0; p < ASTERNHAKEN_PARTS; p++) CHECK(part(0, p) == facch_parts[p]);
     ACCEPTED(pch(8, &pch_whole));
     for (uint32_t p = 0; p < ASTERNHAKEN_PARTS; p++) CHECK(part(0, p) == pch_parts[p]);
+    ACCEPTED(facch(9, PAGE_WHOLE));
+    for (uint32_t p = 0; p < ASTERNHAKEN_PARTS; p++) CHECK(part(0, p) == page_parts[p]);
+    CHECK(part(0, ASTERNHAKEN_PARTS) == 0 && part(9, ASTERNHAKEN_PARTS - 1) == 1);
 }
 
 /* Each member of a struct stands where the array of numbers has it. */
 #define AT(type, member, place) CHECK(offsetof(struct asternhaken_##type, member) == (size_t)(place) * sizeof(uint64_t))
 #define RECORD_AT(member, PART) AT(record, member, ASTERNHAKEN_PART_##PART - ASTERNHAKEN_PART_CALL_REFERENCE)
+#define PAGE_AT(member, PART) AT(page, member, ASTERNHAKEN_PART_##PART - ASTERNHAKEN_PART_IDENTITY_OCTETS)
 #define PCH_AT(member, NUMBER) AT(pch_entry, member, ASTERNHAKEN_PCH_##NUMBER)
 
 static void members(void)
@@ -719,8 +856,12 @@ static void members(void)
     RECORD_AT(sms_given, SMS_GIVEN), RECORD_AT(sms_confidentiality, SMS_CONFIDENTIALITY), RECORD_AT(sms_privacy, SMS_PRIVACY), RECORD_AT(priority, PRIORITY);
     RECORD_AT(cipher_key_number, CIPHER_KEY_NUMBER), RECORD_AT(allocation_octets, ALLOCATION_OCTETS), RECORD_AT(cell_global_count, CELL_GLOBAL_COUNT);
     RECORD_AT(fr_amr_config, FR_AMR_CONFIG), RECORD_AT(hr_amr_config, HR_AMR_CONFIG);
-    CHECK(ASTERNHAKEN_RECORD_NUMBERS == ASTERNHAKEN_PART_HR_AMR_CONFIG + 1 - ASTERNHAKEN_PART_CALL_REFERENCE && ASTERNHAKEN_PARTS == ASTERNHAKEN_PART_KEPT_COUNT + 1);
-    CHECK(ASTERNHAKEN_ENTRY_NUMBERS == ASTERNHAKEN_PARTS - ASTERNHAKEN_PART_KEY && ASTERNHAKEN_HELD_NUMBERS == 4 + ASTERNHAKEN_RECORD_NUMBERS);
+    CHECK(ASTERNHAKEN_RECORD_NUMBERS == ASTERNHAKEN_PART_HR_AMR_CONFIG + 1 - ASTERNHAKEN_PART_CALL_REFERENCE && ASTERNHAKEN_PARTS == ASTERNHAKEN_PART_PAGING_CAUSE + 1);
+    CHECK(ASTERNHAKEN_ENTRY_NUMBERS == ASTERNHAKEN_PART_KEPT_COUNT + 1 - ASTERNHAKEN_PART_KEY && ASTERNHAKEN_HELD_NUMBERS == 4 + ASTERNHAKEN_RECORD_NUMBERS);
+    CHECK(ASTERNHAKEN_PAGED_NUMBERS == ASTERNHAKEN_PARTS - ASTERNHAKEN_PART_PAGED && ASTERNHAKEN_PAGE_NUMBERS == ASTERNHAKEN_PART_EMLPP_PRIORITY + 1 - ASTERNHAKEN_PART_IDENTITY_OCTETS);
+    AT(paged, paged, 0), AT(paged, page, ASTERNHAKEN_PART_IDENTITY_OCTETS - ASTERNHAKEN_PART_PAGED), PAGE_AT(identity_octets, IDENTITY_OCTETS), PAGE_AT(identity_first, IDENTITY_FIRST);
+    PAGE_AT(identity_rest, IDENTITY_REST), PAGE_AT(channel_first, CHANNEL_FIRST), PAGE_AT(emlpp_priority_given, EMLPP_PRIORITY_GIVEN), PAGE_AT(emlpp_priority, EMLPP_PRIORITY);
+    AT(paged, paging_cause_given, ASTERNHAKEN_PART_PAGING_CAUSE_GIVEN - ASTERNHAKEN_PART_PAGED), AT(paged, paging_cause, ASTERNHAKEN_PART_PAGING_CAUSE - ASTERNHAKEN_PART_PAGED);
     AT(entry, key, ASTERNHAKEN_PART_KEY - ASTERNHAKEN_PART_KEY), AT(entry, told, ASTERNHAKEN_PART_TOLD - ASTERNHAKEN_PART_KEY);
     AT(entry, record, ASTERNHAKEN_PART_CALL_REFERENCE - ASTERNHAKEN_PART_KEY);
     AT(entry, follow, ASTERNHAKEN_PART_FOLLOW - ASTERNHAKEN_PART_KEY), AT(entry, kept_count, ASTERNHAKEN_PART_KEPT_COUNT - ASTERNHAKEN_PART_KEY);
@@ -741,9 +882,9 @@ static void members(void)
     AT(call, call_reference, 0), AT(call, vgcs, 1), AT(call, acknowledged, 2), AT(call, priority, 3), AT(call, cipher_key_number, 4), AT(call, channel_given, 5);
     AT(call, channel, 6), AT(call, hops, 7), AT(call, short_list, 8), AT(call, allocation_octets, 9), AT(call, frequencies, 10);
     AT(reduced, call_reference, 0), AT(reduced, vgcs, 1), AT(random, segment_id, 0), AT(random, rand_given, 1), AT(random, vstk_rand, 2);
-    AT(facch_message, used, 0), AT(facch_message, call, 1), AT(facch_message, release_6_given, 12), AT(facch_message, count_given, 13);
-    AT(facch_message, cell_global_count, 14), AT(facch_message, b22_count, 15), AT(facch_message, rand_given, 16), AT(facch_message, vstk_rand, 17);
-    AT(facch_message, release_7_given, 18), AT(facch_message, uplink_access, 19), AT(facch_message, emergency, 20), AT(facch_message, paging_cause_given, 21);
+    AT(facch_message, used, 0), AT(facch_message, paging, 1), AT(facch_message, call, 2), AT(facch_message, page, 13), AT(facch_message, release_6_given, 19);
+    AT(facch_message, count_given, 20), AT(facch_message, cell_global_count, 21), AT(facch_message, b22_count, 22), AT(facch_message, rand_given, 23), AT(facch_message, vstk_rand, 24);
+    AT(facch_message, release_7_given, 25), AT(facch_message, uplink_access, 26), AT(facch_message, emergency, 27), AT(facch_message, paging_cause_given, 28), AT(facch_message, paging_cause, 29);
     AT(message_type, send_sequence_number, 0), AT(message_type, message_type, 1);
     AT(call_reference, call_reference, 0), AT(call_reference, priority_given, 1), AT(call_reference, priority, 2);
     AT(state_attributes, da, 0), AT(state_attributes, ua, 1), AT(state_attributes, comm, 2), AT(state_attributes, oi, 3), AT(sms, dc, 0), AT(sms, gp, 1);
@@ -819,7 +960,7 @@ static void octets(void)
     /* what no event looks at stays as it is: the unused octets, the mark, the answer's entries from the second on */
     leave(MARK, KEYS - MARK, 0xa1);
     leave(KINDS + 150, TICKS - KINDS - 150, 0xa2);
-    leave(COUNT + 4, ENTRIES - COUNT - 4, 0xa3);
+    leave(COUNT + 4, PAGED - COUNT - 4, 0xa3);
     leave(ENTRIES + 11, 5, 0xa4);
     leave(ENTRIES + ENTRY, 8 * ENTRY, 0xa5);
 
@@ -869,6 +1010,20 @@ static void octets(void)
     layout[KINDS + on_pch] = 0;
     clear(TICKS + 4 * on_pch, 4);
     clear(at, RECORD);
+    LAID_OUT();
+
+    /* who is paged, over octets that held anything: there, length, first octet, channel first, priority there, priority, cause there, cause, the other octets; then nobody */
+    memset(state + PAGED, 0xa6, ENTRIES - PAGED);
+    ACCEPTED(facch(0x01020306, PAGE_TMSI));
+    static const uint8_t of_tmsi[16] = { 1, 5, 0xf4, 2, 1, 3, 0, 0, 0x78, 0x56, 0x34, 0x12, 0, 0, 0, 0 }, of_whole[16] = { 1, 9, 0x33, 3, 1, 7, 1, 1, 7, 6, 5, 4, 3, 2, 1, 0x57 };
+    put_answer(0x01020306, 0, 0, 0);
+    memcpy(layout + PAGED, of_tmsi, sizeof of_tmsi);
+    LAID_OUT();
+    ACCEPTED(facch(0x01020306, PAGE_WHOLE)); /* its count is not taken, since bit 22 is not known */
+    memcpy(layout + PAGED, of_whole, sizeof of_whole);
+    LAID_OUT();
+    ACCEPTED(asternhaken_tick(state, LENGTH, 0x01020306));
+    clear(PAGED, ENTRIES - PAGED);
     LAID_OUT();
 
     /* bit 22, and the kept count that it raises */
@@ -928,7 +1083,7 @@ static void octets(void)
 /* Octets that no setup left are answered by the same tables. */
 static void made_by_hand(void)
 {
-    uint64_t parts_of[37] = { 7, 0x01020304, 1, 0x0102030405060708, 3, 0xfffffffe, 0x11223344, 0x1122334455667788, 0x99aabbccddeeff00 };
+    uint64_t parts_of[ASTERNHAKEN_PARTS] = { 7, 0x01020304, 1, 0x0102030405060708, 3, 0xfffffffe, 0x11223344, 0x1122334455667788, 0x99aabbccddeeff00 };
     const size_t record = ENTRIES + 16;
     memset(layout, 0xee, LENGTH);
     put_answer(0, 7, 0x01020304, 1);
@@ -941,6 +1096,10 @@ static void made_by_hand(void)
     for (size_t i = 0; i < 6; i++) layout[record + 44 + i] = (uint8_t)(100 + i), parts_of[29 + i] = 100 + i;
     layout[ENTRIES + 9] = 0x77;
     parts_of[ASTERNHAKEN_PART_FOLLOW] = 0x77, parts_of[ASTERNHAKEN_PART_KEPT_COUNT] = 0xee;
+    for (uint8_t i = 0; i < 16; i++) layout[PAGED + i] = (uint8_t)(0xf0 + i);
+    parts_of[ASTERNHAKEN_PART_PAGED] = parts_of[ASTERNHAKEN_PART_EMLPP_PRIORITY_GIVEN] = parts_of[ASTERNHAKEN_PART_PAGING_CAUSE_GIVEN] = parts_of[ASTERNHAKEN_PART_PAGING_CAUSE] = 1;
+    parts_of[ASTERNHAKEN_PART_IDENTITY_OCTETS] = 0xf1, parts_of[ASTERNHAKEN_PART_IDENTITY_FIRST] = 0xf2, parts_of[ASTERNHAKEN_PART_IDENTITY_REST] = 0xfffefdfcfbfaf9f8;
+    parts_of[ASTERNHAKEN_PART_CHANNEL_FIRST] = 0xf3, parts_of[ASTERNHAKEN_PART_EMLPP_PRIORITY] = 0xf5;
     memcpy(state, layout, LENGTH);
     for (uint32_t p = 0; p < ASTERNHAKEN_PARTS; p++) CHECK(part(0, p) == parts_of[p]);
     for (uint32_t i = 0; i < 20; i++) { /* each flag alone is 0 */
@@ -948,6 +1107,15 @@ static void made_by_hand(void)
         CHECK(part(0, 9 + i) == 0 && part(0, 9 + (i + 1) % 20) == 1 && part(0, 9 + (i + 19) % 20) == 1);
         state[record + 24 + i] = 1;
     }
+    CHECK(pages(1, 0xf1, 0xf2, 0xfffefdfcfbfaf9f8, 0xf3, 1, 0xf5, 1, 1));
+    state[PAGED] = 0; /* what stands behind it is read as it stands */
+    CHECK(pages(0, 0xf1, 0xf2, 0xfffefdfcfbfaf9f8, 0xf3, 1, 0xf5, 1, 1));
+    state[PAGED + 4] = 0;
+    CHECK(pages(0, 0xf1, 0xf2, 0xfffefdfcfbfaf9f8, 0xf3, 0, 0xf5, 1, 1));
+    state[PAGED + 6] = 0;
+    CHECK(pages(0, 0xf1, 0xf2, 0xfffefdfcfbfaf9f8, 0xf3, 0, 0xf5, 0, 1));
+    memset(state + PAGED, 0, ENTRIES - PAGED);
+    CHECK(pages_nobody());
     state[ENTRIES + 8] = 4; /* told 4 has no record; what stands beside it is read as it stands */
     CHECK(follows(4, 0x77, 0xee));
     state[ENTRIES + 9] = state[ENTRIES + 10] = 0;
@@ -1106,21 +1274,140 @@ static void nch_writer(void)
 
 static void facch_reader(void)
 {
-    static const uint64_t whole[22] = { 182, 99999999, 1, 1, 7, 15, 1, 0x8b1fff, 1, 1, 0, 0x8000000000000001, 1, 1, 2, 1, 1, 0x123456789, 1, 1, 1, 0 };
-    uint64_t *numbers = (uint64_t *)lent(24 * 8);
-    ACCEPTED(read_facch(FACCH_WHOLE, numbers, 24));
-    CHECK(!memcmp(numbers, whole, sizeof whole) && all_zero(numbers + 22, 2));
-    CHECK(ASTERNHAKEN_FACCH_NUMBERS == 22 && ASTERNHAKEN_FACCH_USED == 0);
-    ACCEPTED(read_facch(FACCH_CAUSED, numbers, 24));
-    CHECK(numbers[21] == 1 && numbers[ASTERNHAKEN_FACCH_USED] == 183);
-    ACCEPTED(read_facch("040000001004004002080102030405060708", numbers, 24)); /* an allocation of eight octets */
-    CHECK(numbers[1] == 1 && numbers[10] == 8 && numbers[11] == 0x0102030405060708 && numbers[0] == 144);
-    CHECK(read_facch("0480", numbers, 24) == ASTERNHAKEN_REFUSED_PAGING && all_zero(numbers, 24));
-    CHECK(read_facch("04", numbers, 24) == ASTERNHAKEN_REFUSED_MESSAGE_LENGTH && all_zero(numbers, 24));
+    static const uint64_t whole[30] = { 182, 0, 99999999, 1, 1, 7, 15, 1, 0x8b1fff, 1, 1, 0, 0x8000000000000001, 0, 0, 0, 0, 0, 0, 1, 1, 2, 1, 1, 0x123456789, 1, 1, 1, 0, 0 };
+    static const uint64_t page[30] = { 142, 1, 0, 0, 0, 0, 0, 0, 0, 0, 0, 0, 0, 9, 0x33, 0x5701020304050607, 3, 1, 7, 1, 1, 2, 1, 1, 0x123456789, 1, 1, 1, 1, 1 };
+    static const uint64_t tmsi[30] = { 65, 1, 0, 0, 0, 0, 0, 0, 0, 0, 0, 0, 0, 5, 0xf4, 0x12345678, 2, 1, 3, 0 };
+    uint64_t *numbers = (uint64_t *)lent(32 * 8);
+    ACCEPTED(read_facch(FACCH_WHOLE, numbers, 32));
+    CHECK(!memcmp(numbers, whole, sizeof whole) && all_zero(numbers + 30, 2));
+    CHECK(ASTERNHAKEN_FACCH_NUMBERS == 30 && ASTERNHAKEN_FACCH_USED == 0);
+    ACCEPTED(read_facch(FACCH_CAUSED, numbers, 32)); /* a call's Paging Cause is kept */
+    CHECK(numbers[28] == 1 && numbers[29] == 1 && numbers[ASTERNHAKEN_FACCH_USED] == 183);
+    ACCEPTED(read_facch("040000001004004002080102030405060708", numbers, 32)); /* an allocation of eight octets */
+    CHECK(numbers[2] == 1 && numbers[11] == 8 && numbers[12] == 0x0102030405060708 && numbers[0] == 144);
+    ACCEPTED(read_facch(PAGE_WHOLE, numbers, 32));
+    CHECK(!memcmp(numbers, page, sizeof page) && all_zero(numbers + 30, 2));
+    ACCEPTED(read_facch(PAGE_TMSI, numbers, 32));
+    CHECK(!memcmp(numbers, tmsi, sizeof tmsi));
+    ACCEPTED(read_facch("0482fa091a2b3c57", numbers, 32)); /* without its last octet: Release 7 is nothing */
+    CHECK(numbers[0] == 64 && !memcmp(numbers + 1, tmsi + 1, sizeof tmsi - 8));
+    ACCEPTED(read_facch(PAGE_IMSI, numbers, 32));
+    CHECK(numbers[0] == 90 && numbers[13] == 8 && numbers[14] == 0x29 && numbers[15] == 0x26102143658709 && all_zero(numbers + 16, 9) && numbers[25] == 1 && numbers[28] == 1 && numbers[29] == 0);
+    CHECK(read_facch("0480", numbers, 32) == (ASTERNHAKEN_REFUSED_RAN_OUT | 9 << 8) && all_zero(numbers, 32));
+    CHECK(read_facch("048000", numbers, 32) == ASTERNHAKEN_REFUSED_IDENTITY_LENGTH && all_zero(numbers, 32));
+    CHECK(read_facch("048500", numbers, 32) == ASTERNHAKEN_REFUSED_IDENTITY_LENGTH && all_zero(numbers, 32)); /* as soon as the length is in */
+    CHECK(read_facch("048480", numbers, 32) == (ASTERNHAKEN_REFUSED_RAN_OUT | 17 << 8) && all_zero(numbers, 32));
+    CHECK(read_facch("04", numbers, 32) == ASTERNHAKEN_REFUSED_MESSAGE_LENGTH && all_zero(numbers, 32));
     free(numbers);
-    numbers = (uint64_t *)lent(2 * 8);
-    ACCEPTED(read_facch(FACCH_WHOLE, numbers, 2));
-    CHECK(numbers[0] == 182 && numbers[1] == 99999999);
+    numbers = (uint64_t *)lent(3 * 8);
+    ACCEPTED(read_facch(FACCH_WHOLE, numbers, 3));
+    CHECK(numbers[0] == 182 && numbers[1] == 0 && numbers[2] == 99999999);
+    ACCEPTED(read_facch(PAGE_WHOLE, numbers, 3));
+    CHECK(numbers[0] == 142 && numbers[1] == 1 && numbers[2] == 0);
+    ACCEPTED(read_facch(PAGE_WHOLE, numbers, 0));
+    free(numbers);
+}
+
+/* As writes_nch, for a FACCH message in a buffer of so many octets. */
+static void writes_facch(const uint64_t *numbers, size_t at, uint64_t value, size_t n, uint32_t refusal, const char *hex)
+{
+    uint64_t *copy = (uint64_t *)lent(ASTERNHAKEN_FACCH_NUMBERS * 8);
+    uint8_t *written = (uint8_t *)lent(n), untouched[24];
+    memcpy(copy, numbers, ASTERNHAKEN_FACCH_NUMBERS * 8);
+    copy[at] = value;
+    memset(written, 0x5a, n), memset(untouched, 0x5a, sizeof untouched);
+    CHECK(asternhaken_facch_write(copy, ASTERNHAKEN_FACCH_NUMBERS, written, n) == refusal);
+    if (refusal == ASTERNHAKEN_ACCEPTED) CHECK(strlen(hex) == 2 * n && same(written, hex));
+    else CHECK(!memcmp(written, untouched, n));
+    CHECK(copy[at] == value);
+    free(copy), free(written);
+}
+
+#define PADDED_15 "2b2b2b2b2b2b2b2b2b2b2b2b2b2b2b"
+
+static void facch_writer(void)
+{
+    enum { USED = ASTERNHAKEN_FACCH_USED, RANGE = ASTERNHAKEN_REFUSED_RANGE, LAST = ASTERNHAKEN_FACCH_NUMBERS - 1 };
+    uint64_t *numbers = (uint64_t *)lent((ASTERNHAKEN_FACCH_NUMBERS + 1) * 8);
+    uint8_t octets23[23], untouched[23];
+
+    /* a call; the first octet is written as 0, whatever was read there */
+    ACCEPTED(read_facch(FACCH_CAUSED, numbers, ASTERNHAKEN_FACCH_NUMBERS + 1));
+    writes_facch(numbers, USED, 0, 23, ASTERNHAKEN_ACCEPTED, "00" "5f5e0ffffe2c7fff8000000000000001ec48d159e257");
+    writes_facch(numbers, USED, UINT64_MAX, 23, ASTERNHAKEN_ACCEPTED, "00" "5f5e0ffffe2c7fff8000000000000001ec48d159e257"); /* not looked at */
+    writes_facch(numbers, 1, 0, 22, ASTERNHAKEN_REFUSED_FORM_SIZE, "");
+    writes_facch(numbers, 1, 0, 24, ASTERNHAKEN_REFUSED_FORM_SIZE, "");
+    writes_facch(numbers, 1, 1, 23, RANGE, ""); /* a page with a call's numbers */
+    writes_facch(numbers, 1, 2, 23, RANGE, "");
+    writes_facch(numbers, 2, 134217728, 23, RANGE, "");
+    writes_facch(numbers, 2, 100000000, 23, ASTERNHAKEN_REFUSED_REFERENCE, "");
+    writes_facch(numbers, 8, 0x8b0fff, 23, ASTERNHAKEN_REFUSED_HOPPING, "");
+    for (size_t at = 13; at <= 18; at++) writes_facch(numbers, at, 1, 23, RANGE, ""); /* a call with a page's numbers */
+    for (size_t at = 1; at <= LAST; at++) writes_facch(numbers, at, UINT64_MAX, 23, at == 12 ? ASTERNHAKEN_ACCEPTED : ASTERNHAKEN_REFUSED_RANGE, "005f5e0ffffe2c7fffffffffffffffffffec48d159e257"); /* 64 bits of a short list */
+    numbers[10] = 0, numbers[11] = 9, numbers[12] = 0;
+    writes_facch(numbers, 1, 0, 23, ASTERNHAKEN_REFUSED_ALLOCATION_LENGTH, "");
+
+    /* a page */
+    ACCEPTED(read_facch(PAGE_WHOLE, numbers, ASTERNHAKEN_FACCH_NUMBERS + 1));
+    writes_facch(numbers, 1, 1, 23, ASTERNHAKEN_ACCEPTED, "008499ab80810182028303fed891a2b3c4df2b2b2b2b2b");
+    writes_facch(numbers, 1, 1, 18, ASTERNHAKEN_ACCEPTED, "008499ab80810182028303fed891a2b3c4df");
+    writes_facch(numbers, 1, 1, 17, ASTERNHAKEN_REFUSED_FORM_SIZE, "");
+    writes_facch(numbers, 1, 0, 23, RANGE, "");
+    for (size_t at = 2; at <= 12; at++) writes_facch(numbers, at, 1, 23, RANGE, ""); /* a page with a call's numbers */
+    for (size_t at = 1; at <= LAST; at++) writes_facch(numbers, at, UINT64_MAX, 23, at == 15 ? ASTERNHAKEN_ACCEPTED : ASTERNHAKEN_REFUSED_RANGE, "008499fffffffffffffffffed891a2b3c4df2b2b2b2b2b"); /* eight octets behind the first */
+    for (uint64_t length = 10; length < 256; length += 49) writes_facch(numbers, 13, length, 23, ASTERNHAKEN_REFUSED_IDENTITY_LENGTH, "");
+    writes_facch(numbers, 13, 255, 1, ASTERNHAKEN_REFUSED_IDENTITY_LENGTH, "");
+    writes_facch(numbers, 13, 256, 23, RANGE, "");
+    writes_facch(numbers, 13, 8, 23, RANGE, ""); /* nine octets, of which the first behind the first is not zero */
+    writes_facch(numbers, 13, 0, 23, RANGE, "");
+    writes_facch(numbers, 14, 256, 23, RANGE, "");
+    writes_facch(numbers, 16, 4, 23, RANGE, "");
+    writes_facch(numbers, 17, 0, 23, RANGE, ""); /* what is absent is not zero */
+    writes_facch(numbers, 18, 8, 23, RANGE, "");
+    writes_facch(numbers, 19, 0, 23, RANGE, "");
+    writes_facch(numbers, 20, 0, 23, RANGE, "");
+    writes_facch(numbers, 21, 4, 23, RANGE, "");
+    writes_facch(numbers, 22, 2, 23, RANGE, "");
+    writes_facch(numbers, 23, 0, 23, RANGE, "");
+    writes_facch(numbers, 24, (uint64_t)1 << 36, 23, RANGE, "");
+    writes_facch(numbers, 25, 0, 23, RANGE, "");
+    writes_facch(numbers, 28, 0, 23, RANGE, "");
+    writes_facch(numbers, 29, 2, 23, RANGE, "");
+    writes_facch(numbers, 29, 0, 18, ASTERNHAKEN_ACCEPTED, "008499ab80810182028303fed891a2b3c4db");
+
+    /* a release that is absent is nothing where the buffer is used up, else one bit */
+    ACCEPTED(read_facch(PAGE_TMSI, numbers, ASTERNHAKEN_FACCH_NUMBERS + 1));
+    for (size_t n = 0; n < 8; n++) writes_facch(numbers, 1, 1, n, ASTERNHAKEN_REFUSED_FORM_SIZE, "");
+    writes_facch(numbers, 1, 1, 8, ASTERNHAKEN_ACCEPTED, "0082fa091a2b3c57");
+    writes_facch(numbers, 1, 1, 9, ASTERNHAKEN_ACCEPTED, "0082fa091a2b3c572b");
+    writes_facch(numbers, 1, 1, 23, ASTERNHAKEN_ACCEPTED, "0082fa091a2b3c57" PADDED_15);
+    writes_facch(numbers, 1, 1, 24, ASTERNHAKEN_REFUSED_FORM_SIZE, "");
+    writes_facch(numbers, 25, 1, 8, ASTERNHAKEN_REFUSED_FORM_SIZE, ""); /* Release 7 does not fit */
+    writes_facch(numbers, 15, 0x12345678ff, 23, RANGE, "");
+    writes_facch(numbers, 13, 4, 23, RANGE, "");
+    writes_facch(numbers, 13, 6, 23, ASTERNHAKEN_ACCEPTED, "00837a00091a2b3c57" "2b2b2b2b2b2b2b2b2b2b2b2b2b2b"); /* a zero octet behind the first */
+    numbers[15] = 0;
+    writes_facch(numbers, 13, 0, 23, RANGE, ""); /* no octets, and the first is there */
+    writes_facch(numbers, 13, 1, 23, ASTERNHAKEN_ACCEPTED, "0080fa57" PADDED_15 "2b2b2b2b");
+    numbers[14] = 0;
+    writes_facch(numbers, 13, 0, 23, ASTERNHAKEN_REFUSED_IDENTITY_LENGTH, "");
+
+    /* the array's length goes before everything, then 12, 4, 3, 8, 5, 11 */
+    memset(octets23, 0x5a, 23), memset(untouched, 0x5a, 23);
+    numbers[16] = 4;
+    CHECK(asternhaken_facch_write(numbers, LAST, octets23, 23) == ASTERNHAKEN_REFUSED_LENGTH && !memcmp(octets23, untouched, 23));
+    CHECK(asternhaken_facch_write(numbers, LAST + 2, octets23, 23) == ASTERNHAKEN_REFUSED_LENGTH && !memcmp(octets23, untouched, 23));
+    CHECK(asternhaken_facch_write(numbers, 0, octets23, 0) == ASTERNHAKEN_REFUSED_LENGTH);
+    writes_facch(numbers, 13, 0, 24, RANGE, "");
+    numbers[16] = 0;
+    writes_facch(numbers, 13, 10, 24, ASTERNHAKEN_REFUSED_IDENTITY_LENGTH, "");
+    memset(numbers, 0, ASTERNHAKEN_FACCH_NUMBERS * 8);
+    numbers[7] = 1, numbers[9] = 1, numbers[11] = 9; /* hopping, with its bit not set, over nine octets */
+    writes_facch(numbers, 2, 100000000, 24, ASTERNHAKEN_REFUSED_REFERENCE, "");
+    writes_facch(numbers, 2, 1, 24, ASTERNHAKEN_REFUSED_ALLOCATION_LENGTH, "");
+    writes_facch(numbers, 11, 1, 24, ASTERNHAKEN_REFUSED_HOPPING, "");
+    numbers[11] = 1, numbers[8] = 0x1000;
+    writes_facch(numbers, 2, 1, 24, ASTERNHAKEN_REFUSED_FORM_SIZE, "");
     free(numbers);
 }
 
@@ -1347,12 +1634,24 @@ static void message_structs(void)
     ACCEPTED(asternhaken_facch_decode(octets, n, facch));
     CHECK(facch->used == 182 && facch->call.call_reference == 99999999 && facch->call.short_list == 1 && facch->call.frequencies == 0x8000000000000001);
     CHECK(facch->release_6_given == 1 && facch->count_given == 1 && facch->cell_global_count == 2 && facch->b22_count == 1 && facch->rand_given == 1 && facch->vstk_rand == 0x123456789);
-    CHECK(facch->release_7_given == 1 && facch->uplink_access == 1 && facch->emergency == 1 && facch->paging_cause_given == 0);
+    CHECK(facch->release_7_given == 1 && facch->uplink_access == 1 && facch->emergency == 1 && facch->paging_cause_given == 0 && facch->paging == 0 && facch->page.identity_octets == 0);
     octets[n - 1] = 0x57; /* FACCH_CAUSED */
     ACCEPTED(asternhaken_facch_decode(octets, n, facch));
-    CHECK(facch->used == 183 && facch->paging_cause_given == 1);
+    CHECK(facch->used == 183 && facch->paging_cause_given == 1 && facch->paging_cause == 1);
     CHECK(asternhaken_facch_decode(octets, 1, facch) == ASTERNHAKEN_REFUSED_MESSAGE_LENGTH && facch->used == 0 && facch->call.call_reference == 0);
-    free(octets), free(facch);
+    free(octets), octets = octets_of(PAGE_WHOLE, &n), written = (uint8_t *)lent(18);
+    ACCEPTED(asternhaken_facch_decode(octets, n, facch));
+    CHECK(facch->used == 142 && facch->paging == 1 && facch->call.call_reference == 0 && facch->page.identity_octets == 9 && facch->page.identity_first == 0x33);
+    CHECK(facch->page.identity_rest == 0x5701020304050607 && facch->page.channel_first == ASTERNHAKEN_CHANNEL_FIRST_TCH_H_OR_F && facch->page.emlpp_priority_given == 1 && facch->page.emlpp_priority == 7);
+    CHECK(facch->cell_global_count == 2 && facch->vstk_rand == 0x123456789 && facch->paging_cause_given == 1 && facch->paging_cause == ASTERNHAKEN_PAGED_FOR_SHORT_MESSAGE);
+    CHECK(asternhaken_identity_octet(&facch->page, 1) == 0x57 && asternhaken_identity_octet(&facch->page, 8) == 7);
+    memset(written, 0, 18);
+    facch->used = UINT64_MAX; /* not looked at */
+    ACCEPTED(asternhaken_facch_encode(facch, written, 18));
+    CHECK(same(written, "008499ab80810182028303fed891a2b3c4df") && facch->used == UINT64_MAX);
+    facch->page.identity_octets = 10;
+    CHECK(asternhaken_facch_encode(facch, written, 18) == ASTERNHAKEN_REFUSED_IDENTITY_LENGTH && same(written, "008499ab80810182028303fed891a2b3c4df"));
+    free(octets), free(facch), free(written);
 }
 
 static void half_octet_structs(void)
@@ -1469,7 +1768,20 @@ static void words(void)
     CHECK(strstr(asternhaken_refusal_sentence(ASTERNHAKEN_REFUSED_REFERENCE), "99,999,999") && strstr(asternhaken_refusal_sentence(ASTERNHAKEN_REFUSED_SETUP), "199,999,999"));
     CHECK(strstr(asternhaken_refusal_sentence(REFUSALS), "does not know") && strstr(asternhaken_told_sentence(TELLINGS), "does not know"));
     CHECK(strstr(asternhaken_told_sentence(ASTERNHAKEN_TOLD_NOT_OURS), "not subscribed") && strstr(asternhaken_told_sentence(ASTERNHAKEN_TOLD_JOINED), "joined"));
-    CHECK(ASTERNHAKEN_REFUSAL(0xffffff00u + ASTERNHAKEN_REFUSED_PAGING) == ASTERNHAKEN_REFUSED_PAGING);
+    CHECK(ASTERNHAKEN_REFUSAL(0xffffff00u + ASTERNHAKEN_REFUSED_CLOCK) == ASTERNHAKEN_REFUSED_CLOCK);
+    CHECK(!strcmp(asternhaken_refusal_word(ASTERNHAKEN_REFUSED_IDENTITY_LENGTH), "identity length"));
+
+    /* of a page */
+    enum { IDENTITIES = ASTERNHAKEN_IDENTITY_TMSI + 1, CHANNELS_FIRST = ASTERNHAKEN_CHANNEL_FIRST_TCH_H_OR_F + 1, CAUSES = ASTERNHAKEN_PAGED_FOR_SHORT_MESSAGE + 1 };
+    ALL_DIFFER(asternhaken_identity_word, IDENTITIES);
+    ALL_DIFFER(asternhaken_channel_first_word, CHANNELS_FIRST);
+    ALL_DIFFER(asternhaken_paging_cause_word, CAUSES);
+    CHECK(!strcmp(asternhaken_identity_word(ASTERNHAKEN_IDENTITY_IMSI), "IMSI") && !strcmp(asternhaken_identity_word(ASTERNHAKEN_IDENTITY_TMSI), "TMSI") && !strcmp(asternhaken_identity_word(7), "unknown"));
+    CHECK(!strcmp(asternhaken_identity_word(ASTERNHAKEN_IDENTITY_IMEI), "IMEI") && !strcmp(asternhaken_identity_word(ASTERNHAKEN_IDENTITY_IMEISV), "IMEISV"));
+    CHECK(!strcmp(asternhaken_channel_first_word(ASTERNHAKEN_CHANNEL_FIRST_ANY), "any channel") && !strcmp(asternhaken_channel_first_word(ASTERNHAKEN_CHANNEL_FIRST_SDCCH), "SDCCH"));
+    CHECK(!strcmp(asternhaken_channel_first_word(ASTERNHAKEN_CHANNEL_FIRST_TCH_F), "TCH/F") && !strcmp(asternhaken_channel_first_word(CHANNELS_FIRST), "unknown"));
+    CHECK(!strcmp(asternhaken_paging_cause_word(ASTERNHAKEN_PAGED_FOR_CALL), "mobile terminating call") && !strcmp(asternhaken_paging_cause_word(ASTERNHAKEN_PAGED_FOR_SHORT_MESSAGE), "short message"));
+    CHECK(!strcmp(asternhaken_paging_cause_word(((uint64_t)1 << 32) + ASTERNHAKEN_PAGED_FOR_CALL), "unknown"));
 }
 
 static void version(void)
@@ -1494,6 +1806,8 @@ int main(void)
     paging_channel();
     pch_refusals();
     following();
+    paging();
+    identities();
     parts();
     members();
     octets();
@@ -1501,6 +1815,7 @@ int main(void)
     nch_reader();
     nch_writer();
     facch_reader();
+    facch_writer();
     half_octets();
     call_references();
     dispatcher_digits();

@@ -87,14 +87,14 @@ ignored() {
 must_use() {
     set -- "$1" "$tmp/ignored.$2" 'asternhaken_setup(s, 1, k, 1, k, 1, 0, 1, 1, 1)' 'asternhaken_nch(s, 1, 0, s, 1)' 'asternhaken_facch(s, 1, 0, s, 1)' 'asternhaken_pch(s, 1, 0, v, 1)' \
         'asternhaken_joined(s, 1, 0, 1)' 'asternhaken_reselected(s, 1, 0)' 'asternhaken_handed_over(s, 1, 0)' 'asternhaken_reconfigured(s, 1, 0)' 'asternhaken_left_idle(s, 1, 0)' 'asternhaken_bit_22(s, 1, 0, 1)' \
-        'asternhaken_tick(s, 1, 0)' 'asternhaken_find(k, 1, 1, v, v + 1)' 'asternhaken_nch_read(s, 1, v, 1)' 'asternhaken_nch_write(v, 1, s, 1)' 'asternhaken_facch_read(s, 1, v, 1)' 'asternhaken_cause_decode(s, 1, c)' \
+        'asternhaken_tick(s, 1, 0)' 'asternhaken_find(k, 1, 1, v, v + 1)' 'asternhaken_nch_read(s, 1, v, 1)' 'asternhaken_nch_write(v, 1, s, 1)' 'asternhaken_facch_read(s, 1, v, 1)' 'asternhaken_facch_write(v, 1, s, 1)' 'asternhaken_cause_decode(s, 1, c)' \
         'asternhaken_cause_encode(c, s, 1)'
     by=$1 file=$2
     shift 2
     ignored "$@" > "$file"
     $by -Wall -Wextra -Wpedantic -Iinclude -c "$file" -o "$tmp/ignored.o" > "$tmp/warned" 2>&1
     [ "$(grep -c 'warning: .*\(unused-result\|nodiscard\)' "$tmp/warned")" = $# ] || { cat "$tmp/warned"; return 1; }
-    ignored 'asternhaken_read(s, 1, 0, 0, v)' 'asternhaken_entry_numbers(s, 1, 0, v, 1)' 'asternhaken_held_count(s, 1, v)' 'asternhaken_next_expiry(s, 1, v)' > "$file"
+    ignored 'asternhaken_read(s, 1, 0, 0, v)' 'asternhaken_entry_numbers(s, 1, 0, v, 1)' 'asternhaken_paged_numbers(s, 1, v, 1)' 'asternhaken_held_count(s, 1, v)' 'asternhaken_next_expiry(s, 1, v)' > "$file"
     $by $strict -Iinclude -c "$file" -o "$tmp/ignored.o"
 }
 # too_short COMPILER KIND: where a struct lacks a member, the header does not compile.
@@ -120,22 +120,23 @@ figures
 while read -r f; do holds "tests/stack.c does not call $f" grep -qw "$f" tests/stack.c; done < "$tmp/functions"
 cat "$tmp/inlines" "$tmp/functions" > "$tmp/called"
 while read -r f; do holds "neither tests/header.c nor tests/views.c calls $f" grep -qw "$f" tests/header.c tests/views.c; done < "$tmp/called"
-# names HEADER: refusals, told numbers, what is said of following and parts have their prefixes, and behind them no two have the same name; a flag that says whether something is there ends in _GIVEN.
+# names HEADER: refusals, told numbers, what is said of following, parts and the numbers of a page have their prefixes, and behind them no two have the same name; a flag that says whether something is there ends in _GIVEN.
 names() {
     sed -n 's/^    ASTERNHAKEN_\([A-Z0-9_]*\) = .*/\1/p' "$1" | grep -v '^PCH_' > "$tmp/names"
-    ! grep -v -e '^ACCEPTED$' -e '^REFUSED_' -e '^TOLD_' -e '^FOLLOW_' -e '^PART_' "$tmp/names" && [ "$(wc -l < "$tmp/names")" -ge 66 ] && [ -z "$(sed 's/^[A-Z]*_//' "$tmp/names" | sort | uniq -d)" ] || return 1
-    [ "$(grep -cE '^    ASTERNHAKEN_.*_GIVEN = .* (is|are) there' "$1")" -ge 11 ] && ! grep -E '^    ASTERNHAKEN_.* = .* (is|are) there' "$1" | grep -v '_GIVEN = '
+    ! grep -v -e '^ACCEPTED$' -e '^REFUSED_' -e '^TOLD_' -e '^FOLLOW_' -e '^PART_' -e '^IDENTITY_' -e '^CHANNEL_FIRST_' -e '^PAGED_FOR_' "$tmp/names" && [ "$(wc -l < "$tmp/names")" -ge 86 ] && [ -z "$(sed 's/^[A-Z]*_//' "$tmp/names" | sort | uniq -d)" ] || return 1
+    [ "$(grep -cE '^    ASTERNHAKEN_.*_GIVEN = .* (is|are) there' "$1")" -ge 13 ] && ! grep -E '^    ASTERNHAKEN_.* = .* (is|are) there' "$1" | grep -v '_GIVEN = '
 }
 not_names() { sed "$1" include/asternhaken.h > "$tmp/names.h" && ! cmp -s include/asternhaken.h "$tmp/names.h" && ! names "$tmp/names.h"; }
-holds 'the names of refusals, told numbers, what is said of following and parts' names include/asternhaken.h
+holds 'the names of refusals, told numbers, what is said of following, parts and the numbers of a page' names include/asternhaken.h
 holds 'a refusal without its prefix is refused' not_names 's/ASTERNHAKEN_REFUSED_CLOCK = /ASTERNHAKEN_CLOCK = /'
 holds 'a part with the name of a refusal is refused' not_names 's/ASTERNHAKEN_PART_HOPS = /ASTERNHAKEN_PART_HOPPING = /'
 holds 'a number of following without its prefix is refused' not_names 's/ASTERNHAKEN_FOLLOW_NO_KEY = /ASTERNHAKEN_NO_KEY = /'
+holds 'a kind of identity without its prefix is refused' not_names 's/ASTERNHAKEN_IDENTITY_TMSI = /ASTERNHAKEN_TMSI = /'
 holds 'a flag under another name is refused' not_names 's/ASTERNHAKEN_PART_COUNT_GIVEN = /ASTERNHAKEN_PART_COUNTED = /'
-# may_be_left HEADER: all results but those of what only looks at a state, and of the version, must be used.
+# may_be_left HEADER: all results but those of what only looks at a state or at a page, and of the version, must be used.
 may_be_left() {
     sed -n -E 's/^(static inline )?uint32_t (asternhaken_[a-z0-9_]*)\(.*/\2/p' "$1" | sort > "$tmp/left"
-    printf 'asternhaken_%s\n' answer_get entry_get entry_numbers held_count held_get held_numbers is_set_up next_expiry read version | diff - "$tmp/left"
+    printf 'asternhaken_%s\n' answer_get entry_get entry_numbers held_count held_get held_numbers identity_octet is_set_up next_expiry paged_get paged_numbers read version | diff - "$tmp/left"
 }
 not_left() { sed 's/^ASTERNHAKEN_MUST_USE \(uint32_t asternhaken_digits_write\)/\1/' include/asternhaken.h > "$tmp/names.h" && ! may_be_left "$tmp/names.h"; }
 holds 'the results that may be left' may_be_left include/asternhaken.h
@@ -187,7 +188,7 @@ wrong_lines() {
             'nch 4294967296 2b' 'nch 1 2b' 'joined 1 4711/' 'joined 1' 'tick 1 2' 'frob 1' 'setup 0 1 1 x' 'pch 1' 'pch 1 4711/' 'pch 1 9422 rand=' 'pch 1 9422 rand' \
             'pch 1 9422 rand=0123456789abcdef0' 'pch 1 9422 rand=g' 'pch 1 9422 frob=1' 'pch 1 9422 count=4' 'pch 1 9422 ciphered rand=7' 'left_idle 1 2' 'left_idle 1' \
             'bit_22 1' 'bit_22 1 x' 'bit_22 1 2' 'bit_22 1 1' 'setup 0 1 1 1 9422:' 'setup 0 1 1 1 9422:3,' 'setup 0 1 1 1 9422:32' 'setup 0 1 1 1 :3' 'setup 0 1 1 1 9422:0' 'setup 0 1 1 1 9422:3,16' \
-            'setup 1 5000 5000 5000 yard=4711/VBS:15,3,1'
+            'setup 1 5000 5000 5000 yard=4711/VBS:15,3,1' 'facch 1 0482fa091a2b3c572b' 'facch 1 0480'
         head -c 5000 /dev/zero | tr '\0' 1
         printf '\nti\0ck 1\ntick 1'
     } | $run "$tmp/control_room" > "$tmp/shown" 2> "$tmp/wrong"
@@ -222,8 +223,8 @@ line 35: behind CALL: stand no numbers of group keys
 line 36: behind CALL: stand no numbers of group keys
 line 37: behind CALL: stand no numbers of group keys
 line 38: CALL is no key, REFERENCE/VBS or REFERENCE/VGCS
-line 42: the line is too long
-line 43: the line is no text
+line 44: the line is too long
+line 45: the line is no text
 END
     diff - "$tmp/shown" <<'END'
       tick  event         name          call           told                   channel  follow
@@ -244,6 +245,8 @@ Call list
 
          1  setup         T3206 5000 ms, T3208 5000 ms, T3210 5000 ms
                           yard          VBS      4711  group keys: 1, 3, 15
+         1  facch         paging TMSI f412345678, TCH/F, priority 3, mobile terminating call
+         1  facch         refused 2 at bit 9: bits ran out
          1  tick          -
 
 Call list

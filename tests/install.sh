@@ -119,11 +119,11 @@ renders() {
     MANWIDTH=80 man --warnings=w -l "$1" > "$top/shown" 2> "$top/warned" && [ ! -s "$top/warned" ] || { cat "$top/warned"; return 1; }
     ! awk 'length > 80' "$top/shown" | grep . && grep -q "^Asternhaken $version " "$top/shown"
 }
-# names_all PAGE: every function, those that the header itself has too, and every refusal, told number and number of following of the header stands in it.
+# names_all PAGE: every function, those that the header itself has too, and every refusal, told number, number of following and number of a page of the header stands in it.
 names_all() {
     local name
-    { cat "$top/declared"; sed -n -E 's/^(ASTERNHAKEN_MUST_USE )?static inline uint32_t (asternhaken_[a-z0-9_]*)\(.*/\2/p' include/asternhaken.h; awk '/^enum asternhaken_(refusal|told|follow) / { on = 1 } /^}/ { on = 0 } on && /=/ { print $1 }' include/asternhaken.h; } > "$top/names"
-    [ "$(wc -l < "$top/names")" -ge 100 ] || return 1
+    { cat "$top/declared"; sed -n -E 's/^(ASTERNHAKEN_MUST_USE )?static inline uint32_t (asternhaken_[a-z0-9_]*)\(.*/\2/p' include/asternhaken.h; awk '/^enum asternhaken_(refusal|told|follow|identity|channel_first|paging_cause) / { on = 1 } /^}/ { on = 0 } on && /=/ { print $1 }' include/asternhaken.h; } > "$top/names"
+    [ "$(wc -l < "$top/names")" -ge 114 ] || return 1
     while read -r name; do grep -qE "(^|[^A-Za-z_])$name([^A-Za-z_]|\$)" "$1" || { echo "$name is not there"; return 1; }; done < "$top/names"
 }
 a_wrong_page() { { cat "$page"; echo '.BX wrong'; } > "$top/wrong.3" && renders "$top/wrong.3"; }
@@ -142,10 +142,12 @@ wrong_lines() {
         'setup 0 1 1 1' 'setup 9 1 1 1 a=b=3 4' 'setup 9 1 1 1 =3 4/VGCS' 'tick 10' 'setup 0 1 1 1 4294967295' 'bit_22 10' 'bit_22 10 x' 'bit_22 10 2' 'bit_22 10 1' 'bit_22 9 0' 'bit_22 10 0 0' \
         'setup 0 1 1 1 9422:' 'setup 0 1 1 1 9422:3,' 'setup 0 1 1 1 9422:,3' 'setup 0 1 1 1 9422:32' 'setup 0 1 1 1 9422:4294967299' 'setup 0 1 1 1 :3' 'setup 0 1 1 1 a:b=3:4:5' 'setup 0 1 1 1 9422:0' 'setup 0 1 1 1 9422:3,16' \
         'setup 0 5000 5000 5000 dispatcher=4711/VGCS:04,15,4 a:b=4711/VBS:2' 'pch 1 9423 ciphered full=24cf54 channel=5b8456 rand=7' 'pch 2 9423 ciphered full=24cf54 channel=5b8456 rand=7 count=3' \
-        'pch 3 9422 ciphered full=24cea3 channel=0a4123 rand=8' 'bit_22 4 1' 'bit_22 5 0' 'pch 6 9423 ciphered full=24cf54 channel=5b8456 rand=9' 'handed_over 7' 'pch 8 9423 ciphered full=24cf54 channel=5b8456 rand=9' > "$top/lines"
+        'pch 3 9422 ciphered full=24cea3 channel=0a4123 rand=8' 'bit_22 4 1' 'bit_22 5 0' 'pch 6 9423 ciphered full=24cf54 channel=5b8456 rand=9' 'handed_over 7' 'pch 8 9423 ciphered full=24cf54 channel=5b8456 rand=9' \
+        'facch 9 0482fa091a2b3c572b' 'facch 9 048414930810a1b2c3848fab' 'facch 9 048499ab80810182028303fed891a2b3c4df2b2b2b2b2b' 'facch 9 0480fa2b' 'facch 9 0480838b' 'facch 9 0480f80b' 'facch 9 048000' \
+        'pch 9 9422 ciphered rand=9' 'facch 5009 0480fa2b' 'facch 5009 0480' > "$top/lines"
     $cc -std=c99 $(pc --cflags) "$top/there/share/asternhaken/control_room.c" "$(pc --variable=archive)" -o "$top/empty/room" || return 1
     "$top/empty/room" < "$top/lines" > "$top/c.out" 2> "$top/c.err"
-    [ $? = 1 ] && [ "$(wc -l < "$top/c.out")" -ge 52 ] && [ "$(wc -l < "$top/c.err")" -ge 38 ] || return 1
+    [ $? = 1 ] && [ "$(wc -l < "$top/c.out")" -ge 63 ] && [ "$(wc -l < "$top/c.err")" -ge 38 ] || return 1
     python3 "$top/there/share/asternhaken/control_room.py" < "$top/lines" > "$top/python.out" 2> "$top/python.err"
     [ $? = 1 ] && diff "$top/c.out" "$top/python.out" && diff "$top/c.err" "$top/python.err"
 }

@@ -4,7 +4,7 @@ import sys
 import unittest
 
 import asternhaken
-from asternhaken import Held, PchEntry, Receiver, Refused, key
+from asternhaken import Held, Paged, PchEntry, Receiver, Refused, key
 
 HEADER = open(sys.argv.pop(1)).read()
 YARD, DISPATCHER = key(4711, False), key(4711, True)
@@ -13,6 +13,9 @@ SECOND = bytes.fromhex("b00024cea30712345678932b2b2b2b2b2b2b2b2b")  # VSTK_RAND 
 PIECE = bytes.fromhex("b00024cea385209192800000000b2b2b2b2b2b2b")  # of the yard, in one piece, without a count; its key number is 3
 FACCH_FIRST = bytes.fromhex("040001267aa56e11592b")  # of the dispatcher: channel 5b8456
 FACCH_PIECE = bytes.fromhex("040001267aa56e1158daaaaaaaaaab2b")  # of the dispatcher, in one piece, count 2, whose B22 was 1; its key number is 4
+PAGE_TMSI = bytes.fromhex("0482fa091a2b3c572b")  # of the TMSI 12345678: for a TCH/F, priority 3
+PAGE_IMSI = bytes.fromhex("048414930810a1b2c3848fab")  # of the IMSI 262011234567890: for any channel, with a cause that is 0
+PAGE_WHOLE = bytes.fromhex("048499ab80810182028303fed891a2b3c4df2b2b2b2b2b")  # of an IMEISV: every part there is, count 2, whose B22 was 1
 PCH_FIRST = PchEntry(YARD, ciphered=1, reference_given=1, reference=YARD << 8 | 0xA3, channel_given=1, channel=0x0A4123, count_given=1, cell_global_count=1)
 PCH_SECOND = PchEntry(YARD, ciphered=1, rand_given=1, vstk_rand=0x987654321)
 
@@ -20,6 +23,11 @@ PCH_SECOND = PchEntry(YARD, ciphered=1, rand_given=1, vstk_rand=0x987654321)
 def only(key, told):
     """An entry that is told a number alone."""
     return key, told, None, 0, 0
+
+
+def lost(expired, dropped):
+    """An answer with no entries, and nobody paged."""
+    return expired, dropped, (), None
 
 
 def constants(enum):
@@ -55,7 +63,10 @@ class TheHeader(unittest.TestCase):
     def test_structs(self):
         self.assertEqual(asternhaken.Record._fields, members("record"))
         self.assertEqual(asternhaken.PARTS[5:35], members("record"))
-        self.assertEqual(asternhaken.PARTS[3:5] + ("record",) + asternhaken.PARTS[35:], members("entry"))
+        self.assertEqual(asternhaken.PARTS[3:5] + ("record",) + asternhaken.PARTS[35:37], members("entry"))
+        self.assertEqual(asternhaken.PARTS[37:], members("paged")[:1] + members("page") + members("paged")[2:])
+        self.assertEqual(members("paged")[1], "page")
+        self.assertEqual((len(members("page")), len(asternhaken.PARTS[37:])), (defined("PAGE_NUMBERS"), defined("PAGED_NUMBERS")))
         self.assertEqual(asternhaken.PARTS[:3], members("answer"))
         self.assertEqual(asternhaken.Entry._fields, members("entry"))
         self.assertEqual(asternhaken.Held._fields, members("held"))
@@ -64,7 +75,7 @@ class TheHeader(unittest.TestCase):
         self.assertEqual(len(asternhaken.PchEntry._fields), defined("PCH_NUMBERS"))
 
     def test_constants(self):
-        for enum, least in (("refusal", 14), ("told", 9), ("follow", 4), ("on", 3), ("half", 2)):
+        for enum, least in (("refusal", 14), ("told", 9), ("follow", 4), ("on", 3), ("half", 2), ("identity", 5), ("channel_first", 4), ("paging_cause", 2)):
             rows = constants(enum)
             self.assertGreaterEqual(len(rows), least)
             for name, number in rows.items():
@@ -88,6 +99,10 @@ class TheHeader(unittest.TestCase):
             self.assertEqual(word(n), "unknown")
             for i in range(n + 1):
                 self.assertRegex(sentence(i), r"^[A-Z].* .*\.$")
+        for enum, word in (("identity", asternhaken.identity_word), ("channel_first", asternhaken.channel_first_word), ("paging_cause", asternhaken.paging_cause_word)):
+            n = len(constants(enum))
+            self.assertEqual(len({word(i) for i in range(n + 1)}), n + 1)
+            self.assertEqual({word(i) for i in (n, 255, (1 << 32) - 1)}, {"unknown"})
 
 
 class TheReceiver(unittest.TestCase):
@@ -104,9 +119,9 @@ class TheReceiver(unittest.TestCase):
         self.assertEqual(self.receiver.state, before)
 
     def test_two_halves(self):
-        self.assertEqual(self.receiver.answer, (0, 0, ()))
+        self.assertEqual(self.receiver.answer, lost(0, 0))
         answer = self.receiver.nch(1480, FIRST)
-        self.assertEqual(answer, (0, 0, (only(YARD, asternhaken.TOLD_HALF_STORED),)))
+        self.assertEqual(answer, (0, 0, (only(YARD, asternhaken.TOLD_HALF_STORED),), None))
         entry = self.receiver.nch(1960, SECOND).entries[0]
         self.assertEqual((entry.key, entry.reference, entry.vgcs, entry.told, entry.told_word), (YARD, 4711, False, asternhaken.TOLD_JOINED, "complete, joined"))
         self.assertEqual(entry.told_sentence, asternhaken.told_sentence(3))
@@ -119,18 +134,18 @@ class TheReceiver(unittest.TestCase):
     def test_every_event(self):
         self.receiver.nch(2000, FIRST)
         self.assertEqual(self.receiver.facch(2000, FACCH_FIRST).entries, (only(DISPATCHER, asternhaken.TOLD_HALF_STORED),))
-        self.assertEqual(self.receiver.reselected(2001), (0, 1, ()))
-        self.assertEqual(self.receiver.handed_over(2002), (0, 1, ()))
+        self.assertEqual(self.receiver.reselected(2001), lost(0, 1))
+        self.assertEqual(self.receiver.handed_over(2002), lost(0, 1))
         self.receiver.facch(2003, FACCH_FIRST)
-        self.assertEqual(self.receiver.reconfigured(2004), (0, 1, ()))
+        self.assertEqual(self.receiver.reconfigured(2004), lost(0, 1))
         self.receiver.nch(2005, FIRST)
-        self.assertEqual(self.receiver.joined(2006, YARD), (0, 0, ()))
-        self.assertEqual(self.receiver.joined(2007, DISPATCHER), (0, 1, ()))
+        self.assertEqual(self.receiver.joined(2006, YARD), lost(0, 0))
+        self.assertEqual(self.receiver.joined(2007, DISPATCHER), lost(0, 1))
         self.receiver.nch(2008, FIRST)
-        self.assertEqual(self.receiver.bit_22(2009, 1), (0, 0, ()))
-        self.assertEqual(self.receiver.tick(2008 + asternhaken.T3206), (1, 0, ()))
+        self.assertEqual(self.receiver.bit_22(2009, 1), lost(0, 0))
+        self.assertEqual(self.receiver.tick(2008 + asternhaken.T3206), lost(1, 0))
         self.receiver.nch(13000, FIRST)
-        self.assertEqual(self.receiver.bit_22(13000 + asternhaken.T3206, 0), (1, 0, ()))
+        self.assertEqual(self.receiver.bit_22(13000 + asternhaken.T3206, 0), lost(1, 0))
 
     def following(self, entry):
         self.assertEqual(entry.follow_sentence, asternhaken.follow_sentence(entry.follow))
@@ -164,18 +179,56 @@ class TheReceiver(unittest.TestCase):
         record = self.receiver.pch(now, PCH_FIRST).entries[0].record
         self.assertEqual((record.channel, record.vstk_rand, record.full, record.cell_global_count), (0x0A4123, 0x987654321, 1, 1))
         self.receiver.pch(now, list(PCH_FIRST))
-        self.assertEqual(self.receiver.left_idle(now), (0, 1, ()))
+        self.assertEqual(self.receiver.left_idle(now), lost(0, 1))
         self.receiver.pch(now, PCH_FIRST)
-        self.assertEqual(self.receiver.pch(now, PchEntry(1630)), (0, 1, (only(1630, asternhaken.TOLD_NOT_OURS),)))
+        self.assertEqual(self.receiver.pch(now, PchEntry(1630)), (0, 1, (only(1630, asternhaken.TOLD_NOT_OURS),), None))
         self.receiver.pch(now, PCH_FIRST)
-        self.assertEqual(self.receiver.tick(now + asternhaken.T3210 - 1), (0, 0, ()))
-        self.assertEqual(self.receiver.tick(now + asternhaken.T3210), (1, 0, ()))
+        self.assertEqual(self.receiver.tick(now + asternhaken.T3210 - 1), lost(0, 0))
+        self.assertEqual(self.receiver.tick(now + asternhaken.T3210), lost(1, 0))
         self.refused(12, self.receiver.pch, 9000, PCH_FIRST._replace(ciphered=0))
         self.refused(4, self.receiver.pch, 9000, PchEntry(200000000))
         self.refused(13, self.receiver.pch, 9000, PCH_FIRST[:-1])
         self.refused(13, self.receiver.pch, 9000, ())
         self.refused(9, self.receiver.pch, 1999, PCH_FIRST)
         self.refused(9, self.receiver.left_idle, 1999)
+
+    def test_pages(self):
+        self.receiver.nch(2000, FIRST)
+        answer = self.receiver.facch(2001, PAGE_TMSI)
+        self.assertEqual(answer, (0, 0, (), (bytes.fromhex("f412345678"), asternhaken.CHANNEL_FIRST_TCH_F, 3, None)))
+        paged = answer.paged
+        self.assertIsInstance(paged, Paged)
+        self.assertEqual((paged.identity_kind, paged.identity_word, paged.channel_first_word), (asternhaken.IDENTITY_TMSI, "TMSI", "TCH/F"))
+        self.assertEqual(paged.paging_cause_word, "mobile terminating call")  # assumed
+        self.refused(8, self.receiver.facch, 2002, b"\4\205\0")
+        self.refused(9, self.receiver.facch, 2000, PAGE_IMSI)
+        self.assertEqual(self.receiver.answer.paged, paged)
+        self.assertEqual(Receiver.from_state(self.receiver.state).answer, answer)
+        paged = self.receiver.facch(2002, PAGE_IMSI).paged
+        self.assertEqual(paged, (bytes.fromhex("2926102143658709"), asternhaken.CHANNEL_FIRST_ANY, None, asternhaken.PAGED_FOR_CALL))
+        self.assertEqual((paged.identity_word, paged.channel_first_word, paged.paging_cause_word), ("IMSI", "any channel", "mobile terminating call"))
+        paged = self.receiver.facch(2003, PAGE_WHOLE).paged
+        self.assertEqual(paged, (bytes.fromhex("335701020304050607"), asternhaken.CHANNEL_FIRST_TCH_H_OR_F, 7, asternhaken.PAGED_FOR_SHORT_MESSAGE))
+        self.assertEqual((paged.identity_word, paged.channel_first_word, paged.paging_cause_word), ("IMEISV", "TCH/H or TCH/F", "short message"))
+        self.assertEqual(self.receiver.facch(2004, b"\377\200\372\53").paged, (b"\xf4", asternhaken.CHANNEL_FIRST_SDCCH, None, None))
+        answer = self.receiver.nch(2005, SECOND)  # its half is held still; the FACCH's count is not taken, since the bit is not known
+        self.assertEqual((answer.entries[0].told, answer.entries[0].kept_count, answer.paged), (asternhaken.TOLD_JOINED, 1, None))
+        self.receiver.bit_22(2006, 0)
+        self.receiver.facch(2007, PAGE_WHOLE)
+        self.assertEqual(self.receiver.nch(2008, PIECE).entries[0].kept_count, 3)
+        self.receiver.nch(3000, FIRST)
+        self.assertEqual(self.receiver.facch(3000 + asternhaken.T3206, PAGE_TMSI)[:2], (1, 0))
+        self.receiver.setup([YARD], 0)
+        self.assertIsNone(self.receiver.answer.paged)
+
+    def test_pages_that_no_message_has(self):
+        state = bytearray(self.receiver.state)
+        state[9592:9608] = bytes(range(1, 17))
+        for octets, identity in (0, ""), (1, "03"), (2, "0309"), (9, "03100f0e0d0c0b0a09"), (10, "03100f0e0d0c0b0a09"), (255, "03100f0e0d0c0b0a09"):
+            state[9593] = octets
+            paged = Receiver.from_state(state).answer.paged
+            self.assertEqual(paged, (bytes.fromhex(identity), 4, 6, 1))
+            self.assertEqual((paged.identity_word, paged.channel_first_word), ("IMEISV" if octets else "no identity", "unknown"))
 
     def test_what_is_held(self):
         self.assertEqual((self.receiver.held, self.receiver.next_expiry), ((), None))
@@ -190,17 +243,17 @@ class TheReceiver(unittest.TestCase):
         self.assertEqual((held[0].reference, held[0].vgcs, held[2].vgcs), (4711, False, True))
         self.assertEqual((held[0].record.channel, held[1].record.vstk_rand, held[2].record.channel), (0x0A4123, 0x987654321, 0x5B8456))
         self.assertEqual(self.receiver.next_expiry, 4600)
-        self.assertEqual(self.receiver.tick(2000 + 4600), (1, 0, ()))
+        self.assertEqual(self.receiver.tick(2000 + 4600), lost(1, 0))
         self.assertEqual((len(self.receiver.held), self.receiver.next_expiry), (2, 400))
 
     def test_the_mark(self):
         self.assertTrue(self.receiver.is_set_up)
         self.assertFalse(Receiver.from_state(bytes(asternhaken.STATE_LENGTH)).is_set_up)
         state = bytearray(self.receiver.state)
-        self.assertEqual(state[20:24], b"AHK\3")
+        self.assertEqual(state[20:24], b"AHK\4")
         self.receiver.nch(2000, FIRST)
         self.assertTrue(Receiver.from_state(self.receiver.state).is_set_up)
-        state[23] = 2  # another layout
+        state[23] = 3  # another layout
         self.assertFalse(Receiver.from_state(state).is_set_up)
 
     def test_refusals(self):
@@ -208,7 +261,7 @@ class TheReceiver(unittest.TestCase):
         self.refused(1, self.receiver.nch, 1001, FIRST[:19])
         self.refused(1, self.receiver.facch, 1001, bytes(24))
         self.refused(4, self.receiver.joined, 1001, 200000000)
-        self.refused(8, self.receiver.facch, 1001, b"\4\200")
+        self.refused(8, self.receiver.facch, 1001, b"\4\200\0")
         self.refused(9, self.receiver.tick, 999)
         self.refused(9, self.receiver.nch, 999, b"")
         self.refused(10, self.receiver.setup, [YARD, YARD], 0)
@@ -221,7 +274,7 @@ class TheReceiver(unittest.TestCase):
         for number in 0, 16, 31:
             self.refused(10, lambda: self.receiver.setup([YARD], 0, groups={YARD: [3, number]}))
         self.refused(13, Receiver.from_state, bytes(asternhaken.STATE_LENGTH - 1))
-        self.refused(13, Receiver.from_state, bytes(10040))
+        self.refused(13, Receiver.from_state, bytes(10240))
 
     def test_setups(self):
         self.receiver.setup([], 5)
@@ -245,7 +298,7 @@ class TheReceiver(unittest.TestCase):
             before = self.receiver.state
             self.assertRaises(ValueError, call)
             self.assertEqual(self.receiver.state, before)
-        self.assertEqual(self.receiver.tick((1000 + (1 << 31) - 1)), (0, 0, ()))
+        self.assertEqual(self.receiver.tick((1000 + (1 << 31) - 1)), lost(0, 0))
 
     def test_states(self):
         self.receiver.nch(1480, FIRST)

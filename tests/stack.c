@@ -39,12 +39,14 @@ static uint32_t find(void) { return asternhaken_find(keys, ASTERNHAKEN_KEYS, key
 static uint32_t read_part(void) { return asternhaken_read(state, sizeof state, 0, ASTERNHAKEN_PART_CHANNEL, &value); }
 static uint32_t is_set_up(void) { return asternhaken_is_set_up(state, sizeof state); }
 static uint32_t entry_numbers(void) { return asternhaken_entry_numbers(state, sizeof state, 0, numbers, ASTERNHAKEN_ENTRY_NUMBERS); }
+static uint32_t paged_numbers(void) { return asternhaken_paged_numbers(state, sizeof state, numbers, ASTERNHAKEN_PAGED_NUMBERS); }
 static uint32_t held_count(void) { return asternhaken_held_count(state, sizeof state, &value); }
 static uint32_t held_numbers(void) { return asternhaken_held_numbers(state, sizeof state, 1, numbers, ASTERNHAKEN_HELD_NUMBERS); }
 static uint32_t next_expiry(void) { return asternhaken_next_expiry(state, sizeof state, &value); }
 static uint32_t nch_read(void) { return asternhaken_nch_read(octets, n, numbers, ASTERNHAKEN_NCH_NUMBERS); }
 static uint32_t nch_write(void) { return asternhaken_nch_write(numbers, ASTERNHAKEN_NCH_NUMBERS, octets, 20); }
 static uint32_t facch_read(void) { return asternhaken_facch_read(octets, n, numbers, ASTERNHAKEN_FACCH_NUMBERS); }
+static uint32_t facch_write(void) { return asternhaken_facch_write(numbers, ASTERNHAKEN_FACCH_NUMBERS, octets, n); }
 static uint32_t message_type_read(void) { return asternhaken_message_type_read(0x31, numbers, 2); }
 static uint32_t message_type_write(void) { return asternhaken_message_type_write(numbers, 2, octets); }
 static uint32_t call_reference_read(void) { return asternhaken_call_reference_read(octets, 4, numbers, 3); }
@@ -70,6 +72,9 @@ static uint32_t told_word(void) { return !asternhaken_told_word(99); }
 static uint32_t told_sentence(void) { return !asternhaken_told_sentence(8); }
 static uint32_t follow_word(void) { return !asternhaken_follow_word(99); }
 static uint32_t follow_sentence(void) { return !asternhaken_follow_sentence(3); }
+static uint32_t identity_word(void) { return !asternhaken_identity_word(99); }
+static uint32_t channel_first_word(void) { return !asternhaken_channel_first_word(3); }
+static uint32_t paging_cause_word(void) { return !asternhaken_paging_cause_word(1); }
 
 /* ---- Measuring ---- */
 
@@ -184,7 +189,10 @@ static void receiver(void)
     measure(bit_is_0, 0, "bit_22, from 1 to 0");
     measure(bit_is_2, 12, "bit_22, refused");
     message(facch, "facch, its count taken", "045f5e0ffffe2c7fff8000000000000001ec48d159e257", 0);
-    message(facch, "facch, refused", "0480", 8);
+    message(facch, "facch, a page with every part", "048499ab80810182028303fed891a2b3c4df2b2b2b2b2b", 0);
+    measure(paged_numbers, 0, "paged_numbers");
+    message(facch, "facch, refused", "048000", 8);
+    message(facch, "facch, a page refused at its last bit", "048499ab80810182028303e0", 15 | 96 << 8);
     page("pch, a first half stored", 9423, 1, 1, 0);
     page("pch, held already", 9423, 1, 1, 0);
     page("pch, its second joined", 9423, 0, 0, 0);
@@ -210,6 +218,14 @@ static void messages(void)
     measure(nch_write, 0, "nch_write");
     lend("045f5e0ffffe2c7fff8000000000000001ec48d159e257");
     measure(facch_read, 0, "facch_read");
+    if (facch_read()) exit(2);
+    measure(facch_write, 0, "facch_write");
+    lend("048499ab80810182028303fed891a2b3c4df2b2b2b2b2b");
+    measure(facch_read, 0, "facch_read, a page");
+    if (facch_read()) exit(2);
+    measure(facch_write, 0, "facch_write, a page");
+    n = 17;
+    measure(facch_write, 11, "facch_write, refused last");
 }
 
 /* A reader, and a writer of what was read. */
@@ -249,6 +265,9 @@ static void words(void)
     measure(told_sentence, 0, "told_sentence");
     measure(follow_word, 0, "follow_word");
     measure(follow_sentence, 0, "follow_sentence");
+    measure(identity_word, 0, "identity_word");
+    measure(channel_first_word, 0, "channel_first_word");
+    measure(paging_cause_word, 0, "paging_cause_word");
 }
 
 int main(void)

@@ -54,8 +54,8 @@ awk '/^## / { on = $0 == "## What must be believed for demand 3" } on' docs/PROM
 tools/believed page | cmp - "$tmp/section"
 note $? "the section on demand 3 of docs/PROMISES.md is not what tools/believed page writes"
 all=$(believed)
-[ "${all:-880}" -lt 880 ]
-note $? "${all:-no} lines must be believed for demand 3, and 880 are too many"
+[ "${all:-892}" -lt 892 ]
+note $? "${all:-no} lines must be believed for demand 3, and 892 are too many"
 
 # moves LABEL BY FILE EDIT: the specifications with this edit have so many lines more.
 moves() {

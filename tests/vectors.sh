@@ -17,7 +17,7 @@ while read -r crate name stdin stdout; do
     done
 done <<'END'
 nch_vectors nch 332 332
-facch_vectors facch 333 333
+facch_vectors facch 354 354
 gcc_vectors gcc 201 201
 receiver_events events 287 536
 END

@@ -1,4 +1,4 @@
-/* What a host sees of a state: a whole entry, the halves that are held, the next to run out, and whether it was set up. Known answers first; then states that events and chance left, each
+/* What a host sees of a state: a whole entry, who is paged, the halves that are held, the next to run out, and whether it was set up. Known answers first; then states that events and chance left, each
  * number of every view held to the state's octets, which are read here once more by docs/STATE.md. What is lent comes from the heap at its exact length, so that valgrind sees
  * a step past it. The last line is 'N passed, M failed'. */
 #include <asternhaken.h>
@@ -91,6 +91,18 @@ static struct asternhaken_entry entry(uint32_t i)
     return copy;
 }
 
+static struct asternhaken_paged paged(void)
+{
+    struct asternhaken_paged *into = (struct asternhaken_paged *)lent(sizeof *into), copy;
+    memset(into, 0xff, sizeof *into);
+    memcpy(before, state, LENGTH);
+    ACCEPTED(asternhaken_paged_get(state, LENGTH, into));
+    CHECK(!memcmp(before, state, LENGTH));
+    copy = *into;
+    free(into);
+    return copy;
+}
+
 static int is_set_up(void)
 {
     memcpy(before, state, LENGTH);
@@ -101,7 +113,7 @@ static int is_set_up(void)
 
 /* ---- Known answers ---- */
 
-enum { YARD = 9422, DISPATCHER = 9423, MARK = 20, KEYS = 24, KINDS = 424, TICKS = 576, RECORDS = 1176, COUNT = 9584, ENTRIES = 9592, RECORD = 56, ENTRY = 72 };
+enum { YARD = 9422, DISPATCHER = 9423, MARK = 20, KEYS = 24, KINDS = 424, TICKS = 576, RECORDS = 1176, COUNT = 9584, PAGED = 9592, ENTRIES = 9608, RECORD = 56, ENTRY = 72 };
 
 static const uint32_t keys[3] = { 5, YARD, DISPATCHER }, sets[3] = { 0, ASTERNHAKEN_GROUP_KEY(3), 0 };
 
@@ -112,6 +124,9 @@ static const uint32_t keys[3] = { 5, YARD, DISPATCHER }, sets[3] = { 0, ASTERNHA
 #define FACCH_FIRST "040001267aa56e11592b"
 #define FACCH_SECOND "040001267aa0aaaaaaaaab2b"
 #define CLEAR "b00024cea08520918b2b2b2b2b2b2b2b2b2b2b2b"
+/* Pages: of the TMSI 12345678 for a TCH/F, priority 3; of an IMEISV of nine octets, with every part there is, for a short message. */
+#define PAGE_TMSI "0482fa091a2b3c572b"
+#define PAGE_WHOLE "048499ab80810182028303fed891a2b3c4df2b2b2b2b2b"
 
 static const struct asternhaken_pch_entry yard_second = { YARD, 1, 0, 0, 0, 0, 0, 0, 0, 0, 1, 0x987654321, 1, 2 };
 
@@ -189,11 +204,31 @@ static void whole_entries(void)
     CHECK(entry(0).key == 0 && entry(0).record.channel == 0);
 }
 
+static void pages(void)
+{
+    set_up(1000);
+    CHECK(paged().paged == 0);
+    ACCEPTED(message(asternhaken_facch, 1001, PAGE_TMSI));
+    struct asternhaken_paged p = paged();
+    CHECK(p.paged == 1 && p.page.identity_octets == 5 && p.page.identity_first == 0xf4 && p.page.identity_rest == 0x12345678 && p.page.channel_first == ASTERNHAKEN_CHANNEL_FIRST_TCH_F);
+    CHECK(p.page.emlpp_priority_given == 1 && p.page.emlpp_priority == 3 && p.paging_cause_given == 0 && p.paging_cause == 0);
+    CHECK(asternhaken_identity_octet(&p.page, 0) == 0xf4 && asternhaken_identity_octet(&p.page, 4) == 0x78 && asternhaken_identity_octet(&p.page, 5) == 0);
+    CHECK(entry(0).key == 0 && held_count() == 0);
+    ACCEPTED(message(asternhaken_facch, 1002, PAGE_WHOLE));
+    CHECK(asternhaken_tick(state, LENGTH, 1001) == ASTERNHAKEN_REFUSED_CLOCK);
+    p = paged();
+    CHECK(p.paged == 1 && p.page.identity_octets == 9 && p.page.identity_rest == 0x5701020304050607 && p.page.channel_first == ASTERNHAKEN_CHANNEL_FIRST_TCH_H_OR_F);
+    CHECK(p.page.emlpp_priority == 7 && p.paging_cause_given == 1 && p.paging_cause == ASTERNHAKEN_PAGED_FOR_SHORT_MESSAGE);
+    ACCEPTED(message(asternhaken_nch, 1003, CLEAR));
+    p = paged();
+    CHECK(p.paged == 0 && p.page.identity_octets == 0 && p.page.identity_first == 0 && p.page.identity_rest == 0 && p.page.channel_first == 0 && p.page.emlpp_priority == 0 && p.paging_cause == 0);
+}
+
 /* ---- The mark of a setup ---- */
 
 static void mark(void)
 {
-    static const uint8_t mark_of_3[4] = { 'A', 'H', 'K', 3 };
+    static const uint8_t mark_of_4[4] = { 'A', 'H', 'K', 4 };
     const uint32_t none = UINT32_MAX, no_group_keys = 0;
     memset(state, 0, LENGTH);
     CHECK(!is_set_up());
@@ -201,16 +236,16 @@ static void mark(void)
     ACCEPTED(asternhaken_tick(state, LENGTH, 5)); /* events answer all the same, and set nothing up */
     CHECK(!is_set_up());
     set_up(1000);
-    CHECK(is_set_up() && !memcmp(state + MARK, mark_of_3, 4) && state[MARK - 1] == 3 && state[MARK - 2] == 2 && state[MARK - 3] == 4); /* before it the number of keys, no bit and no count */
+    CHECK(is_set_up() && !memcmp(state + MARK, mark_of_4, 4) && state[MARK - 1] == 3 && state[MARK - 2] == 2 && state[MARK - 3] == 4); /* before it the number of keys, no bit and no count */
     for (size_t i = 0; i < 4; i++)
         for (unsigned bit = 0; bit < 8; bit++) {
             state[MARK + i] ^= (uint8_t)(1u << bit);
             CHECK(!is_set_up());
             state[MARK + i] ^= (uint8_t)(1u << bit);
         }
-    state[MARK + 3] = 2; /* the layout before this one */
+    state[MARK + 3] = 3; /* the layout before this one */
     CHECK(!is_set_up());
-    state[MARK + 3] = 3;
+    state[MARK + 3] = 4;
     for (size_t i = 0; i < LENGTH; i++) /* nothing else counts */
         if (i < MARK || i >= KEYS) state[i] ^= 0xff;
     CHECK(is_set_up());
@@ -219,6 +254,7 @@ static void mark(void)
     set_up(1000);
     ACCEPTED(message(asternhaken_nch, 1000, BOTH_FIRST));
     ACCEPTED(message(asternhaken_facch, 1000, FACCH_FIRST));
+    ACCEPTED(message(asternhaken_facch, 1000, PAGE_WHOLE));
     ACCEPTED(asternhaken_pch_put(state, LENGTH, 1000, &yard_second));
     ACCEPTED(asternhaken_joined(state, LENGTH, 1000, YARD));
     ACCEPTED(asternhaken_reselected(state, LENGTH, 1000));
@@ -228,7 +264,7 @@ static void mark(void)
     ACCEPTED(asternhaken_bit_22(state, LENGTH, 1000, 1));
     ACCEPTED(asternhaken_tick(state, LENGTH, 99000));
     CHECK(asternhaken_tick(state, LENGTH, 0) == ASTERNHAKEN_REFUSED_CLOCK);
-    CHECK(!memcmp(state + MARK, mark_of_3, 4) && is_set_up());
+    CHECK(!memcmp(state + MARK, mark_of_4, 4) && is_set_up());
 }
 
 /* ---- Another length, fewer places, more places ---- */
@@ -239,6 +275,7 @@ static void wrong_length(size_t length)
     uint64_t *numbers = (uint64_t *)lent(40 * sizeof *numbers), zeros[40] = { 0 };
     struct asternhaken_entry *e = (struct asternhaken_entry *)lent(sizeof *e);
     struct asternhaken_held *h = (struct asternhaken_held *)lent(sizeof *h);
+    struct asternhaken_paged *p = (struct asternhaken_paged *)lent(sizeof *p);
     memset(octets, 0, length);
     memcpy(octets, state, length < LENGTH ? length : LENGTH);
     memcpy(copy, octets, length);
@@ -251,11 +288,14 @@ static void wrong_length(size_t length)
     CHECK(asternhaken_entry_numbers(octets, length, 0, numbers, 40) == ASTERNHAKEN_REFUSED_LENGTH && !memcmp(numbers, zeros, 40 * 8));
     memset(numbers, 0xff, 40 * 8);
     CHECK(asternhaken_held_numbers(octets, length, 0, numbers, 40) == ASTERNHAKEN_REFUSED_LENGTH && !memcmp(numbers, zeros, 40 * 8));
-    memset(e, 0xff, sizeof *e), memset(h, 0xff, sizeof *h);
+    memset(numbers, 0xff, 40 * 8);
+    CHECK(asternhaken_paged_numbers(octets, length, numbers, 40) == ASTERNHAKEN_REFUSED_LENGTH && !memcmp(numbers, zeros, 40 * 8));
+    memset(e, 0xff, sizeof *e), memset(h, 0xff, sizeof *h), memset(p, 0xff, sizeof *p);
     CHECK(asternhaken_entry_get(octets, length, 0, e) == ASTERNHAKEN_REFUSED_LENGTH && !memcmp(e, zeros, sizeof *e));
     CHECK(asternhaken_held_get(octets, length, 0, h) == ASTERNHAKEN_REFUSED_LENGTH && !memcmp(h, zeros, sizeof *h));
+    CHECK(asternhaken_paged_get(octets, length, p) == ASTERNHAKEN_REFUSED_LENGTH && !memcmp(p, zeros, sizeof *p));
     CHECK(!memcmp(copy, octets, length));
-    free(octets), free(copy), free(numbers), free(e), free(h);
+    free(octets), free(copy), free(numbers), free(e), free(h), free(p);
 }
 
 static void lengths(void)
@@ -264,6 +304,8 @@ static void lengths(void)
     ACCEPTED(message(asternhaken_nch, 1001, CLEAR));
     ACCEPTED(message(asternhaken_nch, 1001, YARD_FIRST));
     wrong_length(LENGTH - 1), wrong_length(LENGTH + 1), wrong_length(0);
+    ACCEPTED(message(asternhaken_facch, 1001, PAGE_WHOLE));
+    wrong_length(LENGTH - 1), wrong_length(LENGTH + 1);
 }
 
 /* As many numbers as there are places, and zeros beyond them. */
@@ -279,6 +321,13 @@ static void every_room(uint32_t (*view)(const uint8_t *, size_t, uint32_t, uint6
         CHECK(!memcmp(numbers, all, room * 8));
         free(numbers);
     }
+}
+
+/* Who is paged, with a number more that is not looked at. */
+static uint32_t paged_numbers(const uint8_t *octets, size_t length, uint32_t i, uint64_t *numbers, size_t n)
+{
+    (void)i;
+    return asternhaken_paged_numbers(octets, length, numbers, n);
 }
 
 /* ---- Each view beside the octets ---- */
@@ -314,6 +363,11 @@ static int agrees(void)
         for (uint32_t p = 0; p < ASTERNHAKEN_ENTRY_NUMBERS; p++) /* and part by part */
             same &= !asternhaken_read(state, LENGTH, i, ASTERNHAKEN_PART_KEY + p, got) && got[0] == due[p];
     }
+    memset(due, 0, sizeof due), memset(got, 0xff, sizeof got);
+    due[0] = state[PAGED] != 0, due[1] = state[PAGED + 1], due[2] = state[PAGED + 2], due[3] = octets_at(PAGED + 8, 8), due[4] = state[PAGED + 3];
+    due[5] = state[PAGED + 4] != 0, due[6] = state[PAGED + 5], due[7] = state[PAGED + 6] != 0, due[8] = state[PAGED + 7] != 0;
+    same &= !asternhaken_paged_numbers(state, LENGTH, got, 40) && !memcmp(due, got, sizeof due);
+    for (uint32_t p = 0; p < ASTERNHAKEN_PAGED_NUMBERS; p++) same &= !asternhaken_read(state, LENGTH, (uint32_t)count + p, ASTERNHAKEN_PART_PAGED + p, got) && got[0] == due[p];
     for (uint32_t place = 0; place <= 150; place++) {
         memset(due, 0, sizeof due), memset(got, 0xff, sizeof got);
         if (place < 150) { /* behind the last place nothing is held */
@@ -339,9 +393,9 @@ static uint64_t dice(void)
 /* Events of every kind in any order: what the next expiry foretells is what a tick then finds. */
 static void by_events(void)
 {
-    static const char *const nch[3] = { YARD_FIRST, YARD_SECOND, BOTH_FIRST }, *const facch[2] = { FACCH_FIRST, FACCH_SECOND };
+    static const char *const nch[3] = { YARD_FIRST, YARD_SECOND, BOTH_FIRST }, *const facch[4] = { FACCH_FIRST, FACCH_SECOND, PAGE_TMSI, PAGE_WHOLE };
     uint32_t tick = UINT32_MAX - 200000;
-    unsigned ran_out = 0, most = 0;
+    unsigned ran_out = 0, most = 0, paging = 0;
     set_up(tick);
     for (unsigned i = 0; i < 600; i++) {
         uint64_t soonest = next_expiry(), held_before = held_count(), expired;
@@ -355,13 +409,14 @@ static void by_events(void)
             ran_out += (unsigned)expired;
         } else if (dice() % 8 == 0) ACCEPTED(asternhaken_joined(state, LENGTH, tick, keys[dice() % 3]));
         else if (dice() % 8 == 0) ACCEPTED(asternhaken_bit_22(state, LENGTH, tick, (uint32_t)(dice() % 2)));
-        else if (dice() % 3 == 0) ACCEPTED(message(asternhaken_facch, tick += (uint32_t)(dice() % 900), facch[dice() % 2]));
+        else if (dice() % 3 == 0) ACCEPTED(message(asternhaken_facch, tick += (uint32_t)(dice() % 900), facch[dice() % 4]));
         else if (dice() % 2 == 0) ACCEPTED(asternhaken_pch_put(state, LENGTH, tick += (uint32_t)(dice() % 900), &yard_second));
         else ACCEPTED(message(asternhaken_nch, tick += (uint32_t)(dice() % 900), nch[dice() % 3]));
         if (held_count() > most) most = (unsigned)held_count();
+        paging += (unsigned)paged().paged;
         CHECK(agrees());
     }
-    CHECK(ran_out > 50 && most == 4 && tick < 1000000000); /* it went round the wrap */
+    CHECK(ran_out > 50 && most == 4 && paging > 20 && tick < 1000000000); /* it went round the wrap */
 }
 
 /* Octets that no setup left. */
@@ -386,12 +441,16 @@ int main(void)
     state = (uint8_t *)lent(LENGTH), before = (uint8_t *)lent(LENGTH);
     live_list();
     whole_entries();
+    pages();
     mark();
     lengths();
     every_room(asternhaken_held_numbers, 0, ASTERNHAKEN_HELD_NUMBERS);
     ACCEPTED(message(asternhaken_nch, 1002, CLEAR));
     every_room(asternhaken_entry_numbers, 0, ASTERNHAKEN_ENTRY_NUMBERS);
     every_room(asternhaken_entry_numbers, 7, ASTERNHAKEN_ENTRY_NUMBERS);
+    every_room(paged_numbers, 0, ASTERNHAKEN_PAGED_NUMBERS);
+    ACCEPTED(message(asternhaken_facch, 1003, PAGE_WHOLE));
+    every_room(paged_numbers, 0, ASTERNHAKEN_PAGED_NUMBERS);
     by_events();
     by_chance();
     free(state), free(before);

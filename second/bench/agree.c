@@ -7,9 +7,9 @@
 #include <stdlib.h>
 #include <string.h>
 
-enum { PARTS = 37, EXPIRED = 0, DROPPED = 1, COUNT = 2, KEY_OF = 3, TOLD = 4, FOLLOWS = 35, ENTRIES = 9 };
+enum { PARTS = 46, EXPIRED = 0, DROPPED = 1, COUNT = 2, KEY_OF = 3, TOLD = 4, FOLLOWS = 35, PAGED = 37, ENTRIES = 9, FACCH_NUMBERS = 30 };
 
-unsigned long refusals_seen[16], told_seen[9], follow_seen[4];
+unsigned long refusals_seen[16], told_seen[9], follow_seen[4], paged_seen, writer_refusals_seen[16];
 
 static uint64_t part(const struct side *s, const uint8_t *state, uint32_t entry, uint32_t number)
 {
@@ -42,7 +42,7 @@ int same_reading(const struct side *const *sides, unsigned n_sides, int facch, c
 {
     static const struct readers *const all[3] = { &plain_gcc_readers, &plain_clang_readers, &bitwise_readers };
     static const char *const names[3] = { "plain_gcc", "plain_clang", "bitwise" };
-    size_t most = facch ? 22 : 106;
+    size_t most = facch ? FACCH_NUMBERS : 106;
     uint64_t here[106], there[106];
     uint32_t refusal = facch ? sides[0]->facch_numbers(octets, n, here, most) : sides[0]->nch_numbers(octets, n, here, most);
     for (unsigned k = 1; k < n_sides + 3; k++) {
@@ -75,6 +75,44 @@ int same_reading(const struct side *const *sides, unsigned n_sides, int facch, c
     return 1;
 }
 
+int same_writing(const struct side *const *sides, unsigned n_sides, const uint64_t *numbers, size_t n)
+{
+    uint8_t here[32], there[32];
+    memset(here, 0xEE, sizeof here);
+    uint32_t refusal = sides[0]->facch_write(numbers, FACCH_NUMBERS, here, n);
+    for (unsigned k = 1; k < n_sides; k++) {
+        memset(there, 0xEE, sizeof there);
+        uint32_t other = sides[k]->facch_write(numbers, FACCH_NUMBERS, there, n);
+        if (refusal != other || memcmp(here, there, sizeof here) != 0) {
+            printf("FACCH record into %u octets:", (unsigned)n);
+            for (unsigned i = 0; i < FACCH_NUMBERS; i++)
+                if (numbers[i])
+                    printf(" %u: %" PRIu64, i, numbers[i]);
+            printf("; refusal %u by %s, %u by %s\n", (unsigned)refusal, sides[0]->name, (unsigned)other, sides[k]->name);
+            return 0;
+        }
+    }
+    writer_refusals_seen[refusal & 15]++;
+    return 1;
+}
+
+/* What was read of a FACCH message is written into as many octets, and, sometimes with another number in it, into others. */
+static int same_writings(const struct side *const *sides, unsigned n_sides, struct dice *d, const struct message *m)
+{
+    static const uint64_t limits[] = { 0, 1, 2, 3, 4, 7, 8, 9, 10, 15, 16, 255, 256, 0x1000, 0xFFFFFF, 0x1000000, 99999999, 100000000, 0x7FFFFFF, 0x8000000,
+        0xFFFFFFFFFu, 0x1000000000u, 0xFFFFFFFFFFFFu, UINT64_MAX };
+    uint64_t numbers[FACCH_NUMBERS];
+    if (sides[0]->facch_numbers(m->octets, m->n, numbers, FACCH_NUMBERS) != 0)
+        return 1;
+    if (!same_writing(sides, n_sides, numbers, m->n))
+        return 0;
+    if (one_in(d, 2))
+        numbers[below(d, FACCH_NUMBERS)] = limits[below(d, sizeof limits / sizeof *limits)];
+    if (one_in(d, 4))
+        numbers[below(d, FACCH_NUMBERS)] = limits[below(d, sizeof limits / sizeof *limits)];
+    return same_writing(sides, n_sides, numbers, below(d, 26));
+}
+
 unsigned messages_alike(const struct side *const *sides, unsigned n_sides, uint64_t seed, unsigned messages)
 {
     struct dice d = { seed };
@@ -82,7 +120,7 @@ unsigned messages_alike(const struct side *const *sides, unsigned n_sides, uint6
     for (unsigned i = 0; i < messages; i++) {
         int facch = one_in(&d, 3);
         struct message m = facch ? random_facch(&d, keys, 6) : random_nch(&d, keys, 6);
-        if (!same_reading(sides, n_sides, facch, m.octets, m.n))
+        if (!same_reading(sides, n_sides, facch, m.octets, m.n) || (facch && !same_writings(sides, n_sides, &d, &m)))
             return i;
     }
     return messages;
@@ -174,6 +212,7 @@ static int sequence_alike(const struct side *const *sides, uint8_t *const *state
             return 0;
         if (!refusal) {
             tick = e.tick;
+            paged_seen += part(sides[0], states[0], 0, PAGED) == 1;
             for (uint32_t j = 0; j < part(sides[0], states[0], 0, COUNT); j++) {
                 told_seen[part(sides[0], states[0], j, TOLD) % 9]++;
                 follow_seen[part(sides[0], states[0], j, FOLLOWS) % 4]++;

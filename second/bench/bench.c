@@ -29,15 +29,17 @@
 extern const struct side *const library;
 
 enum { KEYS = 50, FOREIGN = 123456, FIRST_TICK = 1000, TIMER = 60000, RUN = 2000, COUNTED = 10, LIMIT = 10 };
-enum kind { TICK, BIT_22, NCH, FACCH, PCH, READ_NCH, READ_FACCH };
+enum kind { TICK, BIT_22, NCH, FACCH, PCH, WRITE_FACCH, READ_NCH, READ_FACCH };
+enum { FACCH_NUMBERS = 30 };
 
-/* A row of the table: a receiver that holds so many halves, and one or two messages handed in by turns. */
+/* A row of the table: a receiver that holds so many halves, and one or two messages handed in by turns. What is written is a message that was read. */
 struct row {
     const char *name;
     enum kind kind;
     unsigned halves;
     int spread;
     struct message messages[2];
+    uint64_t record[FACCH_NUMBERS];
 };
 
 /* Who runs a row: a side, its readers into numbers, or readers into a record. */
@@ -50,6 +52,7 @@ struct runner {
 static uint32_t keys[KEYS], sets[KEYS];
 static uint8_t *working;
 static _Alignas(64) uint64_t numbers[106];
+static _Alignas(64) uint8_t written[23];
 static _Alignas(64) struct plain_nch nch_record;
 static _Alignas(64) struct plain_facch facch_record;
 
@@ -60,7 +63,9 @@ static unsigned n_rows, n_event_rows;
 
 static void add(const char *name, enum kind kind, unsigned halves, int spread, struct message a, struct message b)
 {
-    rows[n_rows++] = (struct row){ name, kind, halves, spread, { a, b } };
+    rows[n_rows++] = (struct row){ name, kind, halves, spread, { a, b }, { 0 } };
+    if (kind == WRITE_FACCH)
+        plain_gcc.facch_numbers(a.octets, a.n, rows[n_rows - 1].record, FACCH_NUMBERS);
 }
 
 /* The measured key is the last one, so that every search for it goes over all keys. */
@@ -82,9 +87,13 @@ static void make_rows(void)
     for (unsigned i = 0; i < 5; i++)
         add("FACCH, a half stored and joined in turn", FACCH, held[i].halves, 0, facch_first_half(key), facch_second_half(key));
     for (unsigned i = 0; i < 5; i++)
+        add("FACCH, somebody is paged", FACCH, held[i].halves, 0, facch_page(), facch_page());
+    for (unsigned i = 0; i < 5; i++)
         add("PCH, no entry of ours", PCH, held[i].halves, 0, pch_clear_call(FOREIGN), pch_clear_call(FOREIGN));
     for (unsigned i = 0; i < 5; i++)
         add("PCH, a half stored and joined in turn", PCH, held[i].halves, 0, pch_first_half(key), pch_second_half(key));
+    add("writing FACCH: a first half", WRITE_FACCH, 0, 0, facch_first_half(key), facch_first_half(key));
+    add("writing FACCH: a page", WRITE_FACCH, 0, 0, facch_page(), facch_page());
     n_event_rows = n_rows;
     add("NCH: a clear call", READ_NCH, 0, 0, clear_call(key), clear_call(key));
     add("NCH: a first half", READ_NCH, 0, 0, first_half(key), first_half(key));
@@ -92,6 +101,7 @@ static void make_rows(void)
     add("NCH: two calls with both releases", READ_NCH, 0, 0, two_calls(key, keys[0]), two_calls(key, keys[0]));
     add("FACCH: a first half", READ_FACCH, 0, 0, facch_first_half(key), facch_first_half(key));
     add("FACCH: a second half", READ_FACCH, 0, 0, facch_second_half(key), facch_second_half(key));
+    add("FACCH: a page", READ_FACCH, 0, 0, facch_page(), facch_page());
 }
 
 /* A receiver of fifty keys that holds the row's halves: the first places of both channels, or places spread over all. */
@@ -146,6 +156,10 @@ static void run(const struct runner *w, const struct row *r, unsigned n)
             s->pch(working, s->state_length, FIRST_TICK + i + 1, b->entry, 14);
         }
         break;
+    case WRITE_FACCH:
+        for (unsigned i = 0; i < n; i++)
+            s->facch_write(r->record, FACCH_NUMBERS, written, sizeof written);
+        break;
     case READ_NCH:
         for (unsigned i = 0; i < n; i++)
             if (w->readers)
@@ -158,7 +172,7 @@ static void run(const struct runner *w, const struct row *r, unsigned n)
             if (w->readers)
                 w->readers->facch(a->octets, a->n, &facch_record);
             else
-                s->facch_numbers(a->octets, a->n, numbers, 22);
+                s->facch_numbers(a->octets, a->n, numbers, FACCH_NUMBERS);
         break;
     }
 }
@@ -201,6 +215,10 @@ static void check_rows(const struct side *const *sides, unsigned n_sides)
                 good = same_reading(sides, n_sides, r->kind == READ_FACCH, m->octets, m->n);
                 continue;
             }
+            if (r->kind == WRITE_FACCH) {
+                good = same_writing(sides, n_sides, r->record, sizeof written) && sides[0]->facch_write(r->record, FACCH_NUMBERS, written, sizeof written) == 0;
+                continue;
+            }
             for (unsigned k = 0; k < n_sides; k++) {
                 const struct side *s = sides[k];
                 uint32_t refusal = r->kind == TICK ? s->tick(states[k], s->state_length, FIRST_TICK + j)
@@ -239,7 +257,12 @@ static int answers_agree(uint64_t seed, unsigned messages, unsigned sequences)
     printf(". Numbers told:");
     for (unsigned i = 0; i < 9; i++)
         printf(" %u: %lu%s", i, told_seen[i], i == 8 ? "." : ",");
-    printf(" Beside 2 and 3: no key %lu, no count %lu, follow %lu.\n", follow_seen[1], follow_seen[2], follow_seen[3]);
+    printf(" Beside 2 and 3: no key %lu, no count %lu, follow %lu. Somebody was paged %lu times.\n", follow_seen[1], follow_seen[2], follow_seen[3], paged_seen);
+    printf("Refusals met in writing FACCH messages:");
+    for (unsigned i = 0, n = 0; i < 16; i++)
+        if (writer_refusals_seen[i])
+            printf("%s %u: %lu", n++ ? "," : "", i, writer_refusals_seen[i]);
+    printf(".\n");
     return 1;
 }
 
@@ -417,7 +440,7 @@ static void print_tables(void)
         beside(best[i][0], best[i][2]);
         printf("\n");
     }
-    printf("\nns per reading. The library reads into an array of numbers, 106 for the NCH and 22 for the FACCH; plain reads into a record, and into such an array.\n\n");
+    printf("\nns per reading. The library reads into an array of numbers, 106 for the NCH and 30 for the FACCH; plain reads into a record, and into such an array.\n\n");
     printf("| reading | library | record, gcc -O2 | ratio | record, clang -O3 | ratio | numbers, gcc -O2 | ratio | numbers, clang -O3 | ratio | bit vector | ratio |\n");
     printf("|---|---|---|---|---|---|---|---|---|---|---|---|\n");
     for (unsigned i = n_event_rows; i < n_rows; i++) {

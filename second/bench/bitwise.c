@@ -5,7 +5,7 @@
 #include <stdbool.h>
 #include <string.h>
 
-enum { ACCEPTED, MESSAGE_LENGTH, RAN_OUT, ALLOCATION_LENGTH, REFERENCE, HOPPING, RANDOM_ENTRIES, EMERGENCY_MARKS, PAGING, RAN_OUT_6 = 14, RAN_OUT_7 };
+enum { ACCEPTED, MESSAGE_LENGTH, RAN_OUT, ALLOCATION_LENGTH, REFERENCE, HOPPING, RANDOM_ENTRIES, EMERGENCY_MARKS, IDENTITY_LENGTH, RAN_OUT_6 = 14, RAN_OUT_7 };
 
 struct bit_vector {
     const uint8_t *data;
@@ -189,11 +189,28 @@ static uint32_t get_nch(const uint8_t *octets, size_t n, struct plain_nch *m)
     return refusal;
 }
 
+static uint32_t get_page(struct bit_vector *v, struct plain_page *p)
+{
+    p->identity_octets = (uint8_t)get_field(v, 8);
+    if (v->short_of)
+        return v->ran_out;
+    if (p->identity_octets < 1 || p->identity_octets > 9)
+        return IDENTITY_LENGTH;
+    if (lacks(v, 8u * p->identity_octets)) /* one field */
+        return v->ran_out;
+    p->first_octet = (uint8_t)get_field(v, 8);
+    p->other_octets = get_field(v, 8u * (p->identity_octets - 1u));
+    p->channel_first = (uint8_t)get_field(v, 2);
+    p->priority_given = (uint8_t)get_field(v, 1);
+    if (p->priority_given)
+        p->priority = (uint8_t)get_field(v, 3);
+    return v->short_of ? v->ran_out : ACCEPTED;
+}
+
 static uint32_t get_facch_parts(struct bit_vector *v, struct plain_facch *m)
 {
-    if (get_field(v, 1))
-        return PAGING;
-    uint32_t refusal = get_call(v, &m->call);
+    m->paging = (uint8_t)get_field(v, 1);
+    uint32_t refusal = m->paging ? get_page(v, &m->page) : get_call(v, &m->call);
     if (refusal)
         return refusal;
     if (!at_end(v) && get_high(v)) {
@@ -215,9 +232,9 @@ static uint32_t get_facch_parts(struct bit_vector *v, struct plain_facch *m)
         v->ran_out = RAN_OUT_7;
         m->uplink_access = (uint8_t)get_high(v);
         m->emergency = (uint8_t)get_high(v);
-        m->paging_cause_given = (uint8_t)get_field(v, 1);
-        if (m->paging_cause_given)
-            get_field(v, 1);
+        m->cause_given = (uint8_t)get_field(v, 1);
+        if (m->cause_given)
+            m->cause = (uint8_t)get_field(v, 1);
     }
     m->used = (uint8_t)v->cursor;
     return v->short_of ? v->ran_out : ACCEPTED;

@@ -160,6 +160,24 @@ struct message facch_second_half(uint32_t key)
     return p.to;
 }
 
+/* An identity of five octets, a TMSI, with a priority and a Paging Cause. */
+struct message facch_page(void)
+{
+    struct pen p = blank(23);
+    put(&p, 8, 0x04);
+    put(&p, 1, 1);
+    put(&p, 8, 5);
+    put(&p, 40, 0xF412345678u);
+    put(&p, 2, 1);
+    put(&p, 4, 8 | 5);
+    put_high(&p, 0);
+    put_high(&p, 1);
+    put_high(&p, 0);
+    put_high(&p, 0);
+    put(&p, 2, 3); /* a short message */
+    return p.to;
+}
+
 /* ---- Random ones ---- */
 
 uint64_t roll(struct dice *d)
@@ -228,6 +246,17 @@ static void put_random_flagged(struct pen *p, struct dice *d, unsigned n)
     put(p, 1, given);
     if (given)
         put(p, n, below(d, 1u << n));
+}
+
+/* Who is paged; some have a length that no identity has. */
+static void put_random_page(struct pen *p, struct dice *d)
+{
+    unsigned n = one_in(d, 12) ? below(d, 256) : one_in(d, 12) ? 10 * below(d, 2) : 1 + below(d, 9);
+    put(p, 8, n);
+    for (unsigned i = 0; i < n; i++)
+        put(p, 8, below(d, 256));
+    put(p, 2, below(d, 4));
+    put_random_flagged(p, d, 3);
 }
 
 static void put_random_7(struct pen *p, struct dice *d, unsigned described)
@@ -307,10 +336,14 @@ struct message random_nch(struct dice *d, const uint32_t *keys, uint32_t n_keys)
 struct message random_facch(struct dice *d, const uint32_t *keys, uint32_t n_keys)
 {
     struct pen p = blank(23);
+    unsigned paging = one_in(d, 5);
     put(&p, 8, below(d, 256));
-    put(&p, 1, one_in(d, 60));
+    put(&p, 1, paging);
     unsigned described = !one_in(d, 3), given = described ? one_in(d, 4) : !one_in(d, 4);
-    put_random_call(&p, d, random_key(d, keys, n_keys), described);
+    if (paging)
+        put_random_page(&p, d);
+    else
+        put_random_call(&p, d, random_key(d, keys, n_keys), described);
     unsigned six = given || !one_in(d, 3);
     put_high(&p, six);
     if (six) {

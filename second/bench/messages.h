@@ -21,6 +21,7 @@ struct message two_calls(uint32_t key, uint32_t another);
 struct message facch_clear_call(uint32_t key);
 struct message facch_first_half(uint32_t key);
 struct message facch_second_half(uint32_t key);
+struct message facch_page(void);
 
 /* The PCH entries that are measured. */
 struct message pch_clear_call(uint32_t key);

@@ -14,13 +14,13 @@
 #define JOIN(a, b) JOIN_(a, b)
 
 enum {
-    ACCEPTED, MESSAGE_LENGTH, RAN_OUT, ALLOCATION_LENGTH, REFERENCE, HOPPING, RANDOM_ENTRIES, EMERGENCY_MARKS, PAGING, CLOCK, SETUP,
-    RANGE = 12, STATE_LENGTH = 13, RAN_OUT_6, RAN_OUT_7
+    ACCEPTED, MESSAGE_LENGTH, RAN_OUT, ALLOCATION_LENGTH, REFERENCE, HOPPING, RANDOM_ENTRIES, EMERGENCY_MARKS, IDENTITY_LENGTH, CLOCK, SETUP,
+    FORM_SIZE, RANGE, STATE_LENGTH = 13, RAN_OUT_6, RAN_OUT_7
 };
 enum { NO_KEY = 1, NO_COUNT, FOLLOW };
 enum { NOT_OURS, CLEAR, ONE_PIECE, JOINED, HALF_STORED, HALF_HELD, NO_CHANNEL, UNUSABLE, SECOND_BEFORE_FIRST };
 enum { NCH, FACCH, PCH, CHANNELS };
-enum { KEYS = 50, ENTRIES = 9, PCH_NUMBERS = 14, LONGEST = 60000, LAST_REFERENCE = 99999999, LAST_KEY = 199999999, NLN_UNKNOWN = 4, NONE_KEPT = 4, BIT_UNKNOWN = 2 };
+enum { KEYS = 50, ENTRIES = 9, PCH_NUMBERS = 14, FACCH_NUMBERS = 30, LONGEST = 60000, LAST_REFERENCE = 99999999, LAST_KEY = 199999999, NLN_UNKNOWN = 4, NONE_KEPT = 4, BIT_UNKNOWN = 2 };
 
 /* ---- Bits ---- */
 
@@ -289,11 +289,30 @@ static uint32_t read_nch(const uint8_t *octets, size_t n, struct plain_nch *m)
     return refusal;
 }
 
+INLINE uint32_t read_page(struct bits *b, struct plain_page *p)
+{
+    if (left(b) < 8)
+        return missing(b, 0);
+    unsigned n = (unsigned)take(b, 8);
+    if (n < 1 || n > 9)
+        return IDENTITY_LENGTH;
+    if (left(b) < 8 * n)
+        return missing(b, 0);
+    p->identity_octets = (uint8_t)n;
+    p->first_octet = (uint8_t)take(b, 8);
+    if (n > 1)
+        p->other_octets = take(b, 8 * (n - 1));
+    p->channel_first = (uint8_t)take(b, 2); /* an identity ends one bit into an octet, so the next seven bits are there */
+    p->priority_given = flag(b);
+    if (p->priority_given)
+        p->priority = (uint8_t)take(b, 3);
+    return ACCEPTED;
+}
+
 static uint32_t read_facch_parts(struct bits *b, struct plain_facch *m)
 {
-    if (flag(b))
-        return PAGING;
-    uint32_t refusal = read_call(b, &m->call);
+    m->paging = flag(b);
+    uint32_t refusal = m->paging ? read_page(b, &m->page) : read_call(b, &m->call);
     if (refusal)
         return refusal;
     if (left(b) && high(b)) {
@@ -325,11 +344,11 @@ static uint32_t read_facch_parts(struct bits *b, struct plain_facch *m)
             return missing(b, left(b));
         m->uplink_access = high(b);
         m->emergency = high(b);
-        m->paging_cause_given = flag(b);
-        if (m->paging_cause_given) {
+        m->cause_given = flag(b);
+        if (m->cause_given) {
             if (left(b) < 1)
                 return missing(b, 0);
-            flag(b);
+            m->cause = flag(b);
         }
     }
     m->used = (uint8_t)b->at;
@@ -431,7 +450,14 @@ static uint32_t read_nch_numbers(const uint8_t *octets, size_t n, uint64_t *numb
 static void facch_numbers(uint64_t *to, const struct plain_facch *m)
 {
     *to++ = m->used;
+    *to++ = m->paging;
     to = call_numbers(to, &m->call);
+    *to++ = m->page.identity_octets;
+    *to++ = m->page.first_octet;
+    *to++ = m->page.other_octets;
+    *to++ = m->page.channel_first;
+    *to++ = m->page.priority_given;
+    *to++ = m->page.priority;
     *to++ = m->release_6;
     *to++ = m->counted;
     *to++ = m->cell_global_count;
@@ -441,21 +467,183 @@ static void facch_numbers(uint64_t *to, const struct plain_facch *m)
     *to++ = m->release_7;
     *to++ = m->uplink_access;
     *to++ = m->emergency;
-    *to = m->paging_cause_given;
+    *to++ = m->cause_given;
+    *to = m->cause;
 }
 
 static uint32_t read_facch_numbers(const uint8_t *octets, size_t n, uint64_t *numbers, size_t n_numbers)
 {
     struct plain_facch m;
     uint32_t refusal = read_facch(octets, n, &m);
-    if (n_numbers == 22) {
+    if (n_numbers == FACCH_NUMBERS) {
         facch_numbers(numbers, &m);
     } else {
-        uint64_t all[22];
+        uint64_t all[FACCH_NUMBERS];
         facch_numbers(all, &m);
-        hand_over(all, 22, numbers, n_numbers);
+        hand_over(all, FACCH_NUMBERS, numbers, n_numbers);
     }
     return refusal;
+}
+
+/* ---- The FACCH writer ---- */
+
+/* The bits of a form, first bit on top of the first word; the longest has 191. */
+struct pen {
+    uint64_t words[4];
+    unsigned at;
+};
+
+/* The low n bits of a number that has no more, 1 to 64. */
+INLINE void put(struct pen *p, uint64_t x, unsigned n)
+{
+    unsigned i = p->at >> 6, room = 64 - (p->at & 63);
+    if (n <= room) {
+        p->words[i] |= x << (room - n);
+    } else {
+        p->words[i] |= x >> (n - room);
+        p->words[i + 1] = x << (64 - (n - room));
+    }
+    p->at += n;
+}
+
+/* H for 1, L for 0. */
+INLINE void put_high(struct pen *p, uint64_t high)
+{
+    put(p, (0x2B >> (7 - (p->at & 7)) & 1) ^ high, 1);
+}
+
+/* Whether octets that so many of them hold, up to 8, are in range. */
+static inline int holds(uint64_t octets, uint64_t x)
+{
+    return octets >= 8 || !(x >> 8 * octets);
+}
+
+static int call_in_range(const uint64_t *c)
+{
+    uint64_t allocated = c[7] & ~c[8];
+    if (c[0] >> 27 || (c[1] | c[2] | c[5]) > 1 || c[3] > 7 || c[4] > 15 || c[6] >> (c[5] ? 24 : 0) || c[7] > c[5] || c[8] > c[7])
+        return 0;
+    return c[9] <= (allocated ? 255u : 0u) && (c[8] || holds(c[9], c[10]));
+}
+
+static int page_in_range(const uint64_t *p)
+{
+    return p[0] <= 255 && p[1] <= (p[0] ? 255u : 0u) && holds(p[0] ? p[0] - 1 : 0, p[2]) && p[3] <= 3 && p[4] <= 1 && p[5] <= (p[4] ? 7u : 0u);
+}
+
+static int all_zero(const uint64_t *x, unsigned n)
+{
+    uint64_t any = 0;
+    for (unsigned i = 0; i < n; i++)
+        any |= x[i];
+    return !any;
+}
+
+/* 1 paging, 2 to 12 the call, 13 to 18 the page, 19 to 24 Release 6, 25 to 29 Release 7. */
+static int facch_in_range(const uint64_t *x)
+{
+    if (x[1] > 1 || !(x[1] ? all_zero(x + 2, 11) && page_in_range(x + 13) : call_in_range(x + 2) && all_zero(x + 13, 6)))
+        return 0;
+    if (x[19] > 1 || x[20] > x[19] || x[21] > 3 * x[20] || x[22] > x[20] || x[23] > x[19] || x[24] >> (x[23] ? 36 : 0))
+        return 0;
+    return x[25] <= 1 && x[26] <= x[25] && x[27] <= x[25] && x[28] <= x[25] && x[29] <= x[28];
+}
+
+static uint32_t facch_refusal(const uint64_t *x)
+{
+    const uint64_t *c = x + 2;
+    if (!facch_in_range(x))
+        return RANGE;
+    if (x[1])
+        return x[13] - 1 > 8 ? IDENTITY_LENGTH : ACCEPTED;
+    if (c[0] > LAST_REFERENCE)
+        return REFERENCE;
+    if (c[7] && !c[8] && c[9] - 1 > 7)
+        return ALLOCATION_LENGTH;
+    return c[5] && (c[6] >> 12 & 1) != c[7] ? HOPPING : ACCEPTED;
+}
+
+static void put_written_call(struct pen *p, const uint64_t *c)
+{
+    put(p, c[0] << 9 | c[1] << 8 | c[2] << 7 | c[3] << 4 | c[4], 36);
+    put(p, c[5], 1);
+    if (!c[5])
+        return;
+    put(p, c[6] << 1 | c[7], 25);
+    if (!c[7])
+        return;
+    put(p, c[8], 1);
+    if (c[8]) {
+        put(p, c[10], 64);
+    } else {
+        put(p, c[9], 8);
+        put(p, c[10], 8 * (unsigned)c[9]);
+    }
+}
+
+static void put_written_page(struct pen *p, const uint64_t *page)
+{
+    put(p, page[0] << 8 | page[1], 16);
+    if (page[0] > 1)
+        put(p, page[2], 8 * (unsigned)(page[0] - 1));
+    put(p, page[3] << 1 | page[4], 3);
+    if (page[4])
+        put(p, page[5], 3);
+}
+
+static void put_releases(struct pen *p, const uint64_t *x, unsigned size)
+{
+    if (x[19] || p->at != size)
+        put_high(p, x[19]);
+    if (x[19]) {
+        put(p, x[20], 1);
+        if (x[20])
+            put(p, x[21] << 1 | x[22], 3);
+        put(p, x[23], 1);
+        if (x[23])
+            put(p, x[24], 36);
+    }
+    if (x[25] || p->at != size)
+        put_high(p, x[25]);
+    if (x[25]) {
+        put_high(p, x[26]);
+        put_high(p, x[27]);
+        put(p, x[28], 1);
+        if (x[28])
+            put(p, x[29], 1);
+    }
+}
+
+static uint32_t write_facch(const uint64_t *x, size_t n_numbers, uint8_t *octets, size_t n)
+{
+    if (n_numbers != FACCH_NUMBERS)
+        return STATE_LENGTH;
+    uint32_t refusal = facch_refusal(x);
+    if (refusal)
+        return refusal;
+    if (n < 2 || n > 23)
+        return FORM_SIZE;
+    struct pen p = { { 0 }, 8 };
+    put(&p, x[1], 1);
+    if (x[1])
+        put_written_page(&p, x + 13);
+    else
+        put_written_call(&p, x + 2);
+    put_releases(&p, x, 8 * (unsigned)n);
+    if (p.at > 8 * n)
+        return FORM_SIZE;
+    const uint64_t padding = 0x2B2B2B2B2B2B2B2B;
+    uint8_t whole[32];
+    for (unsigned i = 0; i < 4; i++) {
+        unsigned from = 64 * i;
+        uint64_t w = p.words[i] | (p.at <= from ? padding : p.at >= from + 64 ? 0 : padding & ~(uint64_t)0 >> (p.at - from));
+#if __BYTE_ORDER__ == __ORDER_LITTLE_ENDIAN__
+        w = __builtin_bswap64(w);
+#endif
+        memcpy(whole + 8 * i, &w, 8);
+    }
+    memcpy(octets, whole, n);
+    return ACCEPTED;
 }
 
 /* ---- The receiver ---- */
@@ -482,6 +670,8 @@ struct receiver {
     uint32_t since[CHANNELS][KEYS];
     struct record halves[CHANNELS][KEYS];
     uint32_t expired, dropped, count;
+    uint8_t paged, cause_given, cause; /* the rest is there only where somebody is paged */
+    struct plain_page page;
     struct told entries[ENTRIES];
 };
 
@@ -528,6 +718,7 @@ static void accept(struct receiver *r, uint32_t tick)
     r->expired = expire(r, NCH) + expire(r, FACCH) + expire(r, PCH);
     r->dropped = 0;
     r->count = 0;
+    r->paged = 0;
 }
 
 static unsigned drop(struct receiver *r, unsigned channel, uint64_t but)
@@ -733,10 +924,17 @@ static uint32_t event_facch(uint8_t *state, size_t state_length, uint32_t tick, 
     if (refusal)
         return refusal;
     accept(r, tick);
-    struct told *t = r->entries;
-    t->key = m.call.reference * 2 + m.call.vgcs;
     if (m.counted && r->bit != BIT_UNKNOWN)
         r->kept = (m.cell_global_count + (m.b22_count && !r->bit)) & 3;
+    if (m.paging) {
+        r->paged = 1;
+        r->cause_given = m.cause_given;
+        r->cause = m.cause;
+        r->page = m.page;
+        return ACCEPTED;
+    }
+    struct told *t = r->entries;
+    t->key = m.call.reference * 2 + m.call.vgcs;
     t->number = tell_facch(r, t, &m);
     tell_follow(r, t);
     r->count = 1;
@@ -969,6 +1167,24 @@ static uint64_t record_part(const struct record *x, uint32_t part)
     }
 }
 
+static uint64_t paged_part(const struct receiver *r, uint32_t part)
+{
+    const struct plain_page *p = &r->page;
+    if (!r->paged)
+        return 0;
+    switch (part) {
+    case 37: return 1;
+    case 38: return p->identity_octets;
+    case 39: return p->first_octet;
+    case 40: return p->other_octets;
+    case 41: return p->channel_first;
+    case 42: return p->priority_given;
+    case 43: return p->priority;
+    case 44: return r->cause_given;
+    default: return r->cause;
+    }
+}
+
 static uint32_t read_part(const uint8_t *state, size_t state_length, uint32_t entry, uint32_t part, uint64_t *value)
 {
     const struct receiver *r = (const struct receiver *)(const void *)state;
@@ -981,6 +1197,8 @@ static uint32_t read_part(const uint8_t *state, size_t state_length, uint32_t en
         *value = r->dropped;
     else if (part == 2)
         *value = r->count;
+    else if (part >= 37 && part <= 45)
+        *value = paged_part(r, part);
     else if (entry < r->count) {
         const struct told *t = &r->entries[entry];
         if (part == 3)
@@ -1001,6 +1219,6 @@ static uint32_t read_part(const uint8_t *state, size_t state_length, uint32_t en
 #define STRING(x) STRING_(x)
 const struct side PLAIN = {
     STRING(PLAIN), sizeof(struct receiver), setup, event_nch, event_facch, event_pch, event_joined, event_reselected, event_handed_over, event_reconfigured, event_left_idle, event_bit_22, event_tick,
-    read_part, read_nch_numbers, read_facch_numbers
+    read_part, read_nch_numbers, read_facch_numbers, write_facch
 };
 const struct readers JOIN(PLAIN, _readers) = { read_nch, read_facch, nch_numbers, facch_numbers };

@@ -29,11 +29,18 @@ struct plain_nch {
     uint8_t amr, fr_amr_given, fr_amr_config, hr_amr_given, hr_amr_config, sms, sms_confidentiality, sms_privacy, used;
 };
 
-/* NOTIFICATION/FACCH. */
+/* Paging Information: the mobile identity by its first octet and the others as one number, of which the first is the highest. */
+struct plain_page {
+    uint64_t other_octets;
+    uint8_t identity_octets, first_octet, channel_first, priority_given, priority;
+};
+
+/* NOTIFICATION/FACCH: a call, or a page. */
 struct plain_facch {
     struct plain_call call;
+    struct plain_page page;
     uint64_t vstk_rand;
-    uint8_t release_6, counted, cell_global_count, b22_count, rand_given, release_7, uplink_access, emergency, paging_cause_given, used;
+    uint8_t paging, release_6, counted, cell_global_count, b22_count, rand_given, release_7, uplink_access, emergency, cause_given, cause, used;
 };
 
 /* One implementation of the interface of asternhaken.h, so that the benchmark runs the same lines for all of them. */
@@ -54,13 +61,14 @@ struct side {
     uint32_t (*read)(const uint8_t *state, size_t state_length, uint32_t entry, uint32_t part, uint64_t *value);
     uint32_t (*nch_numbers)(const uint8_t *octets, size_t n, uint64_t *numbers, size_t n_numbers);
     uint32_t (*facch_numbers)(const uint8_t *octets, size_t n, uint64_t *numbers, size_t n_numbers);
+    uint32_t (*facch_write)(const uint64_t *numbers, size_t n_numbers, uint8_t *octets, size_t n);
 };
 
 /* The readers alone, into the records above. */
 struct readers {
     uint32_t (*nch)(const uint8_t *octets, size_t n, struct plain_nch *record);
     uint32_t (*facch)(const uint8_t *octets, size_t n, struct plain_facch *record);
-    /* the records as the arrays of 106 and 22 numbers that the library hands over; not there bit by bit */
+    /* the records as the arrays of 106 and 30 numbers that the library hands over; not there bit by bit */
     void (*nch_numbers)(uint64_t *to, const struct plain_nch *record);
     void (*facch_numbers)(uint64_t *to, const struct plain_facch *record);
 };

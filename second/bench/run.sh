@@ -105,7 +105,7 @@ sizes()
         size -t "$archive" | awk 'END { print "- the archive, all of it: text " $1 ", data " $2 ", bss " $3 }'
         echo "- what it asks of others (\`nm -u\`):$(nm -u "$archive" | awk '$1 == "U" && !seen[$2]++ { printf " %s", $2 }')"
     fi
-    size "$build/plain-gcc.o" | awk -v gcc="$gcc_named" 'END { print "- plain by " gcc ", without the GCC elements and the writers: text " $1 }'
+    size "$build/plain-gcc.o" | awk -v gcc="$gcc_named" 'END { print "- plain by " gcc ", without the GCC elements and the NCH writer: text " $1 }'
     size "$build/plain-clang.o" | awk 'END { print "- plain by clang -O3, likewise: text " $1 }'
 }
 

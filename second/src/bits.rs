@@ -24,7 +24,7 @@ pub const REFERENCE: Refusal = 4;
 pub const HOPPING: Refusal = 5;
 pub const RANDOM_ENTRIES: Refusal = 6;
 pub const EMERGENCY_MARKS: Refusal = 7;
-pub const PAGING: Refusal = 8;
+pub const IDENTITY_LENGTH: Refusal = 8;
 pub const CLOCK: Refusal = 9;
 pub const SETUP: Refusal = 10;
 pub const FORM_SIZE: Refusal = 11;
@@ -79,6 +79,14 @@ impl<'a> Reader<'a> {
         Ok(value)
     }
 
+    /// So many octets, which are one field.
+    pub fn octets(&mut self, count: usize) -> Result<Vec<u8>, Refusal> {
+        if self.place + 8 * count > self.size() {
+            return Err(missing(self.ran_out, self.place));
+        }
+        (0..count).map(|_| Ok(self.number(8)? as u8)).collect()
+    }
+
     pub fn flag(&mut self) -> Result<bool, Refusal> {
         Ok(self.bit()? == 1)
     }
@@ -127,6 +135,12 @@ impl Writer {
 
     pub fn flag(&mut self, flag: bool) {
         self.bits.push(u8::from(flag));
+    }
+
+    /// H where it is so, L where it is not.
+    pub fn high(&mut self, high: bool) {
+        let low = padding_bit(self.bits.len());
+        self.bits.push(if high { 1 - low } else { low });
     }
 
     pub fn optional(&mut self, value: Option<u64>, width: usize) {

@@ -1,4 +1,5 @@
-//! What the random event steps met from a setup on, and how often each must be met, or the comparison shows too little.
+//! What the random event steps met from a setup on, and the random FACCH messages and records, and how often each must be met, or the
+//! comparison shows too little.
 
 use crate::bits::Refusal;
 use crate::receiver::Channel::{self, Facch, Nch, Pch};
@@ -70,6 +71,39 @@ pub enum Met {
     BitRefused(Refusal),
     /// An event of this channel was refused with this number, from a setup on or not.
     Refused(Channel, Refusal),
+    /// A paging message was accepted: with an identity of this length; with a priority, or without; with this Paging Cause, 2 where there is none.
+    Paged(u64),
+    PagedWithPriority(bool),
+    PagedFor(u64),
+    /// It left halves of this channel where they were; halves ran out at it; its count was taken, or not.
+    PageBeside(Channel),
+    PageExpires,
+    PageCounted(bool),
+    /// Somebody was paged, and an event was then accepted that pages nobody, or somebody again, or it was refused.
+    PageGone,
+    PageAgain,
+    PageKept,
+    /// Somebody was paged, and a setup was then accepted, or refused.
+    PageAtSetup(bool),
+    /// A paging message was refused for the clock.
+    LatePage,
+    /// A FACCH message was read: one that pages, with an identity of this length; a call with a Paging Cause of this value.
+    PageRead(u64),
+    CallCause(u64),
+    /// A FACCH message was refused for an identity of this length, 13 standing for all above 12.
+    Identity(u64),
+    /// The octets of an identity are not all there, or its length octet is not.
+    IdentityMissing(bool),
+    /// The FACCH writer refused with this number.
+    WriteRefused(Refusal),
+    /// It wrote so many octets; it wrote a page with an identity of this length.
+    Written(u64),
+    PageWritten(u64),
+    /// It wrote nothing for this release, 6 or 7, since the buffer was used up; it wrote an L for it, in the last bit.
+    UsedUp(u64),
+    LastBit(u64),
+    /// It refused a page, or a call, for nothing but what stands in the other one's places.
+    OtherBranch(bool),
 }
 
 use Cause::*;
@@ -77,7 +111,7 @@ use Met::*;
 
 /// How often each is met at least in 10,000 event steps: about a third to a half of what the usual seed gives. 7 on the FACCH is
 /// always a disagreement; 8 is told there alone.
-const LEAST: [(Met, u64); 122] = [
+const STEPS_LEAST: &[(Met, u64)] = &[
     (Told(Nch, 0), 270),
     (Told(Nch, 1), 80),
     (Told(Nch, 2), 25),
@@ -192,6 +226,7 @@ const LEAST: [(Met, u64); 122] = [
     (Refused(Nch, 14), 45),
     (Refused(Nch, 15), 90),
     (Refused(Facch, 2), 90),
+    (Refused(Facch, 8), 60),
     (Refused(Facch, 14), 40),
     (Refused(Facch, 15), 8),
     (Refused(Pch, 3), 30),
@@ -200,19 +235,118 @@ const LEAST: [(Met, u64); 122] = [
     (Refused(Pch, 9), 75),
     (Refused(Pch, 12), 60),
     (Refused(Pch, 13), 25),
+    (Paged(1), 7),
+    (Paged(2), 7),
+    (Paged(3), 6),
+    (Paged(4), 6),
+    (Paged(5), 40),
+    (Paged(6), 6),
+    (Paged(7), 7),
+    (Paged(8), 35),
+    (Paged(9), 20),
+    (PagedWithPriority(true), 70),
+    (PagedWithPriority(false), 70),
+    (PagedFor(0), 10),
+    (PagedFor(1), 10),
+    (PagedFor(2), 120),
+    (PageBeside(Nch), 8),
+    (PageBeside(Facch), 6),
+    (PageBeside(Pch), 8),
+    (PageExpires, 10),
+    (PageCounted(true), 16),
+    (PageCounted(false), 20),
+    (PageGone, 120),
+    (PageAgain, 6),
+    (PageKept, 50),
+    (PageAtSetup(true), 2),
+    (PageAtSetup(false), 9),
+    (LatePage, 9),
+];
+
+/// The same of the random messages and records of the FACCH, in 10,000 messages and records of both channels.
+const MESSAGES_LEAST: &[(Met, u64)] = &[
+    (PageRead(1), 4),
+    (PageRead(2), 4),
+    (PageRead(3), 4),
+    (PageRead(4), 4),
+    (PageRead(5), 40),
+    (PageRead(6), 4),
+    (PageRead(7), 4),
+    (PageRead(8), 40),
+    (PageRead(9), 25),
+    (CallCause(0), 35),
+    (CallCause(1), 35),
+    (Identity(0), 20),
+    (Identity(10), 8),
+    (Identity(11), 8),
+    (Identity(12), 8),
+    (Identity(13), 45),
+    (IdentityMissing(true), 12),
+    (IdentityMissing(false), 2),
+    (WriteRefused(3), 18),
+    (WriteRefused(4), 17),
+    (WriteRefused(5), 17),
+    (WriteRefused(8), 37),
+    (WriteRefused(11), 50),
+    (WriteRefused(12), 320),
+    (WriteRefused(13), 12),
+    (Written(4), 1),
+    (Written(5), 4),
+    (Written(6), 48),
+    (Written(7), 90),
+    (Written(8), 25),
+    (Written(9), 50),
+    (Written(10), 60),
+    (Written(11), 50),
+    (Written(12), 60),
+    (Written(13), 30),
+    (Written(14), 22),
+    (Written(15), 30),
+    (Written(16), 13),
+    (Written(17), 20),
+    (Written(18), 19),
+    (Written(19), 8),
+    (Written(20), 5),
+    (Written(21), 5),
+    (Written(22), 8),
+    (Written(23), 280),
+    (PageWritten(1), 8),
+    (PageWritten(2), 8),
+    (PageWritten(3), 8),
+    (PageWritten(4), 8),
+    (PageWritten(5), 65),
+    (PageWritten(6), 8),
+    (PageWritten(7), 8),
+    (PageWritten(8), 65),
+    (PageWritten(9), 39),
+    (UsedUp(6), 10),
+    (UsedUp(7), 55),
+    (LastBit(6), 45),
+    (LastBit(7), 48),
+    (OtherBranch(true), 20),
+    (OtherBranch(false), 54),
 ];
 
 const STEPS: u64 = 10_000;
 
-/// Counts only while the random event steps run.
-#[derive(Default)]
+/// Counts only while it is on: while the random event steps run, or the random messages.
 pub struct Cover {
+    what: &'static str,
+    least: &'static [(Met, u64)],
     pub on: bool,
     pub steps: u64,
     counts: BTreeMap<Met, u64>,
 }
 
 impl Cover {
+    pub fn of_steps() -> Cover {
+        Cover { what: "random event steps", least: STEPS_LEAST, on: false, steps: 0, counts: BTreeMap::new() }
+    }
+
+    pub fn of_messages() -> Cover {
+        Cover { what: "random messages and records", least: MESSAGES_LEAST, on: false, steps: 0, counts: BTreeMap::new() }
+    }
+
     pub fn count(&mut self, met: Met, times: u64) {
         if self.on {
             *self.counts.entry(met).or_default() += times;
@@ -221,10 +355,10 @@ impl Cover {
 
     /// Shows what was met how often; gives how many were met too seldom.
     pub fn finish(&self) -> u64 {
-        println!("met in {} random event steps, and how often each must be at least:", self.steps);
+        println!("met in {} {}, and how often each must be at least:", self.steps, self.what);
         let mut seldom = 0;
-        for (met, least) in LEAST {
-            let (count, least) = (self.counts.get(&met).copied().unwrap_or(0), least * self.steps / STEPS);
+        for (met, least) in self.least {
+            let (count, least) = (self.counts.get(met).copied().unwrap_or(0), least * self.steps / STEPS);
             println!("  {:28} {count:>8} {least:>8}{}", format!("{met:?}"), if count < least { "  met too seldom" } else { "" });
             seldom += u64::from(count < least);
         }

@@ -315,6 +315,51 @@ impl NchDraft {
     }
 }
 
+/// Paging Information. The length octet may say another length than the identity has.
+#[derive(Clone, Debug)]
+pub struct PageDraft {
+    pub length: u64,
+    pub identity: Vec<u8>,
+    pub channel_first: u64,
+    pub priority: Option<u64>,
+}
+
+impl PageDraft {
+    pub fn of(identity: &[u8]) -> PageDraft {
+        PageDraft { length: identity.len() as u64, identity: identity.to_vec(), channel_first: 0, priority: None }
+    }
+
+    /// A length that is no length of an identity is refused behind its octet, whatever follows.
+    pub fn is_right(&self) -> bool {
+        self.length >= 1 && self.length <= 9
+    }
+
+    fn lay(&self, bits: &mut Bits) {
+        bits.put(self.length, 8);
+        if !self.identity.is_empty() {
+            bits.begin_field();
+        }
+        for octet in &self.identity {
+            bits.more(u64::from(*octet), 8);
+        }
+        bits.put(self.channel_first, 2);
+        bits.maybe(self.priority, 3);
+    }
+
+    fn numbers(&self) -> Vec<u64> {
+        let others = self.identity.iter().skip(1).fold(0u64, |number, octet| number.wrapping_mul(256) + u64::from(*octet));
+        let first = self.identity.first().copied().unwrap_or(0);
+        vec![self.length, u64::from(first), others, self.channel_first, u64::from(self.priority.is_some()), self.priority.unwrap_or(0)]
+    }
+}
+
+/// What a FACCH message speaks of.
+#[derive(Clone, Debug)]
+pub enum Subject {
+    Call(CallDraft),
+    Page(PageDraft),
+}
+
 /// Count with B22, VSTK_RAND.
 type FacchSix = (Option<(u64, u64)>, Option<u64>);
 /// Priority Uplink Access, emergency, Paging Cause.
@@ -323,8 +368,7 @@ type FacchSeven = (u64, u64, Option<u64>);
 #[derive(Clone, Debug)]
 pub struct FacchDraft {
     pub first_octet: u64,
-    /// None is the paging branch.
-    pub call: Option<CallDraft>,
+    pub subject: Subject,
     pub six: Option<FacchSix>,
     pub seven: Option<FacchSeven>,
     /// Where both releases may be told by nothing: as few octets as the call takes.
@@ -333,7 +377,21 @@ pub struct FacchDraft {
 
 impl FacchDraft {
     pub fn of(call: CallDraft) -> FacchDraft {
-        FacchDraft { first_octet: 4, call: Some(call), six: None, seven: None, short: false }
+        FacchDraft::about(Subject::Call(call))
+    }
+
+    pub fn page(page: PageDraft) -> FacchDraft {
+        FacchDraft::about(Subject::Page(page))
+    }
+
+    fn about(subject: Subject) -> FacchDraft {
+        FacchDraft { first_octet: 4, subject, six: None, seven: None, short: false }
+    }
+
+    /// With a Paging Cause, and L in the two bits before it.
+    pub fn cause(mut self, cause: u64) -> FacchDraft {
+        self.seven = Some((0, 0, Some(cause)));
+        self
     }
 
     pub fn rand(mut self, vstk_rand: u64) -> FacchDraft {
@@ -349,16 +407,31 @@ impl FacchDraft {
     }
 
     pub fn bits(&self) -> Bits {
+        self.form(|bits| self.short && bits % 8 == 0)
+    }
+
+    /// What a writer must leave in so many octets; nothing where the form does not fit. The first octet is not the message's to say.
+    pub fn written(&self, octets: usize) -> Option<Vec<u8>> {
+        let draft = FacchDraft { first_octet: 0, ..self.clone() };
+        let bits = draft.form(|bits| bits == 8 * octets);
+        (bits.0.len() <= 8 * octets).then(|| bits.octets(octets))
+    }
+
+    /// `used_up` says of a number of bits whether a message ends there, so that an absent release is nothing.
+    fn form(&self, used_up: impl Fn(usize) -> bool) -> Bits {
         let mut bits = Bits::default();
         bits.put(self.first_octet, 8);
-        match &self.call {
-            None => bits.one(),
-            Some(call) => {
+        match &self.subject {
+            Subject::Page(page) => {
+                bits.one();
+                page.lay(&mut bits);
+            }
+            Subject::Call(call) => {
                 bits.zero();
                 call.lay(&mut bits);
             }
         }
-        if self.short && self.six.is_none() && self.seven.is_none() && bits.0.len() % 8 == 0 {
+        if self.six.is_none() && self.seven.is_none() && used_up(bits.0.len()) {
             return bits;
         }
         match self.six {
@@ -376,7 +449,7 @@ impl FacchDraft {
                 bits.maybe(vstk_rand, 36);
             }
         }
-        if self.short && self.seven.is_none() && bits.0.len() % 8 == 0 {
+        if self.seven.is_none() && used_up(bits.0.len()) {
             return bits;
         }
         match self.seven {
@@ -395,9 +468,20 @@ impl FacchDraft {
         self.bits().octets(if self.short { 2 } else { 23 })
     }
 
-    pub fn numbers(&self) -> Option<Vec<u64>> {
+    pub fn numbers(&self) -> Vec<u64> {
         let mut numbers = vec![self.bits().0.len() as u64];
-        numbers.extend(self.call.as_ref()?.numbers());
+        match &self.subject {
+            Subject::Call(call) => {
+                numbers.push(0);
+                numbers.extend(call.numbers());
+                numbers.extend([0; 6]);
+            }
+            Subject::Page(page) => {
+                numbers.push(1);
+                numbers.extend([0; 11]);
+                numbers.extend(page.numbers());
+            }
+        }
         match self.six {
             None => numbers.extend([0; 6]),
             Some((count, vstk_rand)) => {
@@ -406,10 +490,12 @@ impl FacchDraft {
             }
         }
         match self.seven {
-            None => numbers.extend([0; 4]),
-            Some((uplink, emergency, cause)) => numbers.extend([1, uplink, emergency, u64::from(cause.is_some())]),
+            None => numbers.extend([0; 5]),
+            Some((uplink, emergency, cause)) => {
+                numbers.extend([1, uplink, emergency, u64::from(cause.is_some()), cause.unwrap_or(0)]);
+            }
         }
-        Some(numbers)
+        numbers
     }
 }
 
@@ -578,10 +664,28 @@ impl Pool {
         }
     }
 
+    /// Identities of every length, those of a TMSI and of an IMSI more often; now and then a length that none has, with octets or without.
+    pub fn page(rng: &mut Rng) -> PageDraft {
+        let length = match rng.below(12) {
+            0 => 0,
+            1 => 10 + rng.below(3),
+            2 => rng.pick(&[13, 16, 64, 128, 200, 254, 255]),
+            3 | 4 => 5,
+            5 | 6 => 8,
+            7 => 9,
+            _ => 1 + rng.below(9),
+        };
+        let octets = if length > 9 && rng.one_in(2) { rng.below(10) } else { length.min(12) };
+        let identity = rng.octets(octets as usize);
+        PageDraft { length, identity, channel_first: rng.below(4), priority: rng.one_in(2).then(|| rng.below(8)) }
+    }
+
     pub fn facch(&self, rng: &mut Rng) -> FacchDraft {
+        // Where halves are to meet, it is a call.
+        let page = self.is_wide() && rng.one_in(3);
         FacchDraft {
             first_octet: rng.below(256),
-            call: (!rng.one_in(16)).then(|| self.call(rng)),
+            subject: if page { Subject::Page(Pool::page(rng)) } else { Subject::Call(self.call(rng)) },
             six: rng.one_in(2).then(|| {
                 let count = rng.one_in(2).then(|| (rng.below(4), rng.below(2)));
                 (count, rng.one_in(2).then(|| rng.below(1 << 36)))

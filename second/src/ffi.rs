@@ -29,12 +29,14 @@ pub mod archive {
         fn asternhaken_read(state: *const u8, state_length: usize, entry: u32, part: u32, value: *mut u64);
         fn asternhaken_entry_numbers(state: *const u8, state_length: usize, entry: u32, numbers: *mut u64, n: usize);
         fn asternhaken_held_numbers(state: *const u8, state_length: usize, i: u32, numbers: *mut u64, n: usize);
+        fn asternhaken_paged_numbers(state: *const u8, state_length: usize, numbers: *mut u64, n: usize);
         fn asternhaken_held_count(state: *const u8, state_length: usize, count: *mut u64);
         fn asternhaken_next_expiry(state: *const u8, state_length: usize, ms: *mut u64);
         fn asternhaken_is_set_up(state: *const u8, state_length: usize);
         fn asternhaken_nch_read(octets: *const u8, n: usize, numbers: *mut u64, n_numbers: usize);
         fn asternhaken_nch_write(numbers: *const u64, n_numbers: usize, octets: *mut u8, n: usize);
         fn asternhaken_facch_read(octets: *const u8, n: usize, numbers: *mut u64, n_numbers: usize);
+        fn asternhaken_facch_write(numbers: *const u64, n_numbers: usize, octets: *mut u8, n: usize);
         fn asternhaken_message_type_read(octet: u8, numbers: *mut u64, n_numbers: usize);
         fn asternhaken_message_type_write(numbers: *const u64, n_numbers: usize, octet: *mut u8);
         fn asternhaken_call_reference_read(octets: *const u8, n: usize, numbers: *mut u64, n_numbers: usize);
@@ -367,6 +369,12 @@ impl State {
     /// All numbers of the i-th of something, into `n` places.
     pub fn numbers(&self, view: NumbersView, i: u32, n: usize) -> (u32, Vec<u64>) {
         self.look(view as *const (), &[i, n as u32], n, |numbers| unsafe { view(self.lent.pointer(), self.lent.length, i, numbers, n) })
+    }
+
+    /// All numbers of who is paged, into `n` places. It is recorded as if the number of something were given, which is not looked at.
+    pub fn paged(&self, n: usize) -> (u32, Vec<u64>) {
+        let paged = archive::asternhaken_paged_numbers;
+        self.look(paged as *const (), &[0, n as u32], n, |numbers| unsafe { paged(self.lent.pointer(), self.lent.length, numbers, n) })
     }
 
     pub fn number(&self, view: NumberView) -> (u32, u64) {

@@ -2,11 +2,11 @@
 
 use crate::bits::number_of;
 use crate::elements::{CALL_REFERENCE, CAUSE, DIGITS};
-use crate::messages::{compare_facch, compare_nch, compare_nch_write};
+use crate::messages::{compare_facch, compare_facch_write, compare_nch, compare_nch_write};
 use crate::pair::Pair;
 use crate::receiver::{Channel, Event, DEFAULT_TIMERS, LAST_KEY, LONGEST_TIMER, MOST_KEYS};
 use crate::rows;
-use crate::state::{ENTRY_NUMBERS, FIRST_RECORD_PART, MOST_ENTRIES, PARTS, RECORD_NUMBERS, STATE_LENGTH};
+use crate::state::{ENTRY_NUMBERS, FIRST_RECORD_PART, MOST_ENTRIES, PAGED_NUMBERS, PARTS, RECORD_NUMBERS, STATE_LENGTH};
 use crate::tally::{hex, Tally};
 use crate::{facch, nch, pch};
 use std::path::{Path, PathBuf};
@@ -75,6 +75,9 @@ fn header(tally: &mut Tally) {
         ("ASTERNHAKEN_KEYS", MOST_KEYS as u64),
         ("ASTERNHAKEN_ENTRIES", MOST_ENTRIES as u64),
         ("ASTERNHAKEN_PARTS", PARTS as u64),
+        ("ASTERNHAKEN_PAGED_NUMBERS", PAGED_NUMBERS as u64),
+        ("ASTERNHAKEN_FACCH_SHORTEST", facch::SHORTEST as u64),
+        ("ASTERNHAKEN_FACCH_LONGEST", facch::LONGEST as u64),
         ("ASTERNHAKEN_ENTRY_NUMBERS", ENTRY_NUMBERS as u64),
         ("ASTERNHAKEN_STATE_LENGTH", STATE_LENGTH as u64),
         ("ASTERNHAKEN_NCH_NUMBERS", nch::NUMBERS as u64),
@@ -144,7 +147,7 @@ fn osmo_bts(tally: &mut Tally) {
             (refusal, numbers[4..11].to_vec())
         } else {
             let (refusal, numbers) = compare_facch(tally, &octets, facch::NUMBERS);
-            (refusal, numbers[1..8].to_vec())
+            (refusal, numbers[2..9].to_vec())
         };
         let expected = if refusal == 0 { call } else { vec![0; 7] };
         tally.same_reading("osmo-bts (second is its field list)", || row[8].clone(), &(archive, numbers), &(refusal, expected));
@@ -274,29 +277,48 @@ fn facch_mixed(tally: &mut Tally) {
         let mut words = Words::new(&row[1]);
         let mut numbers = vec![0; facch::NUMBERS];
         let mut refusal = 0;
+        let mut written = None;
         while let Some(word) = words.next() {
             match word {
                 "refused" => refusal = words.number() as u32,
                 "used" => numbers[0] = words.number(),
-                "reference" => numbers[1] = words.number(),
-                "service" => numbers[2] = words.number(),
-                "ack" => numbers[3] = words.number(),
-                "priority" => numbers[4] = words.number(),
-                "cipher" => numbers[5] = words.number(),
+                "reference" => numbers[2] = words.number(),
+                "service" => numbers[3] = words.number(),
+                "ack" => numbers[4] = words.number(),
+                // A page's stands behind a flag.
+                "priority" if numbers[1] == 1 => numbers[17..19].copy_from_slice(&[1, words.number()]),
+                "priority" => numbers[5] = words.number(),
+                "cipher" => numbers[6] = words.number(),
                 "description" if words.is("-") => {}
-                "description" => numbers[6..12].copy_from_slice(&words.description()),
-                "six" => numbers[12] = 1,
-                "count" => numbers[13..15].copy_from_slice(&[1, words.number()]),
-                "b22" => numbers[15] = words.number(),
-                "rand" => numbers[16..18].copy_from_slice(&[1, words.hexadecimal()]),
-                "seven" => numbers[18] = 1,
-                "uplink" => numbers[19] = words.number(),
-                "emergency" => numbers[20] = words.number(),
-                "caused" => numbers[21] = 1,
+                "description" => numbers[7..13].copy_from_slice(&words.description()),
+                "identity" => {
+                    let length = words.number();
+                    let (first, others) = words.next().unwrap().split_at(2);
+                    let others = if others.is_empty() { 0 } else { hexadecimal(others) };
+                    numbers[1] = 1;
+                    numbers[13..16].copy_from_slice(&[length, hexadecimal(first), others]);
+                }
+                "channel" => numbers[16] = words.number(),
+                "six" => numbers[19] = 1,
+                "count" => numbers[20..22].copy_from_slice(&[1, words.number()]),
+                "b22" => numbers[22] = words.number(),
+                "rand" => numbers[23..25].copy_from_slice(&[1, words.hexadecimal()]),
+                "seven" => numbers[25] = 1,
+                "uplink" => numbers[26] = words.number(),
+                "emergency" => numbers[27] = words.number(),
+                "cause" => numbers[28..30].copy_from_slice(&[1, words.number()]),
+                "written" => written = words.next().map(octets_of),
                 other => panic!("facch-mixed.tsv: what is {other}?"),
             }
         }
         tally.same_reading("facch-mixed (second is the file)", || row[0].clone(), &archive, &(refusal, numbers));
+        tally.check(written.is_some() == (refusal == 0), || {
+            format!("  facch-mixed: what is written stands beside {} exactly if it is accepted", row[0])
+        });
+        if let Some(written) = written {
+            let archive = compare_facch_write(tally, &archive.1, octets.len());
+            tally.same_writing("facch-mixed, written (second is the file)", || row[0].clone(), &archive, &(0, written));
+        }
     }
 }
 

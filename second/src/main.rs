@@ -1,5 +1,5 @@
 //! The second program: an implementation of document 01 (the scope) and of the requests of document 02 that have landed (§8, §3, §4, §1, §11,
-//! §2) that shares nothing with the proved one, and a comparison of the two.
+//! §2, §7) that shares nothing with the proved one, and a comparison of the two.
 //!
 //! It was written from documents, without sight of the proved code: 01, 02, the readings of their open places, the sources 000 to 004,
 //! include/asternhaken.h and docs/STATE.md; docs/DECISIONS.md and docs/PROMISES.md had been seen as well. Three places that these leave open,
@@ -26,11 +26,11 @@
 //! the archive was asked and what it answered: replay.c asks the same of another build of it, one for another processor too.
 //!
 //! Compared are: refusal, bit number, record and bits used of every reading; refusal and all lent octets after every writing; refusal, every number of
-//! the answer (through asternhaken_read, parts and entries beyond the last too, and entry by entry), what is held, with the time that is left,
-//! whether it was set up, and all 10,240 octets of the state after every setup and event, also from states that no setup left; where a key is
+//! the answer (through asternhaken_read, parts and entries beyond the last too, and entry by entry), who is paged, what is held, with the time that
+//! is left, whether it was set up, and all 10,256 octets of the state after every setup and event, also from states that no setup left; where a key is
 //! found, and after how many looks; that nothing beside lent memory was written; and, from a setup on, what each subscribed call is told on each
-//! channel, and what is held of it, with the one-call receiver. The run fails where a refusal or a told number was met fewer than a hundred times, or where the event steps met
-//! something too seldom that cover.rs lists. The last line is `N passed, M failed`.
+//! channel, and what is held of it, with the one-call receiver. The run fails where a refusal or a told number was met fewer than a hundred times, or where the event steps,
+//! or the messages, met something too seldom that cover.rs lists. The last line is `N passed, M failed`.
 //!
 //! seeded-errors.sh tries the comparison itself: it puts errors into copies of this program, and each must be found.
 

@@ -1,7 +1,8 @@
 //! Messages and records: both sides read and write the same.
 
-use crate::bits::missing;
-use crate::draft::{octets_of_bits, CallDraft, FacchDraft, Hops, NchDraft, Pool};
+use crate::bits::{bit_of, missing, number_of, RAN_OUT};
+use crate::cover::Met;
+use crate::draft::{octets_of_bits, CallDraft, FacchDraft, Hops, NchDraft, PageDraft, Pool, Subject};
 use crate::ffi::{self, archive};
 use crate::rng::Rng;
 use crate::tally::{hex, sparse, Tally};
@@ -44,11 +45,87 @@ fn bits_of(octets: &[u8]) -> Vec<u8> {
     octets.iter().flat_map(|octet| (0..8).rev().map(move |place| octet >> place & 1)).collect()
 }
 
+/// Reads on both sides; an accepted message is also written back, into as many octets, of which the first is then zero.
 pub fn compare_facch(tally: &mut Tally, octets: &[u8], places: usize) -> (u32, Vec<u64>) {
     let archive = ffi::read_octets(archive::asternhaken_facch_read, octets, places);
     let second = filled(second_facch(octets), places);
     tally.count_refusal(archive.0);
     tally.same_reading("facch_read", || format!("{} into {places} numbers", hex(octets)), &archive, &second);
+    count_reading(tally, octets, archive.0);
+    if archive.0 == 0 && places == facch::NUMBERS {
+        let used = archive.1[0] as usize;
+        let written = compare_facch_write(tally, &archive.1, octets.len());
+        let mut bits = bits_of(octets)[..used.clamp(8, 8 * octets.len())].to_vec();
+        bits[..8].fill(0);
+        let expected = octets_of_bits(&bits, octets.len());
+        tally.same_writing("facch: what was read is written back, then padding", || hex(octets), &written, &(0, expected));
+    }
+    archive
+}
+
+/// What was met in a FACCH message that was refused with this, or not at all.
+fn count_reading(tally: &mut Tally, octets: &[u8], refusal: u32) {
+    let mut met = |what: Met| tally.messages.count(what, 1);
+    let length = if octets.len() > 2 { (u64::from(octets[1]) << 1 | u64::from(octets[2] >> 7)) & 255 } else { 0 };
+    let paging = octets.len() > 1 && octets[1] >= 0x80;
+    match number_of(refusal) {
+        0 if paging => met(Met::PageRead(length)),
+        0 => second_facch(octets).iter().filter(|numbers| numbers[28] == 1).for_each(|numbers| met(Met::CallCause(numbers[29]))),
+        8 => met(Met::Identity(length.min(13))),
+        RAN_OUT if paging && bit_of(refusal) == 17 => met(Met::IdentityMissing(true)),
+        RAN_OUT if paging && bit_of(refusal) == 9 => met(Met::IdentityMissing(false)),
+        _ => {}
+    }
+}
+
+/// What was met in writing these numbers into so many octets.
+fn count_writing(tally: &mut Tally, numbers: &[u64], size: usize, refusal: u32) {
+    if !tally.messages.on {
+        return;
+    }
+    let mut met = |what: Met| tally.messages.count(what, 1);
+    if refusal != 0 {
+        met(Met::WriteRefused(number_of(refusal)));
+        if refusal == 12 && numbers[1] < 2 {
+            let mut own = numbers.to_vec();
+            own[if numbers[1] == 1 { 2..13 } else { 13..19 }].fill(0);
+            if facch::write(&own, &mut vec![0; size]).is_ok() {
+                met(Met::OtherBranch(numbers[1] == 1));
+            }
+        }
+        return;
+    }
+    met(Met::Written(size as u64));
+    if numbers[1] == 1 {
+        met(Met::PageWritten(numbers[13]));
+    }
+    // A form that fits into 23 octets has room there for the bits of the releases that are absent.
+    let Ok(used) = facch::write(numbers, &mut [0; 23]) else { return };
+    let (six, seven, size) = (numbers[19] == 1, numbers[25] == 1, 8 * size);
+    if !seven {
+        let lead = used - 1;
+        if !six && lead - 1 == size {
+            met(Met::UsedUp(6));
+        } else if lead == size {
+            met(Met::UsedUp(7));
+        } else if lead + 1 == size {
+            met(Met::LastBit(7));
+        }
+        if !six && lead == size {
+            met(Met::LastBit(6));
+        }
+    }
+}
+
+/// Writes on both sides into octets that held something; gives the archive's refusal and octets.
+pub fn compare_facch_write(tally: &mut Tally, numbers: &[u64], size: usize) -> (u32, Vec<u8>) {
+    let before: Vec<u8> = (0..size).map(|i| 0xC0 ^ i as u8).collect();
+    let archive = ffi::write_octets(archive::asternhaken_facch_write, numbers, &before);
+    let mut octets = before;
+    let refusal = facch::write(numbers, &mut octets).err().unwrap_or(0);
+    tally.count_refusal(archive.0);
+    tally.same_writing("facch_write", || format!("{} into {size} octets", sparse(numbers)), &archive, &(refusal, octets));
+    count_writing(tally, numbers, size, refusal);
     archive
 }
 
@@ -161,22 +238,31 @@ fn compare_nch_draft(tally: &mut Tally, draft: &NchDraft) -> Option<Vec<u64>> {
     numbers
 }
 
+/// Where the length octet of an identity ends.
+const IDENTITY: usize = 17;
+
+/// The draft's own octets and numbers against the archive's reader. One that pages with a wrong length is refused behind the length octet.
 fn compare_facch_draft(tally: &mut Tally, draft: &FacchDraft) {
     let octets = draft.octets();
-    let Some(numbers) = draft.numbers() else { return };
-    if octets.len() > 23 {
-        return;
-    }
+    let numbers = draft.numbers();
+    let fits = octets.len() <= facch::LONGEST;
+    let right = !matches!(&draft.subject, Subject::Page(page) if !page.is_right());
     let reading = ffi::read_octets(archive::asternhaken_facch_read, &octets, facch::NUMBERS);
-    tally.same_reading("facch_read of a draft (second is the draft)", || hex(&octets), &reading, &(0, numbers.clone()));
+    let expected = match (fits, right) {
+        (false, _) => (1, vec![0; facch::NUMBERS]),
+        (true, false) => (8, vec![0; facch::NUMBERS]),
+        (true, true) => (0, numbers.clone()),
+    };
+    tally.same_reading("facch_read of a draft (second is the draft)", || hex(&octets), &reading, &expected);
     // Cut short after every octet: the missing field is told, or the cut is where a release would begin, and there is none.
-    for length in 2..octets.len() {
+    for length in facch::SHORTEST..octets.len().min(facch::LONGEST + 1) {
         let Some((bit, number)) = draft.bits().cut(8 * length) else { break };
         let reading = ffi::read_octets(archive::asternhaken_facch_read, &octets[..length], facch::NUMBERS);
         let expected = match number {
+            _ if !right && 8 * length >= IDENTITY => (8, vec![0; facch::NUMBERS]),
             6 | 7 => {
                 let mut numbers = numbers.clone();
-                numbers[if number == 6 { 12 } else { 18 }..].fill(0);
+                numbers[if number == 6 { 19 } else { 25 }..].fill(0);
                 numbers[0] = 8 * length as u64;
                 (0, numbers)
             }
@@ -184,6 +270,19 @@ fn compare_facch_draft(tally: &mut Tally, draft: &FacchDraft) {
         };
         tally.same_reading("facch_read of a draft cut short (second is the draft)", || hex(&octets[..length]), &reading, &expected);
     }
+}
+
+/// The draft's own octets against the archive's writer, in so many octets: only where the draft is one that must be accepted, if it fits.
+fn compare_facch_draft_write(tally: &mut Tally, draft: &FacchDraft, size: usize) {
+    let numbers = draft.numbers();
+    let before = vec![0x5A; size];
+    let written = ffi::write_octets(archive::asternhaken_facch_write, &numbers, &before);
+    let expected = match draft.written(size) {
+        Some(octets) if (2..=23).contains(&size) => (0, octets),
+        _ => (11, before),
+    };
+    let input = || format!("{} into {size} octets", sparse(&numbers));
+    tally.same_writing("facch_write of a draft (second is the draft)", input, &written, &expected);
 }
 
 /// Drafts that bend a rule on purpose: references, hopping flags and lengths that must be refused.
@@ -203,8 +302,9 @@ fn bent_call(rng: &mut Rng, draft: &mut CallDraft) {
 pub fn run(tally: &mut Tally, rng: &mut Rng, count: u64) {
     let pool = Pool::wide();
     let mut done = 0;
+    tally.messages.on = true;
     while done < count {
-        match rng.below(10) {
+        match rng.below(12) {
             0 => {
                 let length = if rng.one_in(8) { rng.below(30) as usize } else { 20 };
                 let octets = rng.octets(length);
@@ -217,6 +317,9 @@ pub fn run(tally: &mut Tally, rng: &mut Rng, count: u64) {
                 let mut octets = rng.octets(length);
                 if length > 1 && rng.one_in(2) {
                     octets[1] &= 0x3F;
+                } else if length > 2 && rng.one_in(2) {
+                    let identity = rng.below(14) as u8;
+                    (octets[1], octets[2]) = (0x80 | identity >> 1, identity << 7 | octets[2] >> 1);
                 }
                 let places = places(rng, facch::NUMBERS);
                 compare_facch(tally, &octets, places);
@@ -224,9 +327,12 @@ pub fn run(tally: &mut Tally, rng: &mut Rng, count: u64) {
             }
             2..=5 => done += nch_messages(tally, rng, &pool),
             6..=7 => done += facch_messages(tally, rng, &pool),
+            8..=9 => done += facch_records(tally, rng, &pool),
             _ => done += nch_records(tally, rng, &pool),
         }
     }
+    tally.messages.on = false;
+    tally.messages.steps += done;
 }
 
 fn nch_messages(tally: &mut Tally, rng: &mut Rng, pool: &Pool) -> u64 {
@@ -251,8 +357,8 @@ fn nch_messages(tally: &mut Tally, rng: &mut Rng, pool: &Pool) -> u64 {
 
 fn facch_messages(tally: &mut Tally, rng: &mut Rng, pool: &Pool) -> u64 {
     let mut draft = pool.facch(rng);
-    let octets = match &mut draft.call {
-        Some(call) if rng.one_in(6) => {
+    let octets = match &mut draft.subject {
+        Subject::Call(call) if rng.one_in(6) => {
             bent_call(rng, call);
             let mut octets = draft.octets();
             octets.truncate(23);
@@ -270,6 +376,67 @@ fn facch_messages(tally: &mut Tally, rng: &mut Rng, pool: &Pool) -> u64 {
         compare_facch(tally, &octets, facch::NUMBERS);
     }
     4
+}
+
+/// A number of octets: as few as the record takes, or one less or more, or any.
+fn buffer(rng: &mut Rng, least: usize) -> usize {
+    match rng.below(8) {
+        0..=2 => least,
+        3 => least - 1,
+        4 => least + 1,
+        5 => 23,
+        6 => 2 + rng.below(22) as usize,
+        _ => rng.pick(&[0, 1, 2, 3, 22, 24, 25, 46, 255]),
+    }
+}
+
+fn facch_records(tally: &mut Tally, rng: &mut Rng, pool: &Pool) -> u64 {
+    let mut draft = FacchDraft { short: true, ..pool.facch(rng) };
+    let right = match &mut draft.subject {
+        Subject::Call(call) if rng.one_in(4) => {
+            bent_call(rng, call);
+            false
+        }
+        Subject::Call(_) => true,
+        Subject::Page(page) => page.is_right(),
+    };
+    let numbers = draft.numbers();
+    let least = draft.octets().len().min(23);
+    for size in [least, buffer(rng, least)] {
+        compare_facch_write(tally, &numbers, size);
+        if right {
+            compare_facch_draft_write(tally, &draft, size);
+        }
+    }
+    for faults in 1..=2 {
+        let mut numbers = numbers.clone();
+        for _ in 0..faults {
+            spoil_facch(rng, &mut numbers);
+        }
+        if rng.one_in(30) {
+            numbers.resize(rng.below(64) as usize, 0);
+        }
+        let size = buffer(rng, least);
+        compare_facch_write(tally, &numbers, size);
+    }
+    4
+}
+
+/// Another number in some place of a FACCH record: half of the time one that is in use, often one of the branch that the record does not have.
+fn spoil_facch(rng: &mut Rng, numbers: &mut [u64]) {
+    let used: Vec<usize> = (0..numbers.len()).filter(|&place| numbers[place] != 0).collect();
+    let other = if numbers[1] == 1 { 2 + rng.below(11) } else { 13 + rng.below(6) };
+    let place = match rng.below(8) {
+        0..=2 => rng.pick(&used),
+        3 => 13 + rng.below(2) as usize,
+        4 | 5 => other as usize,
+        _ => rng.below(numbers.len() as u64) as usize,
+    };
+    numbers[place] = match rng.below(4) {
+        0 => numbers[place].wrapping_add(1),
+        1 => numbers[place] ^ 1 << rng.below(64),
+        _ => rng.pick(&BOUNDS),
+    };
 }
 
 fn nch_records(tally: &mut Tally, rng: &mut Rng, pool: &Pool) -> u64 {
@@ -338,6 +505,7 @@ pub fn fields(tally: &mut Tally) {
             compare_nch_write(tally, base, size);
         }
     }
+    facch_fields(tally);
     // Messages and arrays far too long.
     for length in [24, 255, 256, 276, 4_095, 4_096, 4_097, 65_556, 100_000] {
         for fill in [0x00, 0x2B, 0x80] {
@@ -348,5 +516,45 @@ pub fn fields(tally: &mut Tally) {
         compare_facch(tally, &[0x2B; 23], length);
         compare_nch_write(tally, &vec![0; length], 20);
         compare_nch_write(tally, &bases[0], length);
+        compare_facch_write(tally, &vec![0; length], 23);
+        compare_facch_write(tally, &[0; facch::NUMBERS], length);
+    }
+}
+
+/// The same of the FACCH: calls with every kind of description, and identities of every length, each with little behind it and with all.
+fn facch_fields(tally: &mut Tally) {
+    let mut drafts = vec![FacchDraft::of(CallDraft::plain(0, 0))];
+    for hops in [Hops::No].into_iter().chain((1..=8).map(|length| Hops::Allocation(length, 1))).chain([Hops::List(1 << 63 | 1)]) {
+        let channel = if matches!(hops, Hops::No) { 0 } else { 0x1000 };
+        drafts.push(FacchDraft::of(CallDraft { description: Some((channel, hops)), ..CallDraft::plain(9_423, 0) }));
+    }
+    for length in (0..=12).chain([255]) {
+        let identity: Vec<u8> = (0..length.min(9)).map(|i| 0xF4 ^ i as u8).collect();
+        drafts.push(FacchDraft::page(PageDraft { length, ..PageDraft::of(&identity) }));
+        drafts.push(FacchDraft::page(PageDraft { length, channel_first: 3, priority: Some(7), ..PageDraft::of(&identity) }));
+    }
+    let full = drafts.clone().into_iter().map(|draft| draft.rand((1 << 36) - 1).count(3, 1).cause(1));
+    drafts.extend(full.collect::<Vec<FacchDraft>>());
+    for draft in drafts {
+        let base = draft.numbers();
+        let least = FacchDraft { short: true, ..draft }.octets().len();
+        for field in 0..facch::NUMBERS {
+            for bound in BOUNDS {
+                let mut numbers = base.clone();
+                numbers[field] = bound;
+                compare_facch_write(tally, &numbers, 23);
+            }
+            let mut numbers = base.clone();
+            numbers[field] ^= 1;
+            compare_facch_write(tally, &numbers, least);
+        }
+        for length in 0..2 * facch::NUMBERS {
+            let mut numbers = base.clone();
+            numbers.resize(length, 0);
+            compare_facch_write(tally, &numbers, 23);
+        }
+        for size in 0..42 {
+            compare_facch_write(tally, &base, size);
+        }
     }
 }

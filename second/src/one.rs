@@ -4,7 +4,7 @@
 //! It has no clock and no store: the age of its half is the sum of the steps of accepted events. What the receiver of document 01 tells
 //! the entries of a subscribed call must be what this one tells them, whatever the other calls do.
 
-use crate::facch::Facch;
+use crate::facch::{Count, Facch};
 use crate::nch::Nch;
 use crate::pch::Pch;
 use crate::receiver::{facch_entry, nch_entries, pch_entry, Channel, Follow, Record};
@@ -13,6 +13,8 @@ use crate::receiver::{facch_entry, nch_entries, pch_entry, Channel, Follow, Reco
 pub enum Seen<'a> {
     Nch(&'a Nch),
     Facch(&'a Facch),
+    /// Of a FACCH message that pages, no more than its count.
+    Paging(Option<&'a Count>),
     /// Of an entry under another key it looks at the key and the count alone.
     Pch(&'a Pch),
     Joined(u32),
@@ -118,8 +120,8 @@ impl One {
                 }
             }
             (Channel::Facch, Seen::Facch(message)) => {
-                let entry = facch_entry(message);
-                if entry.key() == u64::from(self.key) {
+                let key = u64::from(self.key);
+                if let Some(entry) = facch_entry(message).filter(|entry| entry.key() == key) {
                     let told = self.on_facch(entry);
                     outcome.told.push(self.with_follow(told));
                 }
@@ -140,12 +142,8 @@ impl One {
         let sent = match seen {
             Seen::Nch(message) => message.release6.as_ref().and_then(|six| six.cell_global_count),
             Seen::Pch(given) => given.cell_global_count,
-            Seen::Facch(message) => match (message.release6.as_ref().and_then(|six| six.count.clone()), self.bit) {
-                (Some(count), Some(true)) => Some(count.cell_global_count),
-                (Some(count), Some(false)) if count.b22_count => Some([1, 2, 3, 0][count.cell_global_count as usize]),
-                (Some(count), Some(false)) => Some(count.cell_global_count),
-                _ => None,
-            },
+            Seen::Facch(message) => self.sent_on_facch(message.count()),
+            Seen::Paging(count) => self.sent_on_facch(*count),
             _ => None,
         };
         if sent.is_some() {
@@ -158,6 +156,16 @@ impl One {
                 self.bit = Some(*bit);
             }
             _ => {}
+        }
+    }
+
+    /// The count as it would be sent now; none while the bit is not known.
+    fn sent_on_facch(&self, count: Option<&Count>) -> Option<u64> {
+        match (count, self.bit) {
+            (Some(count), Some(true)) => Some(count.cell_global_count),
+            (Some(count), Some(false)) if count.b22_count => Some([1, 2, 3, 0][count.cell_global_count as usize]),
+            (Some(count), Some(false)) => Some(count.cell_global_count),
+            _ => None,
         }
     }
 
@@ -182,7 +190,7 @@ impl One {
             Seen::LeftIdle => self.channel == Channel::Pch,
             Seen::Pch(given) => self.channel == Channel::Pch && given.key != self.key,
             Seen::Nch(message) => self.channel == Channel::Nch && self.nln.is_some() && message.nln.is_some() && message.nln != self.nln,
-            Seen::Facch(_) | Seen::Bit(_) | Seen::Nothing => false,
+            Seen::Facch(_) | Seen::Paging(_) | Seen::Bit(_) | Seen::Nothing => false,
         }
     }
 

@@ -2,6 +2,7 @@
 
 use crate::bits::{number_of, Refusal};
 use crate::cover::{Cause, Met, Sets};
+use crate::facch::Notified;
 use crate::ffi::{self, archive};
 use crate::messages::filled;
 use crate::one::{One, Outcome, Seen};
@@ -37,6 +38,7 @@ pub struct Spoken {
     pub expired: u64,
     pub dropped: u64,
     pub entries: Vec<(u64, u64, Option<[u64; RECORD_NUMBERS]>, Follow)>,
+    pub paged: [u64; PAGED_NUMBERS],
 }
 
 /// What both sides said to one event.
@@ -47,7 +49,8 @@ pub struct Said {
 
 fn spoken(answer: &Answer) -> Spoken {
     let entries = answer.entries.iter().map(|told| (told.key, told.number, told.record.as_ref().map(numbers_of), told.follow));
-    Spoken { expired: answer.expired, dropped: answer.dropped, entries: entries.collect() }
+    let paged = paged_numbers_of(answer.paged.as_ref());
+    Spoken { expired: answer.expired, dropped: answer.dropped, entries: entries.collect(), paged }
 }
 
 pub fn event_line(tick: u32, event: &Event) -> String {
@@ -117,8 +120,10 @@ impl Pair {
 
     pub fn setup(&mut self, tally: &mut Tally, keys: &[u32], sets: &[u32], tick: u32, timers: Timers) -> Refusal {
         let line = format!("setup {tick} {timers:?} {keys:?} {sets:?}");
+        let paged = self.from_setup && self.mirror.paged()[0] == 1;
         let archive = self.archive.setup(keys, sets, tick, timers);
         let second = self.mirror.setup(keys, sets, tick, timers).err().unwrap_or(0);
+        tally.cover.count(Met::PageAtSetup(archive == 0), u64::from(paged));
         if second == 0 {
             self.log.clear();
             self.from_setup = true;
@@ -132,8 +137,7 @@ impl Pair {
         }
         tally.same("setup: refusal", || self.story(), &archive, &second);
         self.check_state(tally, "setup");
-        self.check_parts(tally);
-        self.check_views(tally);
+        self.look(tally);
         archive
     }
 
@@ -142,6 +146,7 @@ impl Pair {
         self.log.push(event_line(tick, event));
         let step = tick.wrapping_sub(self.mirror.receiver.tick);
         let (kept, bit) = (self.mirror.receiver.count, self.mirror.receiver.bit);
+        let paged = self.mirror.paged()[0] == 1;
         let archive = feed(&mut self.archive, tick, event);
         let second = self.mirror.event(tick, event);
         tally.count_refusal(archive);
@@ -156,8 +161,7 @@ impl Pair {
         }
         tally.same("event: refusal", || self.story(), &archive, &second.as_ref().err().copied().unwrap_or(0));
         self.check_state(tally, "event");
-        self.check_parts(tally);
-        self.check_views(tally);
+        self.look(tally);
         let told = if archive == 0 { Ok(self.archive_answer()) } else { Err(archive) };
         let second = second.map(|answer| spoken(&answer));
         if let Ok(told) = &told {
@@ -170,11 +174,17 @@ impl Pair {
             self.check_ones(tally, step, event, told);
         }
         self.count_counts(tally, event, kept, bit, &told);
+        self.count_pages(tally, event, paged, &told);
         Said { archive: told, second }
     }
 
     pub fn archive_octet(&self, place: usize) -> u8 {
         self.archive.octets()[place]
+    }
+
+    /// Who is paged, by asternhaken_paged_numbers.
+    pub fn archive_paged(&self) -> Vec<u64> {
+        self.archive.paged(PAGED_NUMBERS).1
     }
 
     pub fn value(&self, entry: u32, part: u32) -> u64 {
@@ -194,7 +204,17 @@ impl Pair {
             });
             (self.value(entry, 3), number, record, (self.value(entry, FOLLOW_PART as u32), self.value(entry, FOLLOW_COUNT_PART as u32)))
         });
-        Spoken { expired: self.value(0, 0), dropped: self.value(0, 1), entries: entries.collect() }
+        let mut paged = [0; PAGED_NUMBERS];
+        for (i, value) in paged.iter_mut().enumerate() {
+            *value = self.value(0, (FIRST_PAGED_PART + i) as u32);
+        }
+        Spoken { expired: self.value(0, 0), dropped: self.value(0, 1), entries: entries.collect(), paged }
+    }
+
+    /// What can be read of the state as it stands.
+    pub fn look(&self, tally: &mut Tally) {
+        self.check_parts(tally);
+        self.check_views(tally);
     }
 
     /// Every part of every entry, parts and entries beyond the last too.
@@ -215,7 +235,7 @@ impl Pair {
         });
     }
 
-    /// Every entry whole, and what is held: from the first half to the last and beyond, into fewer places and more; when the next one runs
+    /// Every entry whole, who is paged, and what is held: from the first half to the last and beyond, into fewer places and more; when the next one runs
     /// out; whether a setup left the state.
     fn check_views(&self, tally: &mut Tally) {
         let held = self.mirror.held();
@@ -240,6 +260,8 @@ impl Pair {
             let second = held.get(i as usize).cloned().unwrap_or_default();
             check("held", i, self.archive.numbers(archive::asternhaken_held_numbers, i, places), filled(Ok(second), places).1);
         }
+        let places = self.places(7, PAGED_NUMBERS);
+        check("paged", 0, self.archive.paged(places), filled(Ok(self.mirror.paged().to_vec()), places).1);
         let one = |(refusal, number): (u32, u64)| (refusal, vec![number]);
         check("held count", 0, one(self.archive.number(archive::asternhaken_held_count)), vec![held.len() as u64]);
         check("next expiry", 0, one(self.archive.number(archive::asternhaken_next_expiry)), vec![self.mirror.next_expiry()]);
@@ -272,7 +294,8 @@ impl Pair {
             Event::Nch(octets) => nch::read(octets).ok().and_then(|read| Some((Channel::Nch, read.0.release6?.cell_global_count?, false))),
             Event::Pch(numbers) => pch::read(numbers).ok().and_then(|entry| Some((Channel::Pch, entry.cell_global_count?, false))),
             Event::Facch(octets) => {
-                let count = facch::read(octets).ok().and_then(|read| read.0.release6?.count);
+                let read = facch::read(octets).ok();
+                let count = read.as_ref().and_then(|read| read.0.count());
                 count.map(|count| (Channel::Facch, count.cell_global_count, count.b22_count))
             }
             _ => None,
@@ -315,6 +338,41 @@ impl Pair {
         }
     }
 
+    /// What was met of pages, where somebody was paged before the event, or nobody.
+    fn count_pages(&self, tally: &mut Tally, event: &Event, paged: bool, told: &Result<Spoken, Refusal>) {
+        let mut met = |what: Met| tally.cover.count(what, 1);
+        let read = match event {
+            Event::Facch(octets) if self.from_setup => facch::read(octets).ok(),
+            _ => None,
+        };
+        let page = read.as_ref().and_then(|read| match &read.0.notified {
+            Notified::Page(page) => Some((page, read.0.count())),
+            Notified::Call(_) => None,
+        });
+        match told {
+            _ if !self.from_setup => return,
+            Ok(_) if paged => met(if page.is_some() { Met::PageAgain } else { Met::PageGone }),
+            Err(_) if paged => met(Met::PageKept),
+            _ => {}
+        }
+        let Some((page, count)) = page else { return };
+        let Ok(told) = told else { return met(Met::LatePage) };
+        met(Met::Paged(page.identity.length));
+        met(Met::PagedWithPriority(page.priority.is_some()));
+        met(Met::PagedFor(if told.paged[7] == 1 { told.paged[8] } else { 2 }));
+        for channel in CHANNELS {
+            if self.mirror.receiver.halves.keys().any(|place| place.1 == channel) {
+                met(Met::PageBeside(channel));
+            }
+        }
+        if told.expired > 0 {
+            met(Met::PageExpires);
+        }
+        if count.is_some() {
+            met(Met::PageCounted(self.mirror.receiver.bit.is_some()));
+        }
+    }
+
     /// Whether a setup was refused for its sets alone, and what is wrong with them.
     fn count_sets(&self, tally: &mut Tally, keys: &[u32], sets: &[u32], timers: Timers) {
         if Receiver::setup(keys, &vec![0; keys.len()], 0, timers).is_ok() {
@@ -343,7 +401,10 @@ impl Pair {
             Event::Facch(octets) => {
                 let Ok((message, _)) = facch::read(octets) else { return };
                 read_facch = message;
-                Seen::Facch(&read_facch)
+                match read_facch.notified {
+                    Notified::Call(_) => Seen::Facch(&read_facch),
+                    Notified::Page(_) => Seen::Paging(read_facch.count()),
+                }
             }
             Event::Pch(numbers) => {
                 let Ok(entry) = pch::read(numbers) else { return };

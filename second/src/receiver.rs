@@ -1,9 +1,9 @@
 //! The receiver (document 01, "Setup, clock and store" and "What each notified call is told"; document 02, §8, the paging channel,
-//! §3, what a new cell forgets, §11, keys in rising order, and §2, the cell's count and which calls can be followed).
+//! §3, what a new cell forgets, §11, keys in rising order, §2, the cell's count and which calls can be followed, and §7, who is paged).
 
 use crate::bits::*;
 use crate::call::{Call, Frequencies};
-use crate::facch::{self, Facch};
+use crate::facch::{self, Facch, Notified, Page};
 use crate::nch::{self, Nch};
 use crate::pch::{self, Pch};
 use std::cmp::Ordering;
@@ -153,9 +153,10 @@ pub fn nch_entries(message: &Nch) -> Vec<Record> {
     entries
 }
 
-/// The one entry of a FACCH message.
-pub fn facch_entry(message: &Facch) -> Record {
-    let mut entry = Record::of_call(&message.call);
+/// The one entry of a FACCH message that notifies a call; paging has none.
+pub fn facch_entry(message: &Facch) -> Option<Record> {
+    let Notified::Call(call) = &message.notified else { return None };
+    let mut entry = Record::of_call(call);
     if let Some(six) = &message.release6 {
         if let Some(count) = &six.count {
             entry.counted = true;
@@ -170,7 +171,19 @@ pub fn facch_entry(message: &Facch) -> Record {
         entry.uplink_access = seven.uplink_access;
         entry.emergency = seven.emergency;
     }
-    entry
+    Some(entry)
+}
+
+/// Who is paged by a message, and why. Without a cause it is for a mobile terminating call, as with 0.
+#[derive(Clone, Debug, PartialEq)]
+pub struct Paged {
+    pub page: Page,
+    pub cause: Option<u64>,
+}
+
+fn paged_by(message: &Facch) -> Option<Paged> {
+    let Notified::Page(page) = &message.notified else { return None };
+    Some(Paged { page: page.clone(), cause: message.release7.as_ref().and_then(|seven| seven.paging_cause) })
 }
 
 /// The one entry of a PCH event. Without the full reference it is a reduced one.
@@ -280,6 +293,8 @@ pub struct Answer {
     pub expired: u64,
     pub dropped: u64,
     pub entries: Vec<Told>,
+    /// By this event alone: the next one that is accepted pages somebody else, or nobody.
+    pub paged: Option<Paged>,
 }
 
 /// The place of a half: which subscription (by its place in the setup's keys), and which channel.
@@ -418,7 +433,7 @@ impl Receiver {
             Read::Facch(_) | Read::Bit(_) | Read::Tick => 0,
         };
         self.see_count(&event);
-        let mut answer = Answer { expired, dropped, entries: Vec::new() };
+        let mut answer = Answer { expired, dropped, entries: Vec::new(), paged: None };
         match &event {
             Read::Nch(message) => {
                 for entry in nch_entries(message) {
@@ -427,8 +442,10 @@ impl Receiver {
                 }
             }
             Read::Facch(message) => {
-                let entry = facch_entry(message);
-                answer.entries.push(self.tell(Channel::Facch, entry.is_ciphered(), entry));
+                if let Some(entry) = facch_entry(message) {
+                    answer.entries.push(self.tell(Channel::Facch, entry.is_ciphered(), entry));
+                }
+                answer.paged = paged_by(message);
             }
             Read::Pch(entry) => answer.entries.push(self.tell(Channel::Pch, entry.ciphered, pch_entry(entry))),
             _ => {}
@@ -448,14 +465,14 @@ impl Receiver {
         }
     }
 
-    /// A count is taken from every message that has one, whoever it is for. On the FACCH it goes with bit 22 as it was when it was sent: where
+    /// A count is taken from every message that has one, whoever it is for, also of one that pages. On the FACCH it goes with bit 22 as it was when it was sent: where
     /// that was 1 and is 0 now, the count has since been raised; where the bit is not known, nobody can say, and the count is not taken.
     fn see_count(&mut self, event: &Read) {
         match event {
             Read::Nch(message) => self.count = message.release6.as_ref().and_then(|six| six.cell_global_count).or(self.count),
             Read::Pch(entry) => self.count = entry.cell_global_count.or(self.count),
             Read::Facch(message) => {
-                let sent = message.release6.as_ref().and_then(|six| six.count.as_ref());
+                let sent = message.count();
                 if let (Some(sent), Some(bit)) = (sent, self.bit) {
                     self.count = Some((sent.cell_global_count + u64::from(sent.b22_count && !bit)) % 4);
                 }

@@ -1,15 +1,16 @@
 //! Hand-written scenes: each sentence of document 01's "Setup, clock and store" and "What each notified call is told", and of document 02's §8,
-//! §3, §4, §1, §11 and §2, with the outcome that it asks for. The outcome is asked of both sides.
+//! §3, §4, §1, §11, §2 and §7, with the outcome that it asks for. The outcome is asked of both sides.
 
 use crate::bits::missing;
-use crate::draft::{CallDraft, FacchDraft, Hops, NchDraft, PchDraft, SevenDraft, SixDraft};
+use crate::draft::{CallDraft, FacchDraft, Hops, NchDraft, PageDraft, PchDraft, SevenDraft, SixDraft, Subject};
 use crate::ffi::{self, archive};
 use crate::listed::octets_of;
+use crate::messages::compare_facch_write;
 use crate::pair::{Pair, Said};
 use crate::receiver::{Channel, Event, Timers, DEFAULT_TIMERS};
 use crate::state::*;
 use crate::steps::lookup;
-use crate::tally::Tally;
+use crate::tally::{hex, Tally};
 
 /// Reference 4711 as VBS and as VGCS, another call, the last key, and one that nobody subscribed.
 const VBS: u32 = 9_422;
@@ -119,6 +120,16 @@ impl<'a> Scene<'a> {
         self.says(0, 0, told)
     }
 
+    /// Who both sides must say is paged, all nine numbers.
+    fn pages(&mut self, expected: &[u64; PAGED_NUMBERS]) -> &mut Self {
+        let both = (self.pair.archive_paged(), self.pair.mirror.paged().to_vec());
+        let input = format!("{}, event {}", self.name, self.line);
+        self.tally.check(both == (expected.to_vec(), expected.to_vec()), || {
+            format!("  scene {input}: (archive, second) page {both:?}, the document asks for {expected:?}")
+        });
+        self
+    }
+
     fn refuses(&mut self, refusal: u32) -> &mut Self {
         let said = self.said.as_ref().unwrap();
         let both = (said.archive.as_ref().err().copied(), said.second.as_ref().err().copied());
@@ -226,6 +237,195 @@ pub fn run(tally: &mut Tally) {
     pch_refusals(tally);
     ran_out(tally);
     counts(tally);
+    pages(tally);
+    pages_ran_out(tally);
+    facch_written(tally);
+}
+
+const NOBODY: [u64; PAGED_NUMBERS] = [0; PAGED_NUMBERS];
+
+fn paging(identity: &[u8]) -> FacchDraft {
+    FacchDraft::page(PageDraft::of(identity))
+}
+
+/// Document 02, §7: a paging message is an accepted event that touches no half, and who is paged is told until the next one.
+fn pages(tally: &mut Tally) {
+    let tmsi = [0xF4, 0x12, 0x34, 0x56, 0x78];
+    let mut s = Scene::new(tally, "§7: who is paged, without a priority and a cause");
+    s.pages(&NOBODY);
+    s.facch(1_000, paging(&tmsi)).told(&[]).pages(&[1, 5, 0xF4, 0x1234_5678, 0, 0, 0, 0, 0]);
+    s.has(&[(0, 37, 1), (3, 38, 5), (8, 39, 0xF4), (u32::MAX, 40, 0x1234_5678), (0, 45, 0), (0, 46, 0)]);
+    for (place, octet) in [1, 5, 0xF4, 0, 0, 0, 0, 0, 0x78, 0x56, 0x34, 0x12, 0, 0, 0, 0].into_iter().enumerate() {
+        s.has_octet(PAGED + place, octet);
+    }
+    s.event(1_001, Event::Tick).told(&[]).pages(&NOBODY).has_octet(PAGED + 8, 0);
+
+    let mut s = Scene::new(tally, "§7: with a priority and a cause, and identities of every length");
+    for length in 1..=9u8 {
+        let identity: Vec<u8> = (1..=length).collect();
+        let others = identity[1..].iter().fold(0, |number, octet| number << 8 | u64::from(*octet));
+        for (priority, cause) in [(None, None), (Some(0), Some(0)), (Some(7), Some(1)), (None, Some(1)), (Some(5), None)] {
+            let page = PageDraft { channel_first: u64::from(length % 4), priority, ..PageDraft::of(&identity) };
+            let mut draft = FacchDraft::page(page);
+            if let Some(cause) = cause {
+                draft = draft.cause(cause);
+            }
+            let [there, caused] = [priority, cause].map(|value| u64::from(value.is_some()));
+            let shown = [1, u64::from(length), 1, others, u64::from(length % 4), there, priority.unwrap_or(0), caused, cause.unwrap_or(0)];
+            s.facch(1_000, draft).told(&[]).pages(&shown);
+        }
+    }
+
+    let mut s = Scene::new(tally, "§7: paging touches no half, on any channel, and its tick counts");
+    s.nch(1_000, first(VGCS)).told(&[4]);
+    s.facch(1_000, facch_first(VGCS)).told(&[4]);
+    s.pch(1_000, pch_first(VGCS)).told(&[4]);
+    s.facch(3_999, paging(&tmsi)).told(&[]);
+    s.facch(4_000, paging(&tmsi)).says(1, 0, &[]);
+    s.event(3_999, Event::Tick).refuses(9);
+    s.facch(4_999, paging(&tmsi)).told(&[]);
+    s.facch(5_000, paging(&tmsi)).says(1, 0, &[]);
+    s.nch(5_999, second(VGCS, 7)).told(&[3]).pages(&NOBODY);
+    s.facch(6_000, facch_first(VGCS)).told(&[4]);
+    s.facch(6_001, paging(&tmsi)).told(&[]);
+    s.facch(9_999, facch_second(VGCS, 8)).told(&[3]).has(&[(0, VSTK_RAND, 8)]);
+
+    let mut s = Scene::new(tally, "§7: every accepted event but paging ends it, a refused one leaves it");
+    let shown = [1, 5, 0xF4, 0x1234_5678, 0, 0, 0, 0, 0];
+    let mut tick = 1_000;
+    for event in [
+        Event::Nch(empty().octets()),
+        Event::Nch(first(VGCS).octets()),
+        Event::Facch(FacchDraft::of(clear(STRANGER)).octets()),
+        Event::Facch(FacchDraft::of(clear(VGCS).on(HERE)).cause(1).octets()),
+        Event::Pch(PchDraft::reduced(STRANGER).numbers()),
+        Event::Joined(VGCS),
+        Event::Reselected,
+        Event::HandedOver,
+        Event::Reconfigured,
+        Event::LeftIdle,
+        Event::Bit(1),
+        Event::Tick,
+    ] {
+        tick += 1;
+        s.facch(tick, paging(&tmsi)).told(&[]).pages(&shown);
+        s.event(tick - 1, event.clone()).refuses(9).pages(&shown);
+        s.event(tick, Event::Facch(octets_of("048000"))).refuses(8).pages(&shown);
+        s.event(tick, Event::Facch(octets_of("0482fa"))).refuses(missing(2, 17)).pages(&shown);
+        s.event(tick, Event::Nch(vec![0xFF; 20])).refuses(4).pages(&shown);
+        s.event(tick, Event::Joined(u32::MAX)).refuses(4).pages(&shown);
+        s.event(tick, Event::Bit(2)).refuses(12).pages(&shown);
+        s.event(tick, event).pages(&NOBODY);
+    }
+    s.facch(tick, paging(&tmsi)).told(&[]).pages(&shown);
+    s.facch(tick, paging(&[9])).told(&[]).pages(&[1, 1, 9, 0, 0, 0, 0, 0, 0]);
+    let keys = [VGCS, VBS];
+    let Scene { tally, mut pair, .. } = s;
+    let refusal = pair.setup(tally, &keys, &[0, 0], 7, [5_000; 3]);
+    tally.same("scene: a refused setup leaves who is paged", String::new, &(refusal, pair.archive_paged()[0]), &(10, 1));
+    let refusal = pair.setup(tally, &[VBS], &[0], 7, [5_000; 3]);
+    tally.same("scene: an accepted setup pages nobody", String::new, &(refusal, pair.archive_paged()), &(0, NOBODY.to_vec()));
+
+    let mut s = Scene::new(tally, "§7: a paging message's count is taken, with B22 as on the FACCH");
+    let one_piece = || nch(vec![call(VGCS).on(HERE)], &[(0, Some(5))]);
+    s.facch(1_000, paging(&tmsi).count(2, 0)).told(&[]);
+    s.nch(1_000, one_piece()).told(&[2]).has(&[(0, FOLLOW, 2), (0, KEPT, 0)]);
+    s.event(1_000, Event::Bit(0)).told(&[]);
+    s.facch(1_000, paging(&tmsi).count(2, 0)).told(&[]).has_octet(KEPT_COUNT, 2);
+    s.nch(1_000, one_piece()).told(&[2]).has(&[(0, FOLLOW, 3), (0, KEPT, 2)]);
+    s.facch(1_000, paging(&tmsi).count(3, 1)).told(&[]).has_octet(KEPT_COUNT, 0);
+    s.event(999, Event::Facch(paging(&tmsi).count(1, 0).octets())).refuses(9);
+    s.nch(1_000, one_piece()).told(&[2]).has(&[(0, FOLLOW, 3), (0, KEPT, 0)]);
+
+    let mut s = Scene::new(tally, "§7: octets that no setup left are read as they stand, and flags as yes or no");
+    let strange = [0, 200, 201, 202, 203, 204, 2, 255, 1, 2, 3, 4, 5, 6, 7, 8];
+    let octets: Vec<(usize, u8)> = strange.into_iter().enumerate().map(|(i, octet)| (PAGED + i, octet)).collect();
+    s.with_octets(&octets).pages(&[0, 200, 201, 0x0807_0605_0403_0201, 202, 1, 204, 1, 1]);
+    s.event(999, Event::Tick).refuses(9).pages(&[0, 200, 201, 0x0807_0605_0403_0201, 202, 1, 204, 1, 1]);
+    s.event(1_000, Event::Tick).told(&[]).pages(&NOBODY);
+    for (place, _) in octets {
+        s.has_octet(place, 0);
+    }
+}
+
+/// Where the bits of a paging message ran out, and the lengths that no identity has. (Octets, refusal.)
+fn pages_ran_out(tally: &mut Tally) {
+    let mut s = Scene::new(tally, "§7: 8 right behind the length octet, and where the bits ran out");
+    s.facch(1_000, facch_first(VGCS)).told(&[4]);
+    for (octets, refusal) in [
+        ("0480", missing(2, 9)),
+        ("0484", missing(2, 9)),
+        ("04ff", missing(2, 9)),
+        ("048000", 8),
+        ("048500", 8),
+        ("04ffff", 8),
+        ("048080", missing(2, 17)),
+        ("0482fa091a2b3c", missing(2, 17)),
+        ("04848889098a0a8b0b8c0c", missing(2, 17)),
+        ("0480808d", missing(15, 32)),
+        ("04808092", missing(14, 32)),
+        ("0482fa091a2b3c27", missing(14, 64)),
+        ("0482fa091a2b3c2d", missing(15, 64)),
+    ] {
+        s.event(1_001, Event::Facch(octets_of(octets))).refuses(refusal);
+        s.event(999, Event::Facch(octets_of(octets))).refuses(9);
+    }
+    s.facch(4_999, facch_second(VGCS, 7)).told(&[3]);
+}
+
+/// The writer of the whole message: what an absent release comes to, and the order of the refusals.
+fn facch_written(tally: &mut Tally) {
+    let mut writes = |what: &str, numbers: &[u64], size: usize, expected: Result<&str, u32>| {
+        let (refusal, octets) = compare_facch_write(tally, numbers, size);
+        let archive = if refusal == 0 { Ok(hex(&octets)) } else { Err(refusal) };
+        tally.same("scene: FACCH written (archive, document)", || what.to_string(), &archive, &expected.map(str::to_string));
+    };
+    let tmsi = [0xF4, 0x12, 0x34, 0x56, 0x78];
+    let page = paging(&tmsi).numbers();
+    writes("the first octet is zero, L and L, and padding", &page, 8, Ok("0082fa091a2b3c0b"));
+    writes("the same in 9 octets", &page, 9, Ok("0082fa091a2b3c0b2b"));
+    writes("the same in 7 octets", &page, 7, Err(11));
+    let nine: Vec<u8> = (0x11..0x1A).collect();
+    let subject = Subject::Page(PageDraft { priority: Some(7), ..PageDraft::of(&nine) });
+    let priority = FacchDraft { subject, ..paging(&nine) }.numbers();
+    writes("L in the last bit, and nothing for Release 7", &priority, 12, Ok("00848889098a0a8b0b8c0c9f"));
+    writes("the same with a bit left", &priority, 13, Ok("00848889098a0a8b0b8c0c9f2b"));
+    writes("the same with a bit too few", &priority, 11, Err(11));
+    let hopping = CallDraft { description: Some((0x1000, Hops::Allocation(1, 0xAA))), ..CallDraft::plain(2, 0) };
+    let hopping = FacchDraft::of(CallDraft { priority: 0, ..hopping });
+    writes("nothing for both releases", &hopping.numbers(), 11, Ok("00000000100400400201aa"));
+    writes("L for both", &hopping.numbers(), 12, Ok("00000000100400400201aa2b"));
+    writes("Release 7 where only nothing fits", &hopping.clone().cause(0).numbers(), 11, Err(11));
+
+    let with = |base: &[u64], places: &[(usize, u64)]| {
+        let mut numbers = base.to_vec();
+        places.iter().for_each(|&(place, number)| numbers[place] = number);
+        numbers
+    };
+    let call = FacchDraft::of(call(VGCS).on(HERE)).numbers();
+    for (what, numbers, size, refusal) in [
+        ("13 before all else", vec![u64::MAX; 29], 0, 13),
+        ("12 before 8 and 11", with(&page, &[(13, 10), (16, 4)]), 0, 12),
+        ("8 before 11", with(&page, &[(13, 10)]), 0, 8),
+        ("8 for length 0", with(&page, &[(13, 0), (14, 0), (15, 0)]), 23, 8),
+        ("12 for length 0 with a first octet", with(&page, &[(13, 0), (15, 0)]), 23, 12),
+        ("12 for length 0 with others", with(&page, &[(13, 0), (14, 0), (15, 1)]), 23, 12),
+        ("8 for length 255", with(&page, &[(13, 255), (15, u64::MAX)]), 23, 8),
+        ("12 for length 256", with(&page, &[(13, 256)]), 23, 12),
+        ("12 for more octets than the length says", with(&page, &[(13, 4)]), 23, 12),
+        ("12 for a call's number beside paging", with(&page, &[(12, 1)]), 23, 12),
+        ("12 for an identity beside a call", with(&call, &[(13, 1)]), 23, 12),
+        ("12 for a cause without its flag", with(&page, &[(25, 1), (29, 1)]), 23, 12),
+        ("12 for B22 without a count", with(&call, &[(19, 1), (22, 1)]), 23, 12),
+        ("4 before 5 and 11", with(&call, &[(2, 100_000_000), (8, 0x1000)]), 0, 4),
+        ("5 before 11", with(&call, &[(8, 0x1000)]), 24, 5),
+        ("3 before 5", with(&call, &[(9, 1), (11, 9)]), 24, 3),
+        ("11 for 24 octets", call.clone(), 24, 11),
+        ("11 for one octet", call.clone(), 1, 11),
+    ] {
+        writes(what, &numbers, size, Err(refusal));
+    }
+    writes("the bits used are not looked at", &with(&page, &[(0, u64::MAX)]), 8, Ok("0082fa091a2b3c0b"));
 }
 
 /// Document 02, §2: the kept count, the bit, and whether a call can be followed.
@@ -394,7 +594,7 @@ fn ran_out(tally: &mut Tally) {
     }
     // A length of 200 near the end is 3, and only 2, 14 and 15 have a bit number.
     s.event(1_001, Event::Facch(octets_of("040000005804004002c8"))).refuses(3);
-    s.event(1_001, Event::Facch(octets_of("0480"))).refuses(8);
+    s.event(1_001, Event::Facch(octets_of("048000"))).refuses(8);
     s.facch(4_999, facch_second(VGCS, 7)).told(&[3]);
 
     // A fifth call's 36 bits; the flag behind a Segment Id in the last bit; 78 marks to the last bit and no closing 0.
@@ -488,12 +688,13 @@ fn setups(tally: &mut Tally) {
             state.read(0, 0).0,
             state.numbers(archive::asternhaken_entry_numbers, 0, 40).0,
             state.numbers(archive::asternhaken_held_numbers, 0, 40).0,
+            state.paged(9).0,
             state.number(archive::asternhaken_held_count).0,
             state.number(archive::asternhaken_next_expiry).0,
         ];
         refusals.iter().for_each(|&refusal| tally.count_refusal(refusal));
         let untouched = state.octets().iter().all(|&octet| octet == 0x5A);
-        tally.same("scene: a state of a wrong length", || format!("{length} octets"), &(refusals, untouched), &([13; 17], true));
+        tally.same("scene: a state of a wrong length", || format!("{length} octets"), &(refusals, untouched), &([13; 18], true));
     }
 }
 
@@ -1098,7 +1299,7 @@ fn strange_octets(tally: &mut Tally) {
     s.event(1_000, Event::Tick).says(1, 0, &[]);
 
     let mut s = Scene::new(tally, "unused octets are not looked at and stay");
-    let unused = (MARK..KEYS).chain(KINDS + PLACES..TICKS).chain(COUNT + 4..ENTRIES).chain(ENTRIES + 11..ENTRIES + 16);
+    let unused = (MARK..KEYS).chain(KINDS + PLACES..TICKS).chain(COUNT + 4..PAGED).chain(ENTRIES + 11..ENTRIES + 16);
     let octets: Vec<(usize, u8)> = unused.map(|place| (place, 0xEE)).collect();
     s.with_octets(&octets);
     s.nch(1_000, first(VGCS)).told(&[4]);

@@ -9,6 +9,7 @@ pub const PLACES: usize = CHANNELS.len() * MOST_KEYS;
 pub const MOST_ENTRIES: usize = 9;
 pub const ENTRY_OCTETS: usize = 72;
 pub const RECORD_OCTETS: usize = 56;
+pub const PAGED_OCTETS: usize = 16;
 
 /// Where a block begins that comes behind `end` octets: at a multiple of eight.
 const fn behind(end: usize) -> usize {
@@ -32,16 +33,17 @@ pub const RECORDS: usize = behind(TICKS + 4 * PLACES);
 pub const EXPIRED: usize = behind(RECORDS + RECORD_OCTETS * PLACES);
 pub const DROPPED: usize = EXPIRED + 4;
 pub const COUNT: usize = DROPPED + 4;
-pub const ENTRIES: usize = behind(COUNT + 4);
+pub const PAGED: usize = behind(COUNT + 4);
+pub const ENTRIES: usize = behind(PAGED + PAGED_OCTETS);
 pub const STATE_LENGTH: usize = ENTRIES + ENTRY_OCTETS * MOST_ENTRIES;
 
 /// These are the numbers of docs/STATE.md.
 const _: () = assert!(NLN == 16 && KEPT_COUNT == 17 && BIT_22 == 18 && N_KEYS == 19 && MARK == 20 && KEYS == 24 && SETS == 224);
 const _: () = assert!(KINDS == 424 && TICKS == 576 && RECORDS == 1_176);
-const _: () = assert!(EXPIRED == 9_576 && COUNT == 9_584 && ENTRIES == 9_592 && STATE_LENGTH == 10_240);
+const _: () = assert!(EXPIRED == 9_576 && COUNT == 9_584 && PAGED == 9_592 && ENTRIES == 9_608 && STATE_LENGTH == 10_256);
 
 /// The mark that an accepted setup leaves: three letters and the number of this layout. Nothing but `is_set_up` looks at it.
-pub const SET_UP: [u8; 4] = *b"AHK\x03";
+pub const SET_UP: [u8; 4] = *b"AHK\x04";
 
 const UNUSED_KEY: u32 = u32::MAX;
 const NO_NLN: u8 = 4;
@@ -56,7 +58,11 @@ pub const RECORD_NUMBERS: usize = 30;
 /// Behind them: whether the call can be followed, and with which count.
 pub const FOLLOW_PART: usize = FIRST_RECORD_PART + RECORD_NUMBERS;
 pub const FOLLOW_COUNT_PART: usize = FOLLOW_PART + 1;
-pub const PARTS: usize = FOLLOW_COUNT_PART + 1;
+/// Who is paged, the same beside every entry: somebody is; length of the identity, its first octet, its others; channel first; priority there,
+/// priority; cause there, cause.
+pub const FIRST_PAGED_PART: usize = FOLLOW_COUNT_PART + 1;
+pub const PAGED_NUMBERS: usize = 9;
+pub const PARTS: usize = FIRST_PAGED_PART + PAGED_NUMBERS;
 /// A whole entry has its key and the number told before its record, and whether it can be followed behind it; a half has key, channel, which
 /// half and ms left.
 pub const ENTRY_NUMBERS: usize = 2 + RECORD_NUMBERS + 2;
@@ -189,6 +195,37 @@ fn put_record(octets: &mut [u8], at: usize, record: &Record) {
     }
 }
 
+/// Who is paged, in the header's order; nobody is all zero.
+pub fn paged_numbers_of(paged: Option<&Paged>) -> [u64; PAGED_NUMBERS] {
+    let Some(Paged { page, cause }) = paged else { return [0; PAGED_NUMBERS] };
+    let announced = |value: Option<u64>| [u64::from(value.is_some()), value.unwrap_or(0)];
+    let (identity, priority, cause) = (&page.identity, announced(page.priority), announced(*cause));
+    let identity = [identity.length, identity.first_octet, identity.other_octets];
+    [1, identity[0], identity[1], identity[2], page.channel_first, priority[0], priority[1], cause[0], cause[1]]
+}
+
+/// Where each of these numbers stands from the block's start on, how wide it is, and whether it is a flag.
+const PAGED_FIELDS: [(usize, usize, bool); PAGED_NUMBERS] =
+    [(0, 1, true), (1, 1, false), (2, 1, false), (8, 8, false), (3, 1, false), (4, 1, true), (5, 1, false), (6, 1, true), (7, 1, true)];
+
+/// The octets as they stand, whether they say that somebody is paged or not.
+pub fn get_paged(octets: &[u8]) -> [u64; PAGED_NUMBERS] {
+    PAGED_FIELDS.map(|(at, width, flag)| {
+        let number = get(octets, PAGED + at, width);
+        if flag {
+            u64::from(number != 0)
+        } else {
+            number
+        }
+    })
+}
+
+fn put_paged(octets: &mut [u8], paged: Option<&Paged>) {
+    for ((at, width, _), number) in PAGED_FIELDS.into_iter().zip(paged_numbers_of(paged)) {
+        put(octets, PAGED + at, width, number);
+    }
+}
+
 pub fn place_number(place: Place) -> usize {
     CHANNELS.len() * place.0 + place.1 as usize
 }
@@ -292,6 +329,7 @@ impl Mirror {
         put(octets, EXPIRED, 4, answer.expired);
         put(octets, DROPPED, 4, answer.dropped);
         put(octets, COUNT, 4, answer.entries.len() as u64);
+        put_paged(octets, answer.paged.as_ref());
         for (i, told) in answer.entries.iter().enumerate() {
             let at = ENTRIES + ENTRY_OCTETS * i;
             put(octets, at, 8, told.key);
@@ -312,7 +350,12 @@ impl Mirror {
 
     /// All numbers of an entry: its parts one after the other.
     pub fn entry(&self, entry: u32) -> Vec<u64> {
-        (3..PARTS).map(|part| self.read(entry, part as u32)).collect()
+        (3..FIRST_PAGED_PART).map(|part| self.read(entry, part as u32)).collect()
+    }
+
+    /// Who is paged, all of it.
+    pub fn paged(&self) -> [u64; PAGED_NUMBERS] {
+        get_paged(&self.octets)
     }
 
     /// The halves that are held, by subscription and channel: key, channel, which half, ms left, record. Which half is told as its octet stands.
@@ -345,6 +388,9 @@ pub fn read(octets: &[u8], entry: u32, part: u32) -> u64 {
         1 => return get(octets, DROPPED, 4),
         2 => return count,
         _ => {}
+    }
+    if (FIRST_PAGED_PART..PARTS).contains(&(part as usize)) {
+        return get_paged(octets)[part as usize - FIRST_PAGED_PART];
     }
     if u64::from(entry) >= count.min(MOST_ENTRIES as u64) {
         return 0;

@@ -2,7 +2,7 @@
 
 use crate::bits::SETUP;
 use crate::cover::Met;
-use crate::draft::{CallDraft, FacchDraft, NchDraft, PchDraft, Pool, SevenDraft, SixDraft};
+use crate::draft::{CallDraft, FacchDraft, NchDraft, PchDraft, Pool, SevenDraft, SixDraft, Subject};
 use crate::ffi::{self, archive};
 use crate::pair::{event_line, feed, Pair};
 use crate::receiver::*;
@@ -184,6 +184,11 @@ fn from_setup(tally: &mut Tally, rng: &mut Rng) -> u64 {
     pair.setup(tally, &keys, &sets, first_tick(rng), timers);
     events(tally, rng, &mut pair, &pool, STEPS_OF_A_SEQUENCE);
     if rng.one_in(3) {
+        // Who is paged then goes with an accepted setup, and stays over a refused one.
+        if rng.one_in(2) {
+            let (tick, page) = (pair.mirror.receiver.tick, page(rng, &pool));
+            pair.event(tally, tick, &page);
+        }
         doubtful_setup(tally, rng, &mut pair, &keys);
     }
     STEPS_OF_A_SEQUENCE
@@ -241,7 +246,7 @@ fn event(rng: &mut Rng, pair: &Pair, pool: &Pool) -> Event {
     if !receiver.halves.is_empty() && rng.one_in(12) {
         return losing(rng, receiver);
     }
-    match rng.below(58) {
+    match rng.below(62) {
         0..=17 => {
             let mut draft = pool.nch(rng);
             // Once there was an NLN, most messages repeat it or have none, or no NCH half would live long.
@@ -294,8 +299,19 @@ fn event(rng: &mut Rng, pair: &Pair, pool: &Pool) -> Event {
         }
         51 => Event::LeftIdle,
         54..=57 => Event::Bit(if rng.one_in(6) { rng.pick(&[2, 3, 256, 1 << 31, u32::MAX]) } else { rng.below(2) as u32 }),
+        58..=61 => page(rng, pool),
         _ => Event::Tick,
     }
+}
+
+/// Somebody is paged, now and then with a length that no identity has; sometimes clipped.
+fn page(rng: &mut Rng, pool: &Pool) -> Event {
+    let draft = FacchDraft { subject: Subject::Page(Pool::page(rng)), ..pool.facch(rng) };
+    let mut octets = draft.octets();
+    if rng.one_in(12) {
+        octets.truncate(2 + rng.below(octets.len() as u64 - 2) as usize);
+    }
+    Event::Facch(octets)
 }
 
 /// Numbers at the limits of what fields hold, and of all.
@@ -527,6 +543,8 @@ fn from_any_octets(tally: &mut Tally, rng: &mut Rng) -> u64 {
         octets[MARK + rng.below(4) as usize] ^= rng.pick(&[0, 0, 1, 2, 3, 128]);
     }
     let mut pair = Pair::of(&octets, rng.next() as usize);
+    // An accepted event writes anew who is paged.
+    pair.look(tally);
     // First what shows the kept count and the sets that stand there, before a message brings a count.
     let receiver = &pair.mirror.receiver;
     let (tick, first) = match rng.below(3) {
@@ -587,6 +605,9 @@ fn strange_state(rng: &mut Rng, pool: &Pool, octets: &mut [u8]) {
         }
     }
     put(octets, COUNT, rng.pick(&[0, 1, 2, 8, 9, 10, 255, 256, 1 << 31, u32::MAX]));
+    for flag in [0, 4, 6, 7] {
+        octets[PAGED + flag] = rng.pick(&[0, 0, 1, 2, 255]);
+    }
     for entry in 0..MOST_ENTRIES {
         octets[ENTRIES + ENTRY_OCTETS * entry + 8] = rng.pick(&[0, 1, 2, 3, 3, 4, 8, 9, 255]);
     }
@@ -626,7 +647,7 @@ fn wrong_lengths(tally: &mut Tally, rng: &mut Rng) -> u64 {
     let length = rng.pick(&[0, 1, 13, 15, 28]);
     pair.event(tally, rng.pick(&[0, 1 << 31]), &Event::Pch(vec![rng.next(); length]));
 
-    let (entry, part) = (rng.below(12) as u32, rng.below(40) as u32);
+    let (entry, part) = (rng.below(12) as u32, rng.below(50) as u32);
     let reading = state.read(entry, part);
     tally.count_refusal(reading.0);
     let untouched = state.octets() == octets;
@@ -643,6 +664,7 @@ fn wrong_lengths(tally: &mut Tally, rng: &mut Rng) -> u64 {
     let views = [
         state.numbers(archive::asternhaken_entry_numbers, i, places),
         state.numbers(archive::asternhaken_held_numbers, i, places),
+        state.paged(places),
         (state.number(archive::asternhaken_held_count).0, vec![state.number(archive::asternhaken_held_count).1; places]),
         (state.number(archive::asternhaken_next_expiry).0, vec![state.number(archive::asternhaken_next_expiry).1; places]),
     ];
@@ -652,7 +674,7 @@ fn wrong_lengths(tally: &mut Tally, rng: &mut Rng) -> u64 {
         "views of a state of a wrong length (numbers, set up, untouched)",
         input,
         &seen,
-        &([0; 4].map(|_| (13, vec![0; places])), 0, true),
+        &([0; 5].map(|_| (13, vec![0; places])), 0, true),
     );
     1
 }

@@ -16,7 +16,9 @@ pub struct Tally {
     pub failed: u64,
     pub refusals: [u64; 16],
     pub told: [u64; 9],
+    /// What the event steps met, and what the messages.
     pub cover: Cover,
+    pub messages: Cover,
 }
 
 pub fn hex(octets: &[u8]) -> String {
@@ -32,7 +34,16 @@ pub fn sparse(numbers: &[u64]) -> String {
 
 impl Tally {
     pub fn new(seed: u64, stop: bool) -> Tally {
-        Tally { seed, stop, passed: 0, failed: 0, refusals: [0; 16], told: [0; 9], cover: Cover::default() }
+        Tally {
+            seed,
+            stop,
+            passed: 0,
+            failed: 0,
+            refusals: [0; 16],
+            told: [0; 9],
+            cover: Cover::of_steps(),
+            messages: Cover::of_messages(),
+        }
     }
 
     /// What the archive answered. An unheard-of number differs from the second program's and is told there.
@@ -115,7 +126,7 @@ impl Tally {
                 }
             }
         }
-        self.failed += self.cover.finish();
+        self.failed += self.cover.finish() + self.messages.finish();
         println!("{} passed, {} failed", self.passed, self.failed);
         self.failed == 0
     }

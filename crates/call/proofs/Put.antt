@@ -16,13 +16,14 @@ use Rattle.csn1.specs.Format.{numBits, putBits, rowBits, whenBits}
 use Rattle.csn1.specs.Grammar.{format}
 use Rattle.csn1.specs.Told.{there, asBit}
 use Rattle.bits.proofs.Answers.{both-true}
+use Rattle.csn1.proofs.Putting.{Laid}
 use Rattle.csn1.proofs.Writing.{flag-lt, flag-byte, put-none, put-last, put-then, put-length, num-join, led-join, row-led, glued, glued-lt}
 use Rattle.call.specs.declared.Call.{Call}
 use Rattle.call.specs.declared.Description.{Description}
-use Rattle.call.specs.Call.{groupCall, description, frequencies, callValue, descriptionValue, frequenciesOf}
+use Rattle.call.specs.Call.{groupCall, description, frequencies, callValue, descriptionValue, frequenciesOf, oneToEight}
 use Rattle.call.specs.Write.{callInRange, callIsLow, callLengthRight, callHopsRight, callSize, canPutCall, afterPutCall}
 use Rattle.call.specs.Inner.{headNumber, Room}
-use Rattle.call.proofs.Laws.{widths, when-anywhere, opt-anywhere, frequencies-anywhere, description-anywhere, frequencies-size, description-size, value-size}
+use Rattle.call.proofs.Laws.{widths, when-anywhere, opt-anywhere, frequencies-anywhere, description-anywhere, call-anywhere, frequencies-size, description-size, value-size, sizeFrom, call-size}
 use Rattle.call.proofs.Record.{call-fits}
 
 -- ## The frequencies
@@ -188,3 +189,35 @@ pub put-wrong : (s : List ℕ) (p : ℕ) (c : Call) (t : Bool) → t ≡ both (c
     → (false ≡ canPutCall s p c) × (s ≡ afterPutCall s p c)
 put-wrong s p c t x e =
     refused s p c t (both (leb (length s) 4096) (leb (p + callSize c) (length s * 8))) (callSize c) x refl refl (rw (not-true t e))
+
+-- ## Behind other parts
+
+-- no test refuses the call
+module _ (c : Call) (r : both (callInRange c) (both (callIsLow c) (both (callLengthRight c) (callHopsRight c))) ≡ true) where
+  -- it was put at p
+  pub call-laid : {n : ℕ} (b d : List ℕ) (p : ℕ) → length b * 8 ≡ n → length b ≤ 4096 → d ≡ afterPutCall b p c
+      → Laid n p (groupCall .bits n p (callValue c)) (p + callSize c) b d
+  unfolding callSize canPutCall afterPutCall
+  call-laid {n} b d p s l e =
+      record {
+        next = ap (λ (x : List ℕ). p + length x) (sym (call-anywhere n p (callValue c)));
+        same =
+            λ h.
+            e ∙ rw (r, le-leb (length b) 4096 l, le-leb (p + length (groupCall .bits 0 0 (callValue c))) (length b * 8) (omega arith))
+            (ap (putBits b p) (sym (call-anywhere n p (callValue c))));
+      }
+
+  pub call-short : callSize c ≤ 135
+  unfolding callLengthRight
+  call-short =
+      let a = both-true (callInRange c) _ r in
+      let b = both-true (callIsLow c) _ (a .1) in
+      rw (call-size c) (go (c .hasDescription) (c .description .hopping) (c .description .shortlist) (both-true (callLengthRight c) (callHopsRight c) (b .1) .0))
+    where
+      go : (d h s : Bool) → pick (both d (both h (not s))) (oneToEight (c .description .length)) true ≡ true → sizeFrom d h s (c .description .length) ≤ 135
+      go false h s e = omega arith
+      go true false s e = omega arith
+      go true true true e = omega arith
+      go true true false e =
+          let n = c .description .length in
+          omega (arith, leb-true n 8 (both-true (leb 1 n) (leb n 8) e .1))

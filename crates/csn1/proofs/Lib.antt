@@ -15,3 +15,4 @@ pub mod Answers
 pub mod Writing
 pub mod Telling
 pub mod Putting
+pub mod Flags

@@ -2,18 +2,25 @@
 use mathlib.Core.Path.{_≡_, refl, sym, ap, _∙_}
 use mathlib.Core.List.{List, [], _∷_, _++_, map}
 use mathlib.Core.Bool.{Bool, true, false}
-use Prim.Native.Nat.{ℕ, zero, suc, _+_, _-_, _*_, _^_, _≤_, _<_}
+use Prim.Native.Nat.{ℕ, zero, suc, _+_, _-_, _*_, _/_, _%_, _^_, _≤_, _<_}
 use native.Mathlib.Nat.{mod-eq-of-lt}
 use native.Mathlib.Omega.{arith}
-use lib.ListN.{length, getD, take, drop, length-append}
+use lib.ListN.{length, getD, take, drop, replicate, length-append, getD-replicate}
 use borrow.Author.Tests.{eq-eqb, ne-eqb}
-use Rattle.bits.specs.Field.{afterPut}
+use Rattle.bits.specs.Field.{bit, afterPut}
 use Rattle.csn1.specs.Format.{Format, numBits, total, rowBits, rowFits, _⨟_, opt, itemsBits, list, padBit, release, putBits, inRelease}
 use Rattle.csn1.specs.Inner.{Put, PutLow}
 use Rattle.csn1.specs.Told.{there}
 use Rattle.csn1.proofs.Holding.{put-join, length-numBits}
 use Rattle.csn1.proofs.Lawful.{pad-lt}
 use Rattle.csn1.proofs.Writing.{put-none, put-last, glued, glued-lt, row-glued}
+
+-- ## Padding
+
+-- octets of 2B hex have the padding bit at every place
+pub padding-bit : (n k : ℕ) → k < n * 8 → bit (replicate n 43) k ≡ padBit k
+unfolding bit padBit
+padding-bit n k h = ap (λ (o : ℕ). o / 2 ^ (7 - k % 8) % 2) (getD-replicate n (k / 8) 43 0 (omega arith))
 
 -- ## Bits
 

@@ -1,17 +1,24 @@
 -- Tests and answers as they are told: what an answer of yes, or of 0, says. Assumes nothing.
-use mathlib.Core.Path.{_≡_, refl}
-use mathlib.Core.Bool.{Bool, true, false}
+use mathlib.Core.Path.{_≡_, refl, sym, _∙_}
+use mathlib.Core.Bool.{Bool, true, false, not}
 use mathlib.Core.List.{List, [], _∷_, _++_}
 use mathlib.Core.Option.{Option, none, some}
 use Prim.Native.Nat.{ℕ, _<_}
 use native.Mathlib.Omega.{arith}
 use lib.Dec.{eqb}
-use borrow.Author.Tests.{eqb-true, eqb-false, ne-eqb}
+use borrow.Author.Tests.{eqb-true, eqb-false, ne-eqb, not-true, not-false}
 use Rattle.bits.specs.Field.{both, pick, firstDue}
 use Rattle.csn1.specs.Told.{isThere, orZero, there}
 
 pub true-both : {a b : Bool} → a ≡ true → b ≡ true → both a b ≡ true
 true-both e f = rw (e, f)
+
+-- what a test `!f(x)` says of the answer that f must give
+pub fails : {a b : Bool} → not a ≡ true → a ≡ b → b ≡ false
+fails {a} n e = sym e ∙ not-true a n
+
+pub passes : {a b : Bool} → not a ≡ false → a ≡ b → b ≡ true
+passes {a} n e = sym e ∙ not-false a n
 
 -- a refusal's number is not 0, so that an answer of 0 says that the test was passed
 pub picked : (t : Bool) (n k : ℕ) → 0 < k → pick t n k ≡ 0 → (t ≡ true) × (n ≡ 0)

@@ -3,4 +3,5 @@ pub mod Grammar
 pub mod Clip
 pub mod Promises
 pub mod Told
+pub mod Write
 pub mod Inner

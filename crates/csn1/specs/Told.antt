@@ -34,6 +34,11 @@ abbrev pub asBit : Bool → ℕ
 asBit true = 1
 asBit false = 0
 
+-- a bit that may be missing, as a flag
+abbrev pub orFalse : Option ℕ → Bool
+orFalse none = false
+orFalse (some b) = isOne b
+
 -- the n places of a list: its first n values, and z in the places that it does not use
 abbrev pub padded : {A : Type 0} → A → ℕ → List A → List A
 padded z zero l = []

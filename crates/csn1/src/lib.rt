@@ -4,6 +4,8 @@ ghost use Rattle.csn1.specs.Format.{bad, ranOut, ground, noRefusal, renu
 ghost use Rattle.csn1.specs.Told.{readAt, flaggedAt, leadAt, flaggedOf, leadOf, codedOf, codeOf};
 use bits::Got;
 
+pub mod writer;
+
 // The longest message that is read, in octets: ours have at most 255. A longer one is answered as if its bits had run out.
 pub const LONGEST: usize = 4096;
 

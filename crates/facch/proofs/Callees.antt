@@ -1,38 +1,36 @@
 -- What the readers of NOTIFICATION/FACCH go by: from the structs that the callees gave back to what the grammar reads. Assumes nothing.
 use mathlib.Core.Path.{_≡_, refl, sym, ap, ap₂, _∙_}
 use mathlib.Core.List.{List}
-use mathlib.Core.Bool.{true}
-use mathlib.Core.Option.{Option, some}
-use mathlib.Core.Logic.{_⊎_, inl}
+use mathlib.Core.Bool.{Bool, true}
+use mathlib.Core.Option.{Option, none, some}
+use mathlib.Core.Logic.{_⊎_}
 use Prim.Native.Nat.{ℕ, _*_, _≤_, _<_}
 use native.Mathlib.Omega.{arith}
 use lib.ListN.{length}
 use borrow.Author.Tests.{le-leb, lt-leb}
-use Rattle.bits.specs.Field.{field, fetched}
-use Rattle.bits.specs.declared.Got.the-variants.{Bits, Short}
+use Rattle.bits.specs.Field.{field}
 use Rattle.csn1.specs.declared.Refusal.{Refusal}
 use Rattle.csn1.specs.declared.Flagged.{Flagged}
 use Rattle.csn1.specs.declared.Lead.{Lead}
-use Rattle.csn1.specs.Format.{Res, ok, bad, _then_, ranOut, ground, noRefusal, renumbered, numberedAs, Format, num, opt, coded, release, either, _⨟_}
-use Rattle.csn1.specs.Grammar.{number, _and_, flagged, later, format}
-use Rattle.csn1.specs.Told.{readAt, flaggedAt, flaggedOf, codedOf}
+use Rattle.csn1.specs.Format.{Res, ok, bad, _then_, ground, noRefusal, renumbered, numberedAs, Format, num, opt, coded, release, _⨟_}
+use Rattle.csn1.specs.Grammar.{number, _and_, flagged, later, one-of, format}
+use Rattle.csn1.specs.Told.{isOne, orZero, orFalse, readAt, flaggedAt, flaggedOf, codedOf}
 use Rattle.csn1.proofs.Promises.{lawful}
-use Rattle.csn1.proofs.Reading.{either-short, either-left, either-right, read-at}
+use Rattle.csn1.proofs.Reading.{read-at}
 use Rattle.csn1.proofs.Callees.{flagged-refused}
 use Rattle.csn1.proofs.Answers.{Telling, Answer, answered, unanswered, flag-answered, codes, coded-answered, coded-refused, first-bad, then-bad, then-ok}
-use Rattle.call.specs.declared.CallAt.{CallAt}
-use Rattle.call.specs.Call.{CallValue, callGrammar, groupCall}
-use Rattle.call.specs.Told.{callAtOf}
+use Rattle.call.specs.Call.{CallValue, callGrammar}
 use Rattle.facch.specs.declared.Reading.{Reading}
+use Rattle.facch.specs.declared.NotifiedAt.{NotifiedAt}
 use Rattle.facch.specs.declared.additions.CountAt.{CountAt}
 use Rattle.facch.specs.declared.additions.Release6At.{Release6At}
 use Rattle.facch.specs.declared.additions.Release7At.{Release7At}
-use Rattle.facch.specs.Message.{Release6Value, Release7Value, release6, release7, paging, notification, readOctets}
+use Rattle.facch.specs.Message.{PagingValue, Release6Value, Release7Value, release6, release7, paging, notification, readOctets}
 use Rattle.facch.specs.Told.{readingOf}
 use Rattle.facch.specs.Parts.{release6AtOf, release7AtOf}
-use Rattle.facch.specs.Inner.{countAtOf}
-use Rattle.call.proofs.Numbering.{call-numbered}
-use Rattle.facch.proofs.Numbering.{numbered6, numbered7}
+use Rattle.facch.specs.Inner.{notifiedAtOf, countAtOf}
+use Rattle.facch.proofs.Numbering.{notified-numbered, numbered6, numbered7}
+use Rattle.facch.proofs.Notices.{notified}
 
 -- behind a release's H
 abbrev behind : {A : Type 0} → ℕ → Res A → Res (Option A)
@@ -80,8 +78,17 @@ module _ (s : List ℕ) (p : ℕ) (l : length s ≤ 4096) (c : CountAt) (ec : c 
 
 -- ## Release 7: Priority Uplink Access, Emergency_Ind, Paging Cause
 
+abbrev caused7 : Refusal → Lead → Lead → Flagged → Bool → Release7At
+caused7 r u e p b =
+    record { refusal = r; release = record { hasRelease = true; uplink = u .high; emergency = e .high; hasCause = p .hasValue; cause = b }; at = p .at }
+
 abbrev whole7 : Refusal → Lead → Lead → Flagged → Release7At
-whole7 r u e p = record { refusal = r; release = record { hasRelease = true; uplink = u .high; emergency = e .high; hasCause = p .hasValue }; at = p .at }
+whole7 r u e p = caused7 r u e p (isOne (p .value))
+
+-- a bit that may be missing is a number that may be
+cause-told : (o : Option ℕ) → isOne (orZero o) ≡ orFalse o
+cause-told none = refl
+cause-told (some b) = refl
 
 -- what stands behind Priority Uplink Access
 abbrev rest7 : Format (ℕ × Option ℕ)
@@ -120,14 +127,16 @@ module _ (s : List ℕ) (p : ℕ) (l : length s ≤ 4096) (u : Lead) (eu : u ≡
           let caused = flag-answered s (e .at) 1 (omega arith) l c ec zc in
           let all : all7 .read s p ≡ ok (linked .value, (marked .value, caused .value)) (c .at) =
           then-ok coded rest7 s p _ _ _ _ (linked .is) (then-ok coded (opt (num 1)) s (u .at) _ _ _ _ (marked .is) (caused .is)) in
-          ap (λ (x : Refusal). whole7 x u e c) z ∙ ap (λ (x : Lead). whole7 noRefusal x e c) (linked .told)
-          ∙ ap₂ (whole7 noRefusal (codedOf (ok (linked .value) (u .at)))) (marked .told) (caused .told)
+          let first = codedOf (ok (linked .value) (u .at)) in
+          let second = codedOf (ok (marked .value) (e .at)) in
+          ap (λ (x : Refusal). whole7 x u e c) z ∙ ap (λ (x : Lead). whole7 noRefusal x e c) (linked .told) ∙ ap₂ (whole7 noRefusal first) (marked .told) (caused .told)
+          ∙ ap (caused7 noRefusal first second (flaggedOf (ok (caused .value) (c .at)))) (cause-told (caused .value))
           ∙ sym (ap (λ (x : Res Release7Value). release7AtOf (behind 15 x)) all)
 
 -- ## The message
 
-abbrev calls : Telling CallValue CallAt
-calls = record { of = callAtOf; refusal = λ c. c .refusal; at = λ c. c .at; fine = λ a q. refl; place = λ a q. refl; why = λ r. refl }
+abbrev notices : Telling (CallValue ⊎ PagingValue) NotifiedAt
+notices = record { of = notifiedAtOf; refusal = λ c. c .refusal; at = λ c. c .at; fine = λ a q. refl; place = λ a q. refl; why = λ r. refl }
 
 abbrev sixes : Telling (Option Release6Value) Release6At
 sixes = record { of = release6AtOf; refusal = λ c. c .refusal; at = λ c. c .at; fine = λ a q. refl; place = λ a q. refl; why = λ r. refl }
@@ -135,13 +144,15 @@ sixes = record { of = release6AtOf; refusal = λ c. c .refusal; at = λ c. c .at
 abbrev sevens : Telling (Option Release7Value) Release7At
 sevens = record { of = release7AtOf; refusal = λ c. c .refusal; at = λ c. c .at; fine = λ a q. refl; place = λ a q. refl; why = λ r. refl }
 
-abbrev whole : Refusal → CallAt → Release6At → Release7At → Reading
-whole r c x y = record { refusal = r; used = y .at; «record» = record { call = c .call; release6 = x .release; release7 = y .release } }
+abbrev whole : Refusal → NotifiedAt → Release6At → Release7At → Reading
+whole r n x y =
+    record {
+      refusal = r;
+      used = y .at;
+      «record» = record { paging = n .paging; call = n .call; page = n .page; release6 = x .release; release7 = y .release };
+    }
 
--- the parts of the message
-abbrev notified : Format (CallValue ⊎ List ℕ)
-notified = either (format callGrammar) (format paging)
-
+-- the parts behind what is notified
 abbrev added6 : Format (Option Release6Value)
 added6 = release (format release6)
 
@@ -161,65 +172,46 @@ module _ (s : List ℕ) (h : 2 ≤ length s) (l : length s ≤ 23) where
   unfolding notification
   content-bad r e = rw (le-leb 2 (length s) h, le-leb (length s) 23 l, le-leb 8 (length s * 8) (omega arith), e)
 
-  content-ok : (v : (CallValue ⊎ List ℕ) × (Option Release6Value × Option Release7Value)) (q : ℕ) → (notified ⨟ added6 ⨟ added7) .read s 8 ≡ ok v q
+  content-ok : (v : (CallValue ⊎ PagingValue) × (Option Release6Value × Option Release7Value)) (q : ℕ) → (notified ⨟ added6 ⨟ added7) .read s 8 ≡ ok v q
       → readOctets s ≡ ok (field s 0 8, v) q
   unfolding notification
   content-ok v q e = rw (le-leb 2 (length s) h, le-leb (length s) 23 l, le-leb 8 (length s * 8) (omega arith), e)
 
-  pub branch-short : Short ≡ fetched s 8 1 → readOctets s ≡ bad (ranOut 8)
-  branch-short e = content-bad _ (first-bad notified (added6 ⨟ added7) s 8 _ (either-short (format callGrammar) (format paging) s 8 e))
+  module _ (n : NotifiedAt) (en : n ≡ notifiedAtOf (notified .read s 8)) where
+    pub notified-refused : (n .refusal .number ≡ 0 → ⊥) → readOctets s ≡ bad (n .refusal)
+    notified-refused z = content-bad _ (first-bad notified (added6 ⨟ added7) s 8 _ (unanswered notices n (notified .read s 8) en z))
 
-  module _ (b : ℕ) (e : Bits b ≡ fetched s 8 1) where
-    pub paging-refused : (b ≡ 0 → ⊥) → readOctets s ≡ bad (ground 8)
-    paging-refused n =
-        content-bad _
-        (first-bad notified (added6 ⨟ added7) s 8 _
-        (either-right (format callGrammar) (format paging) s 8 b e n ∙ rw (le-leb 9 (length s * 8) (omega arith))))
+    module _ (zn : n .refusal .number ≡ 0) (x : Release6At) (ex : x ≡ release6AtOf (readAt added6 s (n .at))) where
+      notice : Answer notices n (notified .read s 8)
+      notice = answered notices n (notified .read s 8) en (lawful (one-of callGrammar paging) notified-numbered .grounds s 8) zn
 
-    module _ (z : b ≡ 0) (c : CallAt) (ec : c ≡ callAtOf (readAt groupCall s 9)) where
-      called : c ≡ callAtOf (format callGrammar .read s 9)
-      unfolding groupCall
-      called = ec ∙ ap callAtOf (read-at groupCall s 9 (omega arith))
+      six : x ≡ release6AtOf (added6 .read s (n .at))
+      six = ex ∙ ap release6AtOf (read-at added6 s (n .at) (omega arith))
 
-      pub call-refused : (c .refusal .number ≡ 0 → ⊥) → readOctets s ≡ bad (c .refusal)
-      call-refused n =
+      pub release6-refused : (x .refusal .number ≡ 0 → ⊥) → readOctets s ≡ bad (x .refusal)
+      release6-refused z =
           content-bad _
-          (first-bad notified (added6 ⨟ added7) s 8 _
-          (either-left (format callGrammar) (format paging) s 8 b e z ∙ rw (unanswered calls c (format callGrammar .read s 9) called n)))
+          (then-bad notified (added6 ⨟ added7) s 8 _ _ _ (notice .is)
+          (first-bad added6 added7 s (n .at) _ (unanswered sixes x (added6 .read s (n .at)) six z)))
 
-      module _ (zc : c .refusal .number ≡ 0) (x : Release6At) (ex : x ≡ release6AtOf (readAt added6 s (c .at))) where
-        call : Answer calls c (format callGrammar .read s 9)
-        call = answered calls c (format callGrammar .read s 9) called (lawful callGrammar call-numbered .grounds s 9) zc
+      module _ (zx : x .refusal .number ≡ 0) (y : Release7At) (ey : y ≡ release7AtOf (readAt added7 s (x .at))) where
+        sixth : Answer sixes x (added6 .read s (n .at))
+        sixth = answered sixes x (added6 .read s (n .at)) six (lawful (later release6) numbered6 .grounds s (n .at)) zx
 
-        notice : notified .read s 8 ≡ ok (inl (call .value)) (c .at)
-        notice = either-left (format callGrammar) (format paging) s 8 b e z ∙ rw (call .is)
+        seven : y ≡ release7AtOf (added7 .read s (x .at))
+        seven = ey ∙ ap release7AtOf (read-at added7 s (x .at) (omega arith))
 
-        six : x ≡ release6AtOf (added6 .read s (c .at))
-        six = ex ∙ ap release6AtOf (read-at added6 s (c .at) (omega arith))
-
-        pub release6-refused : (x .refusal .number ≡ 0 → ⊥) → readOctets s ≡ bad (x .refusal)
-        release6-refused n =
+        pub release7-refused : (y .refusal .number ≡ 0 → ⊥) → readOctets s ≡ bad (y .refusal)
+        release7-refused z =
             content-bad _
-            (then-bad notified (added6 ⨟ added7) s 8 _ _ _ notice (first-bad added6 added7 s (c .at) _ (unanswered sixes x (added6 .read s (c .at)) six n)))
+            (then-bad notified (added6 ⨟ added7) s 8 _ _ _ (notice .is)
+            (then-bad added6 added7 s (n .at) _ _ _ (sixth .is) (unanswered sevens y (added7 .read s (x .at)) seven z)))
 
-        module _ (zx : x .refusal .number ≡ 0) (y : Release7At) (ey : y ≡ release7AtOf (readAt added7 s (x .at))) where
-          sixth : Answer sixes x (added6 .read s (c .at))
-          sixth = answered sixes x (added6 .read s (c .at)) six (lawful (later release6) numbered6 .grounds s (c .at)) zx
-
-          seven : y ≡ release7AtOf (added7 .read s (x .at))
-          seven = ey ∙ ap release7AtOf (read-at added7 s (x .at) (omega arith))
-
-          pub release7-refused : (y .refusal .number ≡ 0 → ⊥) → readOctets s ≡ bad (y .refusal)
-          release7-refused n =
-              content-bad _
-              (then-bad notified (added6 ⨟ added7) s 8 _ _ _ notice
-              (then-bad added6 added7 s (c .at) _ _ _ (sixth .is) (unanswered sevens y (added7 .read s (x .at)) seven n)))
-
-          pub message-told : y .refusal .number ≡ 0 → (r : Refusal) → r ≡ noRefusal → whole r c x y ≡ readingOf (readOctets s)
-          message-told zy r er =
-              let seventh = answered sevens y (added7 .read s (x .at)) seven (lawful (later release7) numbered7 .grounds s (x .at)) zy in
-              let all : readOctets s ≡ ok (field s 0 8, (inl (call .value), (sixth .value, seventh .value))) (y .at) =
-              content-ok _ _
-              (then-ok notified (added6 ⨟ added7) s 8 _ _ _ _ notice (then-ok added6 added7 s (c .at) _ _ _ _ (sixth .is) (seventh .is))) in
-              ap (λ (w : Refusal). whole w c x y) er ∙ ap (λ (w : CallAt). whole noRefusal w x y) (call .told)
-              ∙ ap₂ (whole noRefusal (callAtOf (ok (call .value) (c .at)))) (sixth .told) (seventh .told) ∙ sym (ap readingOf all)
+        pub message-told : y .refusal .number ≡ 0 → (r : Refusal) → r ≡ noRefusal → whole r n x y ≡ readingOf (readOctets s)
+        message-told zy r er =
+            let seventh = answered sevens y (added7 .read s (x .at)) seven (lawful (later release7) numbered7 .grounds s (x .at)) zy in
+            let all : readOctets s ≡ ok (field s 0 8, (notice .value, (sixth .value, seventh .value))) (y .at) =
+            content-ok _ _
+            (then-ok notified (added6 ⨟ added7) s 8 _ _ _ _ (notice .is) (then-ok added6 added7 s (n .at) _ _ _ _ (sixth .is) (seventh .is))) in
+            ap (λ (w : Refusal). whole w n x y) er ∙ ap (λ (w : NotifiedAt). whole noRefusal w x y) (notice .told)
+            ∙ ap₂ (whole noRefusal (notifiedAtOf (ok (notice .value) (n .at)))) (sixth .told) (seventh .told) ∙ sym (ap readingOf all)

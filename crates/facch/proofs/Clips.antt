@@ -30,7 +30,7 @@ use Rattle.facch.proofs.Numbering.{message-numbered}
 
 -- ## Where bits ran out
 
-abbrev Fits : List ℕ → Type 0
+abbrev pub Fits : List ℕ → Type 0
 Fits s = (2 ≤ length s) × (length s ≤ 23)
 
 both-true : (a b : Bool) → both a b ≡ true → (a ≡ true) × (b ≡ true)
@@ -64,7 +64,7 @@ told-by-result s = result-tells message message-numbered (Fits s) s (readOf s .r
 
 outside : Outside (number 8 and one-of callGrammar paging and (flagged counts and flagged (number 36)) and low-high and low-high and flagged (number 1))
 unfolding Outside
-outside = (tt, ((call-outside, tt), (((tt, tt), tt), (tt, (tt, tt)))))
+outside = (tt, ((call-outside, ((tt, λ n. tt), (tt, tt))), (((tt, tt), tt), (tt, (tt, tt)))))
 
 pub the-number-says-the-release : The-number-says-the-release
 the-number-says-the-release s c =
@@ -83,7 +83,7 @@ plain7 = (tt, (tt, tt))
 
 plain-call : Plain (one-of callGrammar paging)
 unfolding Plain
-plain-call = (call-plain, tt)
+plain-call = (call-plain, ((tt, λ n. tt), (tt, tt)))
 
 steady : Steady message
 unfolding Steady
@@ -130,14 +130,14 @@ left-of v w (inl h) = absurd (h .0)
 left-of v w (inr h) = behind-first v w (h .1)
 
 -- an accepted message
-record Accepted (s : List ℕ) (m : Reading) : Type 0 where
-  fits : Fits s
+pub record Accepted (s : List ℕ) (m : Reading) : Type 0 where
+  pub fits : Fits s
   value : Value
   place : ℕ
   read : format message .read s 0 ≡ ok value place
   told : m ≡ readingOf (ok value place)
 
-accepted : (s : List ℕ) → readOf s .refusal .number ≡ 0 → Accepted s (readOf s)
+pub accepted : (s : List ℕ) → readOf s .refusal .number ≡ 0 → Accepted s (readOf s)
 unfolding notification ground
 accepted s z = go (both (leb 2 (length s)) (leb (length s) 23)) refl (notification .read s 0) refl (lawful message message-numbered .grounds s 0) z
   where

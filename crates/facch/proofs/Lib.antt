@@ -1,4 +1,5 @@
 pub mod Numbering
+pub mod Notices
 pub mod Callees
 pub mod Clips
 pub mod Promises

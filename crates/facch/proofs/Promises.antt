@@ -14,12 +14,12 @@ use Rattle.csn1.proofs.Promises.{lawful}
 use Rattle.call.specs.Call.{groupCall}
 use Rattle.facch.specs.Message.{Value, message, notification, readOctets}
 use Rattle.facch.specs.Told.{recordOf, readingOf}
-use Rattle.facch.specs.Back.{valueOf, causeIn}
+use Rattle.facch.specs.Back.{valueOf}
 use Rattle.facch.proofs.Numbering.{message-numbered}
 use Rattle.facch.proofs.Back.{a-record-tells-its-message}
 use Rattle.facch.specs.Promises.{Stands-there, Every-reading-stands-in-the-octets, What-stands-in-the-octets-is-read, Listed-records}
 
-notification-lawful : Lawful notification
+pub notification-lawful : Lawful notification
 unfolding notification
 notification-lawful = lawful message message-numbered
 
@@ -27,15 +27,13 @@ notification-lawful = lawful message message-numbered
 read-stands : (s : List ℕ) (v : Value) (q : ℕ) → readOctets s ≡ ok v q → notification .read s 0 ≡ ok v q → Stands-there s
 read-stands s v q e x =
     let d : Stands notification s 0 v q = notification-lawful .stands s 0 v q (omega arith) x in
-    let c : ℕ = causeIn (v .1 .1 .1) in
     record {
       first = v .0;
-      cause = c;
       stands =
-          subst (λ (y : Res Value). Stands notification s 0 (valueOf (v .0) c (readingOf y .«record»)) (readingOf y .used)) (sym e)
+          subst (λ (y : Res Value). Stands notification s 0 (valueOf (v .0) (readingOf y .«record»)) (readingOf y .used)) (sym e)
           (subst (λ (w : Value). Stands notification s 0 w q) (sym (a-record-tells-its-message v (d .fitting))) d);
       told =
-          subst (λ (y : Res Value). recordOf (valueOf (v .0) c (readingOf y .«record»)) ≡ readingOf y .«record») (sym e)
+          subst (λ (y : Res Value). recordOf (valueOf (v .0) (readingOf y .«record»)) ≡ readingOf y .«record») (sym e)
           (ap recordOf (a-record-tells-its-message v (d .fitting)));
     }
 
@@ -55,5 +53,5 @@ what-stands-in-the-octets-is-read s v h l f w k =
     (ap (λ (n : ℕ). readingOf (ok v n)) (omega arith))
 
 pub listed-records : Listed-records
-unfolding notification groupCall field bit padBit
-listed-records = record { uplink = refl; emergency = refl }
+unfolding notification groupCall field bit padBit ground
+listed-records = record { uplink = refl; emergency = refl; paged = refl; no-identity = refl; long-identity = refl }

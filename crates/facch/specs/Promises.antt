@@ -1,31 +1,30 @@
--- What is promised of NOTIFICATION/FACCH (demand 2, reading, and where bits ran out). Assumes nothing.
+-- What is promised of reading NOTIFICATION/FACCH (demand 2, and where bits ran out). Assumes nothing.
 use mathlib.Core.Path.{_≡_}
 use mathlib.Core.List.{List, [], _∷_, map}
 use mathlib.Core.Bool.{Bool, true, false}
 use Prim.Native.Nat.{ℕ, _*_, _≤_, _<_}
 use lib.ListN.{length, take}
-use Rattle.csn1.specs.Format.{ok, noRefusal, isClip, Holds}
+use Rattle.csn1.specs.Format.{ok, ground, noRefusal, isClip, Holds}
 use Rattle.csn1.specs.Grammar.{number, _and_, one-of}
 use Rattle.csn1.specs.Clip.{Clipped, Release-of}
 use Rattle.csn1.specs.Promises.{Stands}
-use Rattle.call.specs.Call.{noDescription, callGrammar}
+use Rattle.call.specs.Call.{noDescription, noCall, callGrammar}
 use Rattle.facch.specs.declared.Notification.{Notification}
 use Rattle.facch.specs.declared.Reading.{Reading}
-use Rattle.facch.specs.Message.{release6, release7, paging, Value, message, firstOctet, release7Part, notification}
-use Rattle.facch.specs.Told.{noRelease6, noRelease7, recordOf, readingOf, readOf}
-use Rattle.facch.specs.Back.{valueOf, causeIn}
+use Rattle.facch.specs.Message.{release6, release7, paging, Value, message, firstOctet, notification}
+use Rattle.facch.specs.Told.{noPage, noRelease6, noRelease7, recordOf, readingOf, readOf}
+use Rattle.facch.specs.Back.{valueOf}
 
--- 1. A record tells its message: all of it but the first octet and the Paging Cause bit comes back.
+-- 1. A record tells its message: all of it but the first octet comes back.
 abbrev pub A-record-tells-its-message : Type 0
-A-record-tells-its-message = (v : Value) → notification .fits v → valueOf (firstOctet v) (causeIn (release7Part v)) (recordOf v) ≡ v
+A-record-tells-its-message = (v : Value) → notification .fits v → valueOf (firstOctet v) (recordOf v) ≡ v
 
--- an accepted message: what its record says, with some first octet and Paging Cause bit, stands in the octets bit for bit, and ends at the bits used
+-- an accepted message: what its record says, with some first octet, stands in the octets bit for bit, and ends at the bits used
 pub record Stands-there (s : List ℕ) : Type 0 where
   pub first : ℕ
-  pub cause : ℕ
-  pub stands : Stands notification s 0 (valueOf first cause (readOf s .«record»)) (readOf s .used)
+  pub stands : Stands notification s 0 (valueOf first (readOf s .«record»)) (readOf s .used)
   -- and what is absent is zero in it
-  pub told : recordOf (valueOf first cause (readOf s .«record»)) ≡ readOf s .«record»
+  pub told : recordOf (valueOf first (readOf s .«record»)) ≡ readOf s .«record»
 
 -- 2. Every accepted reading stands in the octets bit for bit.
 abbrev pub Every-reading-stands-in-the-octets : Type 0
@@ -50,6 +49,7 @@ withRelease7 uplink emergency =
       used = 51;
       «record» =
           record {
+            paging = false;
             call =
                 record {
                   reference = 12345678;
@@ -60,8 +60,33 @@ withRelease7 uplink emergency =
                   hasDescription = false;
                   description = noDescription;
                 };
+            page = noPage;
             release6 = noRelease6;
-            release7 = record { hasRelease = true; uplink = uplink; emergency = emergency; hasCause = false };
+            release7 = record { hasRelease = true; uplink = uplink; emergency = emergency; hasCause = false; cause = false };
+          };
+    }
+
+-- the mobile station with TMSI 12345678 hex is paged for a short message: TCH/F first, eMLPP priority 4
+abbrev pub pagedTmsi : Reading
+pagedTmsi =
+    record {
+      refusal = noRefusal;
+      used = 69;
+      «record» =
+          record {
+            paging = true;
+            call = noCall;
+            page =
+                record {
+                  identityLength = 5;
+                  identityFirst = 0xf4;
+                  identityRest = 0x12345678;
+                  channelFirst = 2;
+                  hasPriority = true;
+                  priority = 4;
+                };
+            release6 = noRelease6;
+            release7 = record { hasRelease = true; uplink = false; emergency = false; hasCause = true; cause = true };
           };
     }
 
@@ -70,6 +95,10 @@ pub record Listed-records : Type 0 where
   pub uplink : readOf (0x04 ∷ 0x0b ∷ 0xc6 ∷ 0x14 ∷ 0xe8 ∷ 0x2a ∷ 0x8b ∷ []) ≡ withRelease7 true false
   -- and the reverse
   pub emergency : readOf (0x04 ∷ 0x0b ∷ 0xc6 ∷ 0x14 ∷ 0xe8 ∷ 0x2a ∷ 0x4b ∷ []) ≡ withRelease7 false true
+  pub paged : readOf (0x04 ∷ 0x82 ∷ 0xfa ∷ 0x09 ∷ 0x1a ∷ 0x2b ∷ 0x3c ∷ 0x59 ∷ 0xbb ∷ []) ≡ pagedTmsi
+  -- a mobile identity of 0 and one of 10 octets, with nothing behind the length octet
+  pub no-identity : readOf (0x04 ∷ 0x80 ∷ 0x5b ∷ []) .refusal ≡ ground 8
+  pub long-identity : readOf (0x04 ∷ 0x85 ∷ 0x2a ∷ []) .refusal ≡ ground 8
 
 -- 5. Refused with 2, 14 or 15: bits ran out in a field that reading came to, which begins at the refusal's bit and ends past the octets; bit numbers count the first
 -- octet. Any other refusal has the bit 0.
@@ -86,10 +115,10 @@ The-number-says-the-release =
 
 -- a record without Release 7, and without both
 abbrev pub without7 : Notification → Notification
-without7 m = record { call = m .call; release6 = m .release6; release7 = noRelease7 }
+without7 m = record { paging = m .paging; call = m .call; page = m .page; release6 = m .release6; release7 = noRelease7 }
 
 abbrev pub withoutBoth : Notification → Notification
-withoutBoth m = record { call = m .call; release6 = noRelease6; release7 = noRelease7 }
+withoutBoth m = record { paging = m .paging; call = m .call; page = m .page; release6 = noRelease6; release7 = noRelease7 }
 
 -- an accepted message s cut to its first n octets: refused as bits that ran out, at most at the cut; or the cut fell where Release 7 begins, or where
 -- Release 6 begins, and what is left is read as the same message without it and what follows
@@ -107,7 +136,8 @@ A-clip-is-told-as-a-clip =
     → 2 ≤ n
     → (n * 8 < readOf s .used → Told-as-a-clip s n) × (readOf s .used ≤ n * 8 → readOf (take n s) ≡ readOf s)
 
--- 8. Listed clips: the number and the bit, worked out from the octets by hand, and what is missing there.
+-- 8. Listed clips: the number and the bit, worked out from the octets by hand, and what is missing there. Behind a mobile identity there is no row for channel first, for
+-- the flag of the priority and for the priority: it ends one bit into an octet, whose other seven bits hold all three.
 abbrev pub clips : List ((ℕ × ℕ) × List ℕ)
 clips =
     -- 7 of the call's 36 bits
@@ -138,6 +168,16 @@ clips =
     ∷ ((15, 80), 0x04 ∷ 0x00 ∷ 0x00 ∷ 0x04 ∷ 0xd0 ∷ 0x94 ∷ 0xb2 ∷ 0xbf ∷ 0xf8 ∷ 0xd7 ∷ [])
     -- Paging Cause
     ∷ ((15, 56), 0x04 ∷ 0x00 ∷ 0x00 ∷ 0x00 ∷ 0x58 ∷ 0x01 ∷ 0x47 ∷ [])
+    -- paging: 7 of the length octet's 8 bits
+    ∷ ((2, 9), 0x04 ∷ 0x80 ∷ [])
+    -- 7 of the mobile identity's 8 bits
+    ∷ ((2, 17), 0x04 ∷ 0x80 ∷ 0x80 ∷ [])
+    -- 15 of its 40 bits
+    ∷ ((2, 17), 0x04 ∷ 0x82 ∷ 0x80 ∷ 0xf4 ∷ [])
+    -- H at 28, flag 1, CELL_GLOBAL_COUNT, and no B22_COUNT
+    ∷ ((14, 32), 0x04 ∷ 0x80 ∷ 0x83 ∷ 0x86 ∷ [])
+    -- L at 28, H at 29, and no flag of Paging Cause
+    ∷ ((15, 32), 0x04 ∷ 0x80 ∷ 0x80 ∷ 0x8e ∷ [])
     ∷ []
 
 -- what a row's octets are refused with, and where

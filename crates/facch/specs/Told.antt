@@ -5,15 +5,33 @@ use mathlib.Core.Option.{Option, none, some}
 use mathlib.Core.Logic.{_⊎_, inl, inr}
 use Prim.Native.Nat.{ℕ}
 use Rattle.csn1.specs.Format.{Res, ok, bad, noRefusal}
-use Rattle.csn1.specs.Told.{isThere, orZero, isOne}
+use Rattle.csn1.specs.Told.{isThere, orZero, isOne, orFalse}
 use Rattle.call.specs.Call.{CallValue, callOf, noCall}
 use Rattle.call.specs.declared.Call.{Call}
+use Rattle.facch.specs.Message.{lengthOctet, firstIdentityOctet, otherIdentityOctets, PagingValue, mobileIdentity, channelNeeded, emlppPriority}
 use Rattle.facch.specs.Message.{cellGlobalCount, b22Count, Release6Value, countPart, vstkRand, Release7Value, uplinkAccess, emergencyInd, pagingCause}
 use Rattle.facch.specs.Message.{Value, callOrPaging, release6Part, release7Part, readOctets}
+use Rattle.facch.specs.declared.Page.{Page}
 use Rattle.facch.specs.declared.Release6.{Release6}
 use Rattle.facch.specs.declared.Release7.{Release7}
 use Rattle.facch.specs.declared.Notification.{Notification}
 use Rattle.facch.specs.declared.Reading.{Reading}
+
+-- ## Paging Information
+
+abbrev pub noPage : Page
+noPage = record { identityLength = 0; identityFirst = 0; identityRest = 0; channelFirst = 0; hasPriority = false; priority = 0 }
+
+abbrev pub pageOf : PagingValue → Page
+pageOf p =
+    record {
+      identityLength = lengthOctet (mobileIdentity p);
+      identityFirst = firstIdentityOctet (mobileIdentity p);
+      identityRest = otherIdentityOctets (mobileIdentity p);
+      channelFirst = channelNeeded p;
+      hasPriority = isThere (emlppPriority p);
+      priority = orZero (emlppPriority p);
+    }
 
 -- ## Release 6
 
@@ -44,26 +62,46 @@ release6Of (some v) =
 -- ## Release 7
 
 abbrev pub noRelease7 : Release7
-noRelease7 = record { hasRelease = false; uplink = false; emergency = false; hasCause = false }
+noRelease7 = record { hasRelease = false; uplink = false; emergency = false; hasCause = false; cause = false }
 
--- the Paging Cause itself is thrown away
 abbrev pub release7Of : Option Release7Value → Release7
 release7Of none = noRelease7
 release7Of (some v) =
-    record { hasRelease = true; uplink = isOne (uplinkAccess v); emergency = isOne (emergencyInd v); hasCause = isThere (pagingCause v) }
+    record {
+      hasRelease = true;
+      uplink = isOne (uplinkAccess v);
+      emergency = isOne (emergencyInd v);
+      hasCause = isThere (pagingCause v);
+      cause = orFalse (pagingCause v);
+    }
 
 -- ## The whole
 
--- what is notified: a call; paging is refused before it is told
-abbrev pub notified : CallValue ⊎ List ℕ → Call
-notified (inl c) = callOf c
-notified (inr p) = noCall
+-- what is notified, a call or that somebody is paged; the other of the two is absent
+abbrev pub isPaging : CallValue ⊎ PagingValue → Bool
+isPaging (inl c) = false
+isPaging (inr p) = true
+
+abbrev pub callIn : CallValue ⊎ PagingValue → Call
+callIn (inl c) = callOf c
+callIn (inr p) = noCall
+
+abbrev pub pageIn : CallValue ⊎ PagingValue → Page
+pageIn (inl c) = noPage
+pageIn (inr p) = pageOf p
 
 abbrev pub recordOf : Value → Notification
-recordOf v = record { call = notified (callOrPaging v); release6 = release6Of (release6Part v); release7 = release7Of (release7Part v) }
+recordOf v =
+    record {
+      paging = isPaging (callOrPaging v);
+      call = callIn (callOrPaging v);
+      page = pageIn (callOrPaging v);
+      release6 = release6Of (release6Part v);
+      release7 = release7Of (release7Part v);
+    }
 
 abbrev pub noRecord : Notification
-noRecord = record { call = noCall; release6 = noRelease6; release7 = noRelease7 }
+noRecord = record { paging = false; call = noCall; page = noPage; release6 = noRelease6; release7 = noRelease7 }
 
 -- a refusal is its number and its bit alone
 abbrev pub readingOf : Res Value → Reading

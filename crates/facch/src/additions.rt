@@ -58,6 +58,7 @@ pub fn no_release7() -> Release7
         uplink: false,
         emergency: false,
         hasCause: false,
+        cause: false,
     }
 }
 
@@ -187,7 +188,7 @@ fn clipped7(refusal: Refusal) -> Release7At
     refused_release7(csn1::inside(15, refusal))
 }
 
-// The parts behind Release 7's H. The two bits are L/H-coded (003), and a call's Paging Cause is read past.
+// The parts behind Release 7's H. The first two bits are L/H-coded (003); Paging Cause is a plain bit.
 fn read_parts7(s: &[u8], at: usize) -> Release7At
     requires { ⌜ length (now s) ≤ 4096 ⌝ }
     ensures { λ r. ⌜ r ≡ release7AtOf (format release7 .read (now (s .entry)) at then λ v q. ok (some v) q) ⌝ }
@@ -211,6 +212,7 @@ fn read_parts7(s: &[u8], at: usize) -> Release7At
             uplink: u.high,
             emergency: e.high,
             hasCause: p.hasValue,
+            cause: p.value == 1,
         },
         at: p.at,
     }

@@ -1,12 +1,35 @@
 // NOTIFICATION/FACCH (44.018, 9.1.21a): 2 to 23 octets on the channel of a call in progress, read.
 ghost use mathlib.Core.Path.{_≡_};
+ghost use Prim.Native.Nat.{_≤_};
+ghost use lib.ListN.{length};
 ghost use Rattle.csn1.specs.Format.{bad};
+ghost use Rattle.csn1.specs.Grammar.{one-of, format};
+ghost use Rattle.call.specs.Call.{callGrammar};
+ghost use Rattle.facch.specs.Message.{paging};
 ghost use Rattle.facch.specs.Told.{readOf, readingOf};
+ghost use Rattle.facch.specs.Inner.{notifiedAtOf};
 use bits::Got;
 use call::Call;
+use call::Description;
 use csn1::Refusal;
 
 mod additions;
+mod pages;
+
+// Paging Information: which mobile station is paged, on which channel, and how urgently.
+pub struct Page {
+    // The octets of the mobile identity, 1 to 9.
+    pub identityLength: u8,
+    // The first of them: the kind of identity, and its first digit.
+    pub identityFirst: u8,
+    // The others as one number: of a TMSI the TMSI.
+    pub identityRest: u64,
+    // Channel first, as Channel Needed has it.
+    pub channelFirst: u8,
+    pub hasPriority: bool,
+    // eMLPP priority.
+    pub priority: u8,
+}
 
 // What Release 6 added.
 pub struct Release6 {
@@ -28,13 +51,17 @@ pub struct Release7 {
     pub uplink: bool,
     // Emergency_Ind.
     pub emergency: bool,
-    // Whether a Paging Cause stands there; for a call it is read past.
+    // Whether a Paging Cause stands there; without one the paging is for a mobile terminating call.
     pub hasCause: bool,
+    // Paging Cause: a short message where true, a mobile terminating call where false. A call's is kept and means nothing.
+    pub cause: bool,
 }
 
-// The record of a notification. What is absent is zero.
+// The record of a notification: a call or, where paging is true, a page. What is absent is zero.
 pub struct Notification {
+    pub paging: bool,
     pub call: Call,
+    pub page: Page,
     pub release6: Release6,
     pub release7: Release7,
 }
@@ -46,6 +73,81 @@ pub struct Reading {
     pub record: Notification,
 }
 
+// What is notified and the place behind it, or why not.
+struct NotifiedAt {
+    refusal: Refusal,
+    paging: bool,
+    call: Call,
+    page: Page,
+    at: usize,
+}
+
+fn refused_notified(refusal: Refusal) -> NotifiedAt
+    ensures { λ r. ⌜ r ≡ notifiedAtOf (bad refusal) ⌝ }
+{
+    NotifiedAt {
+        refusal,
+        paging: false,
+        call: call::no_call(),
+        page: pages::no_page(),
+        at: 0,
+    }
+}
+
+// The same call, made of its fields: a copy of what was just written field by field would wait for all of them (4 ns in every event).
+fn anew(c: Call) -> Call
+    ensures { λ r. ⌜ r ≡ c ⌝ }
+{
+    let d = c.description;
+    Call {
+        reference: c.reference,
+        vgcs: c.vgcs,
+        acknowledged: c.acknowledged,
+        priority: c.priority,
+        cipher: c.cipher,
+        hasDescription: c.hasDescription,
+        description: Description {
+            channel: d.channel,
+            hopping: d.hopping,
+            shortlist: d.shortlist,
+            length: d.length,
+            frequencies: d.frequencies,
+        },
+    }
+}
+
+// {0 <Group Call information> | 1 <Paging Information>}. A refusal goes through untested, so that the way of a call has one test of it.
+fn read_notified(octets: &[u8]) -> NotifiedAt
+    requires { ⌜ length (now octets) ≤ 4096 ⌝ }
+    ensures { λ r. ⌜ r ≡ notifiedAtOf (format (one-of callGrammar paging) .read (now (octets .entry)) 8) ⌝ }
+{
+    let Got::Bits(paging) = bits::reader::field(octets, 8, 1) else {
+        return refused_notified(csn1::ran_out(8));
+    };
+    if paging != 0 {
+        let p = pages::read(octets, 9);
+        let refusal = p.refusal;
+        let page = p.page;
+        return NotifiedAt {
+            refusal,
+            paging: p.refusal.number == 0,
+            call: call::no_call(),
+            page,
+            at: p.at,
+        };
+    }
+    let c = call::read(octets, 9);
+    let refusal = c.refusal;
+    let call = anew(c.call);
+    NotifiedAt {
+        refusal,
+        paging: false,
+        call,
+        page: pages::no_page(),
+        at: c.at,
+    }
+}
+
 fn refused(refusal: Refusal) -> Reading
     ensures { λ r. ⌜ r ≡ readingOf (bad refusal) ⌝ }
 {
@@ -53,14 +155,16 @@ fn refused(refusal: Refusal) -> Reading
         refusal,
         used: 0,
         record: Notification {
+            paging: false,
             call: call::no_call(),
+            page: pages::no_page(),
             release6: additions::no_release6(),
             release7: additions::no_release7(),
         },
     }
 }
 
-// Reads any octets. The first is not looked at; the paging branch is refusal 8.
+// Reads any octets. The first is not looked at.
 pub fn read(octets: &[u8]) -> Reading
     ensures { λ r. ⌜ r ≡ readOf (now (octets .entry)) ⌝ }
 {
@@ -70,17 +174,11 @@ pub fn read(octets: &[u8]) -> Reading
     if 23 < octets.len() {
         return refused(csn1::ground(1));
     }
-    let Got::Bits(paging) = bits::reader::field(octets, 8, 1) else {
-        return refused(csn1::ran_out(8));
-    };
-    if paging != 0 {
-        return refused(csn1::ground(8));
+    let n = read_notified(octets);
+    if n.refusal.number != 0 {
+        return refused(n.refusal);
     }
-    let c = call::read(octets, 9);
-    if c.refusal.number != 0 {
-        return refused(c.refusal);
-    }
-    let six = additions::read_release6(octets, c.at);
+    let six = additions::read_release6(octets, n.at);
     if six.refusal.number != 0 {
         return refused(six.refusal);
     }
@@ -88,14 +186,17 @@ pub fn read(octets: &[u8]) -> Reading
     if seven.refusal.number != 0 {
         return refused(seven.refusal);
     }
-    let call = c.call;
+    let call = n.call;
+    let page = n.page;
     let release6 = six.release;
     let release7 = seven.release;
     Reading {
         refusal: csn1::no_refusal(),
         used: seven.at,
         record: Notification {
+            paging: n.paging,
             call,
+            page,
             release6,
             release7,
         },

@@ -1,4 +1,4 @@
-// What a host sees of a lent state in one call: an entry of the answer, the halves held, when the next one runs out, whether a setup left it.
+// What a host sees of a lent state in one call: an entry of the answer, who is paged, the halves held, when the next one runs out, whether a setup left it.
 ghost use mathlib.Core.Path.{_≡_};
 ghost use mathlib.Core.List.{[]};
 ghost use lib.ListN.{length, getD};
@@ -6,7 +6,7 @@ ghost use Rattle.bits.specs.Field.{pick};
 ghost use Rattle.csn1.specs.Told.{asBit, padded};
 ghost use Rattle.receiver.specs.Step.{noTold};
 ghost use Rattle.layout.specs.Layout.{isState, isMarked, decodeOf, lastOf};
-ghost use Rattle.layout.specs.Parts.{toldNumbers};
+ghost use Rattle.layout.specs.Parts.{toldNumbers, pagedNumbers};
 ghost use Rattle.views.specs.Held.{heldList, leastLeft, numbersNo};
 
 // An entry of the answer with its record, into as many places as there are; what is not there is 0.
@@ -16,6 +16,15 @@ pub extern "C" fn asternhaken_entry_numbers(state: &[u8], entry: u32, numbers: &
         × (now (numbers .exit) ≡ padded 0 (length (now (numbers .entry))) (pick (isState (now (state .entry))) (toldNumbers (getD (lastOf (now (state .entry)) .entries) entry noTold)) [])) ⌝ }
 {
     views::entries::entry(state, entry as usize, numbers) as u32
+}
+
+// Who is paged, into as many places as there are; what is not there is 0.
+#[no_mangle]
+pub extern "C" fn asternhaken_paged_numbers(state: &[u8], numbers: &mut [u64]) -> u32
+    ensures { λ r. ⌜ (r ≡ pick (isState (now (state .entry))) 0 13)
+        × (now (numbers .exit) ≡ padded 0 (length (now (numbers .entry))) (pick (isState (now (state .entry))) (pagedNumbers (lastOf (now (state .entry)) .paged)) [])) ⌝ }
+{
+    views::pages::paged(state, numbers) as u32
 }
 
 // How many halves are held.

@@ -12,13 +12,14 @@ use Rattle.bits.specs.Field.{both, pick}
 use Rattle.csn1.specs.declared.Refusal.{Refusal}
 use Rattle.csn1.specs.Format.{ground}
 use Rattle.csn1.specs.Grammar.{format, later}
+use Rattle.csn1.specs.Write.{flaggedRight}
 use Rattle.bits.proofs.Answers.{both-true}
 use Rattle.csn1.proofs.Telling.{picked}
 use Rattle.nch.specs.declared.Notification.{Notification}
 use Rattle.nch.specs.Told.{readOf}
 use Rattle.call.specs.Write.{callInRange, callIsZero}
 use Rattle.nch.specs.Places.{mostCalls, mostReduceds, mostRandoms}
-use Rattle.nch.specs.Write.{flaggedRight, placesRight, release6Places, release6InRange, inRange, writeNumber}
+use Rattle.nch.specs.Write.{placesRight, release6Places, release6InRange, inRange, writeNumber}
 use Rattle.nch.proofs.Promises.{writing-gives-back-what-was-read}
 use Rattle.facch.specs.declared.Notification.{Notification as Message}
 use Rattle.facch.specs.Message.{Release6Value, release6, notification}
@@ -74,7 +75,7 @@ read-count : (s : List ℕ) → readFacch s .refusal .number ≡ 0 → readFacch
 unfolding notification
 read-count s z =
     let w = every-reading-stands-in-the-octets s z in
-    let v = valueOf (w .first) (w .cause) (readFacch s .«record») in
+    let v = valueOf (w .first) (readFacch s .«record») in
     subst (λ (m : Message). m .release6 .cellcount < 4) (w .told) (low-six (v .1 .1 .0) (w .stands .fitting .1 .1 .0))
 
 -- ## PCH

@@ -8,7 +8,8 @@ use lib.ListN.{getD}
 use borrow.Author.Tests.{eqb-false}
 use Rattle.csn1.specs.declared.Refusal.{Refusal}
 use Rattle.receiver.specs.Model.{noRecord, timerAt, sweptSlots, expiredOf, droppedOf, startedOf}
-use Rattle.receiver.specs.Step.{refusalOf, ruleOf, stepOf}
+use Rattle.receiver.specs.Entries.{facchEntries}
+use Rattle.receiver.specs.Step.{allAfter, facch, refusalOf, ruleOf, stepOf}
 use Rattle.isolation.specs.One.{Half, Known, One, Said, sees, seen, spared, passed, knownThen, stepSaid, runEach, oneAfter, fresh}
 use Rattle.isolation.specs.History.{Moment, untilEntry, pastOf}
 use Rattle.isolation.specs.Calls.{timerOf, notOurs, setUnder, lastTick, callAfter}
@@ -16,7 +17,7 @@ use Rattle.isolation.specs.Promises.{No-call-disturbs-another, No-call-d
 use Rattle.isolation.specs.Promises.{An-entry-joins-exactly-where-the-opposite-half-is-held, What-is-held-came-and-stayed, An-entry-joins-exactly-where-the-opposite-half-came-and-stayed, A-refused-event-changes-nothing}
 use Rattle.isolation.specs.Promises.{saidAt, heardAt, A-call-joins-exactly-when, A-reply-and-a-receiver-are-an-answer, The-answer-is-the-calls}
 use Rattle.isolation.specs.Promises.{The-number-is-on-its-ground, The-wrapped-difference-is-the-sum, Every-lost-half-is-counted-once, Expiries-and-drops-are-counted-apart}
-use Rattle.isolation.specs.Promises.{The-kept-count-is-that-of-the-history, A-set-changes-nothing-for-another-call}
+use Rattle.isolation.specs.Promises.{The-kept-count-is-that-of-the-history, A-set-changes-nothing-for-another-call, A-page-touches-no-half}
 use Rattle.isolation.proofs.Dropping.{expired-all, dropped-all, lost-all}
 use Rattle.receiver.proofs.Cases.{by-test}
 use Rattle.isolation.proofs.Joining.{young-aged, young-spared, joins-only, joins-then}
@@ -122,6 +123,7 @@ a-reply-and-a-receiver-are-an-answer a b p q =
       dropped = p i .dropped;
       count = p i .count;
       entries = p i .entries;
+      paged = p i .paged;
       receiver = q i;
     }
 
@@ -139,3 +141,10 @@ a-set-changes-nothing-for-another-call s keys sets others t y z key h e c es ts 
     no-call-disturbs-another-at-any-event s keys sets t y key h c es ts
     ∙ ap (λ (n : ℕ). runEach key c (timerOf c s) n fresh (s .tick) es) e
     ∙ sym (no-call-disturbs-another-at-any-event s keys others t z key h c es ts)
+
+pub a-page-touches-no-half : A-page-touches-no-half
+unfolding stepOf allAfter facchEntries
+a-page-touches-no-half r t s p z =
+    by-test (eqb (refusalOf r (facch t s) .number) 0)
+    (λ q. rw (q, p) (refl, refl, refl))
+    (λ q. absurd (eqb-false (refusalOf r (facch t s) .number) 0 q (rw q at z)))

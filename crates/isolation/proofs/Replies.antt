@@ -28,7 +28,7 @@ use Rattle.receiver.specs.Step.{Event, groundsOf, refusalOf, ruleOf, ours, slot
 use Rattle.isolation.specs.One.{Half, Known, One, Listed, listedIn, accepts, aged, mine, meetOne, heldAfter, saidBy}
 use Rattle.isolation.specs.Calls.{lastTick, eventEntries, channelIn, callAfter, callAt, leftBy, lost, totalOver, subscribed, named, notOurs, setUnder, knownOn, saidUnder, toldTo, laidOut, refusedBy, acceptedBy, groundBy, replyBy}
 use Rattle.isolation.specs.Promises.{Ticks, heldOf, slotIn, replyOf}
-use Rattle.isolation.proofs.Tables.{listed-same}
+use Rattle.isolation.proofs.Tables.{listed-same, paged-same}
 use Rattle.isolation.proofs.Places.{number-lt, timerIn, timer-at}
 use Rattle.receiver.proofs.Halving.{no-later}
 use Rattle.receiver.proofs.Keys.{found, own-index, low-index}
@@ -244,6 +244,7 @@ module _ (s : Setup) (keys sets : List ℕ) (t : s .tick < 4294967296) (z : star
           dropped = drops i;
           count = ap (λ (l : Listed). length (l .entries)) same-list i;
           entries = ap laidOut told-is i;
+          paged = paged-same (e .happening) i;
         }
 
   grounds-same : (e : Event) → refusalOf r e ≡ groundBy s es e

@@ -14,6 +14,7 @@ use Rattle.receiver.specs.Channels.{asks, leads, Channel, onNch, onFacch, onPch
 use Rattle.receiver.specs.Count.{counting, countingOver}
 use Rattle.receiver.specs.Step.{Happening, heardNch, heardFacch, heardPch, joins, moves, bitIs, passes, Cause, nothing, joining, paged, moving, numbered, numbering, Content, contentOf}
 use Rattle.isolation.specs.One.{hasSegments, mayLead, showsNln, showsPages, hears, goneBy, forgottenBy, countForgottenBy, listedIn, Sight, mine, nlnSeen, pageSeen, causeSeen, countSeen, overSeen, newsSeen, sightOf}
+use Rattle.isolation.specs.Calls.{pagedIn}
 use Rattle.receiver.specs.Model.{keyOf}
 
 -- ## The tables
@@ -114,6 +115,16 @@ listed-same (joins k) = refl
 listed-same (moves m) = refl
 listed-same (bitIs b) = refl
 listed-same passes = refl
+
+-- who is paged
+pub paged-same : (h : Happening) → contentOf h .paged ≡ pagedIn h
+paged-same (heardNch s) = refl
+paged-same (heardFacch s) = refl
+paged-same (heardPch ns) = refl
+paged-same (joins k) = refl
+paged-same (moves m) = refl
+paged-same (bitIs b) = refl
+paged-same passes = refl
 
 -- the channel on which they are heard
 pub heard-same : (c : Channel) (h : Happening) → hears c (listedIn h .channel) ≡ same c (contentOf h .channel)

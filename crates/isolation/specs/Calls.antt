@@ -1,6 +1,6 @@
 -- The answer to an event, put together from the receivers of the single calls. Written apart from the receiver, as One is: no place, no sweep and no step of it
--- is used. Beside what One shares with the receiver: the timer of a channel (byChannel), the subscribed keys (firstOf), each with its set of group keys (setAt), and how an answer
--- is laid out (Told, noTold). Assumes nothing.
+-- is used. Beside what One shares with the receiver: the timer of a channel (byChannel), the subscribed keys (firstOf), each with its set of group keys (setAt), how an answer
+-- is laid out (Told, noTold), and who is paged by a message as it is read (pagedOf, noPaged). Assumes nothing.
 use mathlib.Core.List.{List, [], _∷_}
 use mathlib.Core.Bool.{Bool}
 use mathlib.Core.Option.{Option, none, some}
@@ -11,13 +11,16 @@ use Rattle.bits.specs.Field.{pick}
 use Rattle.csn1.specs.declared.Refusal.{Refusal}
 use Rattle.csn1.specs.Format.{noRefusal, ground}
 use Rattle.csn1.specs.Told.{padded}
+use Rattle.facch.specs.Told.{readOf as readFacch}
 use Rattle.receiver.specs.declared.Record.{Record}
+use Rattle.receiver.specs.declared.Paged.{Paged}
 use Rattle.receiver.specs.declared.Told.{Told}
 use Rattle.receiver.specs.declared.Setup.{Setup}
 use Rattle.receiver.specs.Channels.{Channel, everyChannel, byChannel}
 use Rattle.receiver.specs.Halving.{firstOf}
-use Rattle.receiver.specs.Model.{noRecord, keyOf, mapAt}
-use Rattle.receiver.specs.Step.{Event, groundsOf, setAt, noTold}
+use Rattle.receiver.specs.Model.{noRecord, noPaged, keyOf, mapAt}
+use Rattle.receiver.specs.Entries.{pagedOf}
+use Rattle.receiver.specs.Step.{Event, Happening, heardNch, heardFacch, heardPch, joins, moves, bitIs, passes, groundsOf, setAt, noTold}
 use Rattle.isolation.specs.One.{Half, Known, One, Said, mine, listedIn, sightOf, stepBetween, accepts, seen, meetOne, heldAfter, knownThen, saidBy, spared, passed, oneAfter, fresh}
 
 -- T3206 runs on the NCH, T3208 on the FACCH, T3210 on the PCH
@@ -35,6 +38,16 @@ eventEntries e = listedIn (e .happening) .entries
 
 abbrev pub channelIn : Event → Channel
 channelIn e = listedIn (e .happening) .channel
+
+-- who is paged by an event: it goes by the event alone, and only a message of the FACCH pages somebody
+abbrev pub pagedIn : Happening → Paged
+pagedIn (heardNch s) = noPaged
+pagedIn (heardFacch s) = pagedOf (readFacch s .«record»)
+pagedIn (heardPch ns) = noPaged
+pagedIn (joins k) = noPaged
+pagedIn (moves m) = noPaged
+pagedIn (bitIs b) = noPaged
+pagedIn passes = noPaged
 
 -- 1 where a half was held and none is
 abbrev pub lost : Option Half → Option Half → ℕ
@@ -71,6 +84,7 @@ pub record Reply : Type 0 where
   pub dropped : ℕ
   pub count : ℕ
   pub entries : List Told
+  pub paged : Paged
 
 -- an answer has nine places for entries
 abbrev pub laidOut : List Told → List Told
@@ -78,7 +92,7 @@ laidOut l = padded noTold 9 l
 
 -- a refusal alone
 abbrev pub refusedBy : Refusal → Reply
-refusedBy w = record { refusal = w; expired = 0; dropped = 0; count = 0; entries = laidOut [] }
+refusedBy w = record { refusal = w; expired = 0; dropped = 0; count = 0; entries = laidOut []; paged = noPaged }
 
 -- after a setup and events
 module _ (s : Setup) (es : List Event) where
@@ -128,6 +142,7 @@ module _ (s : Setup) (es : List Event) where
             dropped = totalOver (λ key c. lost (callAt key c .held) (leftBy key c)) keys;
             count = length (eventEntries e);
             entries = laidOut (mapAt (λ k x. toldTo (take k (eventEntries e)) x) 0 (eventEntries e));
+            paged = pagedIn (e .happening);
           }
 
       unfoldable pub replyBy : Reply

@@ -24,7 +24,8 @@ use Rattle.receiver.specs.Halving.{firstOf}
 use Rattle.receiver.specs.Model.{noRecord, emptySlot, wrapSub, keyOf, keysOf, indexOf, isHeld, sweptSlots, isCiphered, agree, joinedOf, keep, startedOf}
 use Rattle.receiver.specs.declared.Cell.{Cell}
 use Rattle.receiver.specs.Count.{holds}
-use Rattle.receiver.specs.Step.{Event, Happening, heardNch, heardFacch, heardPch, joins, moves, bitIs, passes, refusalOf, ruleOf, stepOf}
+use Rattle.receiver.specs.Entries.{pagedOf}
+use Rattle.receiver.specs.Step.{Event, Happening, heardNch, heardFacch, heardPch, joins, moves, bitIs, passes, facch, refusalOf, ruleOf, stepOf}
 use Rattle.isolation.specs.One.{kindOn, Which, theFirst, theSecond, Half, One, Said, Seen, seen, sees, sightOf, heldAfter, spared, passed, stepSaid, saying, knownThen, runOne, runEach, oneAfter, fresh, hears}
 use Rattle.isolation.specs.Calls.{timerOf, notOurs, setUnder, lastTick, knownOn, Reply, replyBy, channelIn}
 use Rattle.isolation.specs.History.{Moment, untilEntry, pastOf, Opposite, Came-and-stayed}
@@ -233,7 +234,7 @@ Expiries-and-drops-are-counted-apart =
 -- ## 6. The whole answer, from the one-call receivers alone
 
 abbrev pub replyOf : Answer → Reply
-replyOf a = record { refusal = a .refusal; expired = a .expired; dropped = a .dropped; count = a .count; entries = a .entries }
+replyOf a = record { refusal = a .refusal; expired = a .expired; dropped = a .dropped; count = a .count; entries = a .entries; paged = a .paged }
 
 -- A reply leaves nothing of an answer out but the receiver.
 abbrev pub A-reply-and-a-receiver-are-an-answer : Type 0
@@ -437,3 +438,13 @@ abbrev pub A-set-holds-the-key-numbers-of-its-bits : Type 0
 A-set-holds-the-key-numbers-of-its-bits =
     (group n : ℕ)
     → (holds group n ≡ true → (1 ≤ n) × (n ≤ 15) × (group / 2 ^ n % 2 ≡ 1)) × ((1 ≤ n) × (n ≤ 15) × (group / 2 ^ n % 2 ≡ 1) → holds group n ≡ true)
+
+-- ## 11. A message that pages somebody
+
+-- An accepted one touches no half: each place holds what the clock alone leaves there. No entry is told, and the answer says who is paged.
+abbrev pub A-page-touches-no-half : Type 0
+A-page-touches-no-half =
+    (r : Receiver) (t : ℕ) (s : List ℕ)
+    → readFacch s .«record» .paging ≡ true
+    → stepOf r (facch t s) .refusal .number ≡ 0
+    → (stepOf r (facch t s) .receiver .slots ≡ sweptSlots r t keep) × (stepOf r (facch t s) .count ≡ 0) × (stepOf r (facch t s) .paged ≡ pagedOf (readFacch s .«record»))

@@ -2,18 +2,19 @@
 use mathlib.Core.Path.{_≡_, sym, ap, _∙_}
 use mathlib.Core.Bool.{Bool}
 use mathlib.Core.List.{List, [], _∷_}
-use Prim.Native.Nat.{ℕ, suc, _<_}
+use Prim.Native.Nat.{ℕ, suc, _+_, _<_}
 use native.Mathlib.Omega.{arith}
 use lib.Dec.{lit<}
 use lib.ListN.{length, getD, List·getD-append}
-use lib.Seq.{ext-getD}
+use lib.Seq.{ext-getD, getD-append-add}
 use Rattle.csn1.specs.Told.{isOne, asBit}
 use Rattle.csn1.proofs.Writing.{flag-back}
 use Rattle.receiver.specs.declared.Record.{Record}
 use Rattle.receiver.specs.declared.Told.{Told}
+use Rattle.receiver.specs.declared.Paged.{Paged}
 use Rattle.receiver.specs.Step.{noTold, mostEntries}
 use Rattle.layout.specs.Layout.{Last, lastOf}
-use Rattle.layout.specs.Parts.{recordNumbers, toldNumbers, partCount, partOf}
+use Rattle.layout.specs.Parts.{recordNumbers, toldNumbers, pagedNumbers, partCount, partOf}
 use Rattle.layout.proofs.Numbers.{length-table}
 
 same-flag : (a b : Bool) → asBit a ≡ asBit b → a ≡ b
@@ -79,7 +80,34 @@ same-told a b p = λ i.
       kept = p 33 (lit< tt) i;
     }
 
--- an answer is its three numbers and its entries
+-- who is paged is nine numbers
+same-paged : (a b : Paged) → ((n : ℕ) → n < 9 → getD (pagedNumbers a) n 0 ≡ getD (pagedNumbers b) n 0) → a ≡ b
+same-paged a b p = λ i.
+    record {
+      there = same-flag (a .there) (b .there) (p 0 (lit< tt)) i;
+      page =
+          record {
+            identityLength = p 1 (lit< tt) i;
+            identityFirst = p 2 (lit< tt) i;
+            identityRest = p 3 (lit< tt) i;
+            channelFirst = p 4 (lit< tt) i;
+            hasPriority = same-flag (a .page .hasPriority) (b .page .hasPriority) (p 5 (lit< tt)) i;
+            priority = p 6 (lit< tt) i;
+          };
+      hasCause = same-flag (a .hasCause) (b .hasCause) (p 7 (lit< tt)) i;
+      cause = same-flag (a .cause) (b .cause) (p 8 (lit< tt)) i;
+    }
+
+-- the numbers of an entry, and of who is paged, among the parts
+of-told : (a : Last) (j n : ℕ) → n < 34 → getD (toldNumbers (getD (a .entries) j noTold)) n 0 ≡ partOf a j (suc (suc (suc n)))
+unfolding partOf
+of-told a j n h = sym (List·getD-append (toldNumbers (getD (a .entries) j noTold)) (pagedNumbers (a .paged)) 0 n h)
+
+of-paged : (a : Last) (j n : ℕ) → getD (pagedNumbers (a .paged)) n 0 ≡ partOf a j (37 + n)
+unfolding partOf
+of-paged a j n = sym (getD-append-add (a .expired ∷ a .dropped ∷ a .count ∷ toldNumbers (getD (a .entries) j noTold)) (pagedNumbers (a .paged)) n 0)
+
+-- an answer is its three numbers, its entries and who is paged
 pub same-answer : (a b : Last)
     → length (a .entries) ≡ mostEntries
     → length (b .entries) ≡ mostEntries
@@ -89,9 +117,11 @@ unfolding partOf
 same-answer a b v w p =
     let e : a .entries ≡ b .entries =
     ext-getD noTold (a .entries) (b .entries) (v ∙ sym w)
-    (λ j h. same-told (getD (a .entries) j noTold) (getD (b .entries) j noTold) (λ n k. p j (suc (suc (suc n))) (omega (arith, h, v)) (omega arith)))
+    (λ j h. same-told (getD (a .entries) j noTold) (getD (b .entries) j noTold)
+    (λ n k. of-told a j n k ∙ p j (suc (suc (suc n))) (omega (arith, h, v)) (omega arith) ∙ sym (of-told b j n k)))
     in
-    λ i. record { expired = p 0 0 (lit< tt) (lit< tt) i; dropped = p 0 1 (lit< tt) (lit< tt) i; count = p 0 2 (lit< tt) (lit< tt) i; entries = e i }
+    let q = same-paged (a .paged) (b .paged) (λ n k. of-paged a 0 n ∙ p 0 (37 + n) (lit< tt) (omega arith) ∙ sym (of-paged b 0 n)) in
+    λ i. record { expired = p 0 0 (lit< tt) (lit< tt) i; dropped = p 0 1 (lit< tt) (lit< tt) i; count = p 0 2 (lit< tt) (lit< tt) i; entries = e i; paged = q i }
 
 pub nine-entries : (l : List ℕ) → length (lastOf l .entries) ≡ mostEntries
 unfolding lastOf

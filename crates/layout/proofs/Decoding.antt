@@ -18,13 +18,14 @@ use Rattle.receiver.specs.declared.Receiver.{Receiver}
 use Rattle.receiver.specs.declared.Record.{Record}
 use Rattle.receiver.specs.declared.Slot.{Slot}
 use Rattle.receiver.specs.declared.Told.{Told}
+use Rattle.receiver.specs.declared.Paged.{Paged}
 use Rattle.receiver.specs.Channels.{keyCount, places}
-use Rattle.receiver.specs.Model.{noRecord, emptySlot, remade, withSlots}
+use Rattle.receiver.specs.Model.{noRecord, noPaged, emptySlot, remade, withSlots}
 use Rattle.receiver.specs.Step.{mostEntries, noTold}
 use Rattle.receiver.proofs.Cases.{by-test}
 use Rattle.layout.specs.Octets.{leAt, flagAt, lowOctets, tabulate}
-use Rattle.layout.specs.Layout.{tickFrom, timersFrom, cellFrom, countFrom, keysFrom, setsFrom, kindsFrom, recordSize, answerFrom, toldLength, stateLength, recordAt, entryFlags, messageFlags, smallNumbers, wideOctets, recordOctets, kindPlace, sincePlace, recordPlace, slotNo, keyNo, setNo, cellAt, cellOctets, decodeOf, putSlot, toldPlace, carries, toldNo, lastOf, putNumber, putCarried, putTold, putHead}
-use Rattle.layout.proofs.Numbers.{length-octets, le-ext, le-stored, le-alone, le-before, length-table, getD-table, table-ext, table-set}
+use Rattle.layout.specs.Layout.{tickFrom, timersFrom, cellFrom, countFrom, keysFrom, setsFrom, kindsFrom, recordSize, answerFrom, pagedFrom, toldsFrom, toldLength, stateLength, recordAt, entryFlags, messageFlags, smallNumbers, wideOctets, recordOctets, kindPlace, sincePlace, recordPlace, slotNo, keyNo, setNo, cellAt, cellOctets, decodeOf, putSlot, toldPlace, carries, toldNo, pagedAt, pagedOctets, lastOf, putNumber, putCarried, putTold, putCounts, putHead}
+use Rattle.layout.proofs.Numbers.{length-octets, le-ext, le-stored, le-zero, le-alone, le-before, length-table, getD-table, table-ext, table-set}
 use Rattle.layout.proofs.Wide.{Wide, wide-none}
 
 -- ## A record
@@ -529,74 +530,181 @@ module _ (l : List ℕ) (tick : ℕ) (cell : Cell) (x d n : ℕ) where
   length-celled : length celled ≡ length l
   length-celled = length-stored ticked cellFrom (cellOctets cell) ∙ length-stored l tickFrom (lowOctets 4 tick)
 
-  pub length-head : length (putHead l tick cell x d n) ≡ length l
-  unfolding putHead
-  length-head = length-stored celled answerFrom counts ∙ length-celled
+  length-put-counts : length (putCounts l tick cell x d n) ≡ length l
+  unfolding putCounts
+  length-put-counts = length-stored celled answerFrom counts ∙ length-celled
 
-  pub head-elsewhere : (j : ℕ) → timersFrom ≤ j → (cellFrom ≤ j → countFrom ≤ j) → (answerFrom ≤ j → answerFrom + 12 ≤ j)
-      → getD (putHead l tick cell x d n) j 0 ≡ getD l j 0
-  unfolding putHead
-  head-elsewhere j a p q =
+  counts-elsewhere : (j : ℕ) → timersFrom ≤ j → (cellFrom ≤ j → countFrom ≤ j) → (answerFrom ≤ j → answerFrom + 12 ≤ j)
+      → getD (putCounts l tick cell x d n) j 0 ≡ getD l j 0
+  unfolding putCounts
+  counts-elsewhere j a p q =
       stored-outside celled answerFrom counts 12 j length-counts q
       ∙ stored-outside ticked cellFrom (cellOctets cell) (length (cellOctets cell)) j refl (λ y. omega (arith, p y, cell-fits cell))
       ∙ stored-after l tickFrom (lowOctets 4 tick) j (rw (length-octets 4 tick) a)
 
-  told-head : (j : ℕ) → toldNo (putHead l tick cell x d n) j ≡ toldNo l j
-  told-head j = told-like l (putHead l tick cell x d n) j (λ k a b. head-elsewhere k (omega arith) (λ q. omega arith) (λ q. omega arith))
+  told-counts : (j : ℕ) → toldNo (putCounts l tick cell x d n) j ≡ toldNo l j
+  told-counts j = told-like l (putCounts l tick cell x d n) j (λ k a b. counts-elsewhere k (omega arith) (λ q. omega arith) (λ q. omega arith))
 
-  head-tick : length l ≡ stateLength → tick < 4294967296 → leAt 4 (putHead l tick cell x d n) tickFrom ≡ tick
-  unfolding putHead
-  head-tick m lt =
+  counts-tick : length l ≡ stateLength → tick < 4294967296 → leAt 4 (putCounts l tick cell x d n) tickFrom ≡ tick
+  unfolding putCounts
+  counts-tick m lt =
       le-before 4 celled answerFrom counts tickFrom (omega arith)
       ∙ le-before 4 ticked cellFrom (cellOctets cell) tickFrom (omega arith)
       ∙ le-alone 4 tick l tickFrom (omega arith) lt
 
-  head-cell : length l ≡ stateLength → cellAt (putHead l tick cell x d n) ≡ cell
-  unfolding putHead
-  head-cell m =
+  counts-cell : length l ≡ stateLength → cellAt (putCounts l tick cell x d n) ≡ cell
+  unfolding putCounts
+  counts-cell m =
       cell-same celled (stored celled answerFrom counts) (λ j a b. stored-before celled answerFrom counts j (omega arith))
       ∙ cell-back ticked cell (rw (length-stored l tickFrom (lowOctets 4 tick)) (omega arith))
 
-  pub decode-head : length l ≡ stateLength → tick < 4294967296 → decodeOf (putHead l tick cell x d n) ≡ remade (decodeOf l) (decodeOf l .slots) tick cell
+  decode-counts : length l ≡ stateLength → tick < 4294967296 → decodeOf (putCounts l tick cell x d n) ≡ remade (decodeOf l) (decodeOf l .slots) tick cell
   unfolding decodeOf
-  decode-head m lt =
-      let k = putHead l tick cell x d n in
+  decode-counts m lt =
+      let k = putCounts l tick cell x d n in
       let timer : (at : ℕ) → timersFrom ≤ at → at + 4 ≤ cellFrom → leAt 4 k at ≡ leAt 4 l at =
-      λ at a b. le-ext 4 k l at at (λ i c. head-elsewhere (at + i) (omega arith) (λ q. omega arith) (λ q. omega arith))
+      λ at a b. le-ext 4 k l at at (λ i c. counts-elsewhere (at + i) (omega arith) (λ q. omega arith) (λ q. omega arith))
       in
       same-receiver (decodeOf k) (remade (decodeOf l) (decodeOf l .slots) tick cell)
-      (slots-same l k (λ j a b. head-elsewhere j (omega arith) (λ q. omega arith) (λ q. omega arith)))
-      (numbers-same keysFrom l k (λ j a b. head-elsewhere j (omega arith) (λ q. omega arith) (λ q. omega arith)))
-      (numbers-same setsFrom l k (λ j a b. head-elsewhere j (omega arith) (λ q. omega arith) (λ q. omega arith)))
-      (head-elsewhere countFrom (omega arith) (λ q. omega arith) (λ q. omega arith))
-      (head-tick m lt) (timer timersFrom (omega arith) (omega arith)) (timer (timersFrom + 4) (omega arith) (omega arith)) (timer (timersFrom + 8) (omega arith) (omega arith))
-      (head-cell m)
+      (slots-same l k (λ j a b. counts-elsewhere j (omega arith) (λ q. omega arith) (λ q. omega arith)))
+      (numbers-same keysFrom l k (λ j a b. counts-elsewhere j (omega arith) (λ q. omega arith) (λ q. omega arith)))
+      (numbers-same setsFrom l k (λ j a b. counts-elsewhere j (omega arith) (λ q. omega arith) (λ q. omega arith)))
+      (counts-elsewhere countFrom (omega arith) (λ q. omega arith) (λ q. omega arith))
+      (counts-tick m lt) (timer timersFrom (omega arith) (omega arith)) (timer (timersFrom + 4) (omega arith) (omega arith)) (timer (timersFrom + 8) (omega arith) (omega arith))
+      (counts-cell m)
 
-  head-expired : length l ≡ stateLength → x < 4294967296 → leAt 4 (putHead l tick cell x d n) answerFrom ≡ x
-  unfolding putHead
-  head-expired m lt =
+  counts-expired : length l ≡ stateLength → x < 4294967296 → leAt 4 (putCounts l tick cell x d n) answerFrom ≡ x
+  unfolding putCounts
+  counts-expired m lt =
       field counts celled answerFrom 4 x [] (lowOctets 4 d ++ lowOctets 4 n) 0 8 refl refl (simp (length-append, length-octets)) (omega (arith, length-celled)) lt
 
-  head-dropped : length l ≡ stateLength → d < 4294967296 → leAt 4 (putHead l tick cell x d n) (answerFrom + 4) ≡ d
-  unfolding putHead
-  head-dropped m lt =
+  counts-dropped : length l ≡ stateLength → d < 4294967296 → leAt 4 (putCounts l tick cell x d n) (answerFrom + 4) ≡ d
+  unfolding putCounts
+  counts-dropped m lt =
       field counts celled answerFrom 4 d (lowOctets 4 x) (lowOctets 4 n) 4 4 (simp append-assoc) (length-octets 4 x) (length-octets 4 n)
       (omega (arith, length-celled)) lt
 
-  head-count : length l ≡ stateLength → n < 4294967296 → leAt 4 (putHead l tick cell x d n) (answerFrom + 8) ≡ n
-  unfolding putHead
-  head-count m lt =
+  counts-count : length l ≡ stateLength → n < 4294967296 → leAt 4 (putCounts l tick cell x d n) (answerFrom + 8) ≡ n
+  unfolding putCounts
+  counts-count m lt =
       field counts celled answerFrom 4 n (lowOctets 4 x ++ lowOctets 4 d) [] 8 0 (simp (append-assoc, append-nil)) (simp (length-append, length-octets)) refl
       (omega (arith, length-celled)) lt
 
-  pub last-head : length l ≡ stateLength → x < 4294967296 → d < 4294967296 → n < 4294967296
-      → lastOf (putHead l tick cell x d n)
-      ≡ record { expired = x; dropped = d; count = n; entries = tabulate (λ j. pick (ltb j n) (toldNo l j) noTold) 0 mostEntries }
+-- ## Who is paged
+
+module _ (l : List ℕ) (p : Paged) where
+  abbrev paged : List ℕ
+  paged = stored l pagedFrom (pagedOctets p)
+
+  length-paged : length (pagedOctets p) ≡ 16
+  unfolding pagedOctets lowOctets
+  length-paged = refl
+
+  page-octet : (k v : ℕ) → k < 16 → length l ≡ stateLength → getD (pagedOctets p) k 0 ≡ v → getD paged (pagedFrom + k) 0 ≡ v
+  page-octet k v h m e = stored-in l pagedFrom (pagedOctets p) k (rw (length-paged, m) (omega arith)) (rw length-paged h) ∙ e
+
+  page-flag : (k : ℕ) (b : Bool) → k < 16 → length l ≡ stateLength → getD (pagedOctets p) k 0 ≡ asBit b → flagAt paged (pagedFrom + k) ≡ b
+  page-flag k b h m e = ap (λ (x : ℕ). not (eqb x 0)) (page-octet k (asBit b) h m e) ∙ flag-back b
+
+  abbrev eight : List ℕ
+  eight =
+      asBit (p .there) ∷ p .page .identityLength ∷ p .page .identityFirst ∷ p .page .channelFirst ∷ asBit (p .page .hasPriority) ∷ p .page .priority
+      ∷ asBit (p .hasCause) ∷ asBit (p .cause) ∷ []
+
+  page-rest : length l ≡ stateLength → p .page .identityRest < 18446744073709551616 → leAt 8 paged (pagedFrom + 8) ≡ p .page .identityRest
+  unfolding pagedOctets
+  page-rest m lt = field (pagedOctets p) l pagedFrom 8 (p .page .identityRest) eight [] 8 0 (simp (append-assoc, append-nil)) refl refl (omega arith) lt
+
+  -- it reads back
+  paged-back : length l ≡ stateLength → p .page .identityRest < 18446744073709551616 → pagedAt paged ≡ p
+  unfolding pagedAt pagedOctets
+  paged-back m lt = λ i.
+      record {
+        there = page-flag 0 (p .there) (lit< tt) m refl i;
+        page =
+            record {
+              identityLength = page-octet 1 (p .page .identityLength) (lit< tt) m refl i;
+              identityFirst = page-octet 2 (p .page .identityFirst) (lit< tt) m refl i;
+              identityRest = page-rest m lt i;
+              channelFirst = page-octet 3 (p .page .channelFirst) (lit< tt) m refl i;
+              hasPriority = page-flag 4 (p .page .hasPriority) (lit< tt) m refl i;
+              priority = page-octet 5 (p .page .priority) (lit< tt) m refl i;
+            };
+        hasCause = page-flag 6 (p .hasCause) (lit< tt) m refl i;
+        cause = page-flag 7 (p .cause) (lit< tt) m refl i;
+      }
+
+-- octets that are all 0 page nobody
+pub paged-none : (l : List ℕ) → ((k : ℕ) → k < 16 → getD l (pagedFrom + k) 0 ≡ 0) → pagedAt l ≡ noPaged
+unfolding pagedAt
+paged-none l e =
+    let f : (k : ℕ) → k < 16 → flagAt l (pagedFrom + k) ≡ false = λ k h. ap (λ (x : ℕ). not (eqb x 0)) (e k h) in
+    let r : leAt 8 l (pagedFrom + 8) ≡ 0 =
+    le-zero 8 l (pagedFrom + 8) (λ n h. let q : pagedFrom + 8 + n ≡ pagedFrom + (8 + n) = omega arith in ap (λ (k : ℕ). getD l k 0) q ∙ e (8 + n) (omega arith))
+    in
+    λ i.
+    record {
+      there = f 0 (lit< tt) i;
+      page =
+          record {
+            identityLength = e 1 (lit< tt) i;
+            identityFirst = e 2 (lit< tt) i;
+            identityRest = r i;
+            channelFirst = e 3 (lit< tt) i;
+            hasPriority = f 4 (lit< tt) i;
+            priority = e 5 (lit< tt) i;
+          };
+      hasCause = f 6 (lit< tt) i;
+      cause = f 7 (lit< tt) i;
+    }
+
+-- ## The head of the answer: those numbers, and who is paged
+
+module _ (l : List ℕ) (tick : ℕ) (cell : Cell) (x d n : ℕ) (p : Paged) where
+  abbrev counted : List ℕ
+  counted = putCounts l tick cell x d n
+
+  pub length-head : length (putHead l tick cell x d n p) ≡ length l
+  unfolding putHead
+  length-head = length-stored counted pagedFrom (pagedOctets p) ∙ length-put-counts l tick cell x d n
+
+  -- before who is paged, and behind it
+  head-before : (j : ℕ) → j < pagedFrom → getD (putHead l tick cell x d n p) j 0 ≡ getD counted j 0
+  unfolding putHead
+  head-before j h = stored-before counted pagedFrom (pagedOctets p) j h
+
+  head-behind : (j : ℕ) → toldsFrom ≤ j → getD (putHead l tick cell x d n p) j 0 ≡ getD counted j 0
+  unfolding putHead
+  head-behind j h = stored-after counted pagedFrom (pagedOctets p) j (rw (length-paged l p) h)
+
+  pub head-elsewhere : (j : ℕ) → timersFrom ≤ j → (cellFrom ≤ j → countFrom ≤ j) → j < answerFrom → getD (putHead l tick cell x d n p) j 0 ≡ getD l j 0
+  head-elsewhere j a q h = head-before j (omega arith) ∙ counts-elsewhere l tick cell x d n j a q (λ y. omega arith)
+
+  pub decode-head : length l ≡ stateLength → tick < 4294967296 → decodeOf (putHead l tick cell x d n p) ≡ remade (decodeOf l) (decodeOf l .slots) tick cell
+  decode-head m lt = decode-same counted (putHead l tick cell x d n p) (λ j h. head-before j (omega arith)) ∙ decode-counts l tick cell x d n m lt
+
+  head-told : (j : ℕ) → toldNo (putHead l tick cell x d n p) j ≡ toldNo l j
+  head-told j = told-like counted (putHead l tick cell x d n p) j (λ k a b. head-behind k (omega arith)) ∙ told-counts l tick cell x d n j
+
+  head-number : (at : ℕ) → at + 4 ≤ pagedFrom → leAt 4 (putHead l tick cell x d n p) at ≡ leAt 4 counted at
+  unfolding putHead
+  head-number at h = le-before 4 counted pagedFrom (pagedOctets p) at h
+
+  head-paged : length l ≡ stateLength → p .page .identityRest < 18446744073709551616 → pagedAt (putHead l tick cell x d n p) ≡ p
+  unfolding putHead
+  head-paged m lt = paged-back counted p (length-put-counts l tick cell x d n ∙ m) lt
+
+  pub last-head : length l ≡ stateLength → x < 4294967296 → d < 4294967296 → n < 4294967296 → p .page .identityRest < 18446744073709551616
+      → lastOf (putHead l tick cell x d n p)
+      ≡ record { expired = x; dropped = d; count = n; entries = tabulate (λ j. pick (ltb j n) (toldNo l j) noTold) 0 mostEntries; paged = p }
   unfolding lastOf
-  last-head m a b c =
-      let s : lastOf (putHead l tick cell x d n) .entries ≡ tabulate (λ j. pick (ltb j n) (toldNo l j) noTold) 0 mostEntries =
-      table-ext (λ j. pick (ltb j (leAt 4 (putHead l tick cell x d n) (answerFrom + 8))) (toldNo (putHead l tick cell x d n) j) noTold)
-      (λ j. pick (ltb j n) (toldNo l j) noTold) 0 mostEntries
-      (λ j p q. ap₂ (λ (y : ℕ) (z : Told). pick (ltb j y) z noTold) (head-count m c) (told-head j))
+  last-head m a b c w =
+      let h : List ℕ = putHead l tick cell x d n p in
+      let k : leAt 4 h (answerFrom + 8) ≡ n = head-number (answerFrom + 8) (omega arith) ∙ counts-count l tick cell x d n m c in
+      let s : lastOf h .entries ≡ tabulate (λ j. pick (ltb j n) (toldNo l j) noTold) 0 mostEntries =
+      table-ext (λ j. pick (ltb j (leAt 4 h (answerFrom + 8))) (toldNo h j) noTold) (λ j. pick (ltb j n) (toldNo l j) noTold) 0 mostEntries
+      (λ j y z. ap₂ (λ (u : ℕ) (v : Told). pick (ltb j u) v noTold) k (head-told j))
       in
-      λ i. record { expired = head-expired m a i; dropped = head-dropped m b i; count = head-count m c i; entries = s i }
+      let e = head-number answerFrom (omega arith) ∙ counts-expired l tick cell x d n m a in
+      let o = head-number (answerFrom + 4) (omega arith) ∙ counts-dropped l tick cell x d n m b in
+      λ i. record { expired = e i; dropped = o i; count = k i; entries = s i; paged = head-paged m w i }

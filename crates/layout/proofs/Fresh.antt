@@ -18,10 +18,10 @@ use Rattle.csn1.specs.Told.{padded}
 use Rattle.receiver.specs.Model.{emptySlot, noCell, noKey, newReceiver, keyPlaces, setPlaces}
 use Rattle.receiver.specs.Step.{mostEntries, noTold}
 use Rattle.layout.specs.Octets.{leAt, lowOctets, tabulate}
-use Rattle.layout.specs.Layout.{tickFrom, cellFrom, countFrom, markFrom, keysFrom, setsFrom, kindsFrom, answerFrom, stateLength, markOctets, isMarked, kindPlace, slotNo, keyNo, setNo, cellAt, cellOctets, decodeOf, toldNo, lastOf, keysOctets, freshOctets}
+use Rattle.layout.specs.Layout.{tickFrom, cellFrom, countFrom, markFrom, keysFrom, setsFrom, kindsFrom, answerFrom, pagedFrom, stateLength, markOctets, isMarked, kindPlace, slotNo, keyNo, setNo, cellAt, cellOctets, decodeOf, toldNo, lastOf, keysOctets, freshOctets}
 use Rattle.layout.specs.Setup.{noAnswer}
 use Rattle.layout.proofs.Numbers.{length-octets, le-ext, le-zero, le-alone, le-before, le-set, table-ext, table-same, table-list}
-use Rattle.layout.proofs.Decoding.{field, numbers-same, cell-same, same-receiver, slot-empty, cell-fits, cell-back}
+use Rattle.layout.proofs.Decoding.{field, numbers-same, cell-same, same-receiver, slot-empty, cell-fits, cell-back, paged-none}
 
 -- ## The keys
 
@@ -155,7 +155,8 @@ module _ (z : List ℕ) (s : Setup) (keys sets : List ℕ) where
         table-ext (λ j. pick (ltb j (leAt 4 fresh (answerFrom + 8))) (toldNo fresh j) noTold) (λ j. noTold) 0 mostEntries
         (λ j a b. ap (λ (x : ℕ). pick (ltb j x) (toldNo fresh j) noTold) (n (answerFrom + 8) (omega arith)) ∙ rw (le-ltb j 0 (omega arith)) refl)
         in
-        λ i. record { expired = n answerFrom (omega arith) i; dropped = n (answerFrom + 4) (omega arith) i; count = n (answerFrom + 8) (omega arith) i; entries = e i }
+        let q = paged-none fresh (λ k h. behind (pagedFrom + k) (omega arith)) in
+        λ i. record { expired = n answerFrom (omega arith) i; dropped = n (answerFrom + 4) (omega arith) i; count = n (answerFrom + 8) (omega arith) i; entries = e i; paged = q i }
 
     module _ (m : length z ≡ stateLength) (b : (j : ℕ) → getD keys j 0 < 4294967296) (g : (j : ℕ) → getD sets j 0 < 4294967296) where
       time-on : (x : ℕ) (p q : List ℕ) (k n : ℕ) → times ≡ p ++ lowOctets 4 x ++ q → length p ≡ k → length q ≡ n → k + 4 + n ≡ cellFrom → x < 4294967296

@@ -6,19 +6,20 @@ use Prim.Native.Nat.{ℕ, zero, suc, _+_, _-_, _*_, _≤_, _<_}
 use native.Mathlib.Nat.{add-assoc}
 use native.Mathlib.Omega.{arith}
 use lib.Dec.{ltb}
-use lib.ListN.{length, getD, replicate, List·getD-append}
+use lib.ListN.{length, getD, replicate, List·getD-append, List·getD-eq-default}
 use lib.Seq.{getD-append-add}
 use borrow.Author.Tests.{lt-ltb, le-ltb, le-leb, lt-leb, ltb-true, ltb-false, eqb-true}
 use Rattle.bits.specs.Field.{pick}
 use Rattle.csn1.specs.Told.{asBit}
 use Rattle.receiver.specs.declared.Record.{Record}
 use Rattle.receiver.specs.declared.Told.{Told}
+use Rattle.receiver.specs.declared.Paged.{Paged}
 use Rattle.receiver.specs.Model.{noRecord}
 use Rattle.receiver.specs.Step.{mostEntries, noTold}
 use Rattle.receiver.proofs.Cases.{by-test}
 use Rattle.layout.specs.Octets.{leAt, octetAt, flagAt, tabulate}
 use Rattle.layout.specs.Layout.{answerFrom, stateLength, isState, recordAt, toldPlace, carries, toldNo, lastOf}
-use Rattle.layout.specs.Parts.{recordNumbers, toldNumbers, partOf}
+use Rattle.layout.specs.Parts.{recordNumbers, toldNumbers, pagedNumbers, partOf}
 use Rattle.layout.proofs.Numbers.{getD-table}
 
 -- ## A record
@@ -154,6 +155,10 @@ module _ (l : List ℕ) (entry : ℕ) where
 
 -- ## The answer
 
+-- nine numbers say who is paged
+pub paged-beyond : (p : Paged) (part : ℕ) → 9 ≤ part → 0 ≡ getD (pagedNumbers p) part 0
+paged-beyond p part h = sym (List·getD-eq-default (pagedNumbers p) 0 h)
+
 table-get : {A : Type 0} (f : ℕ → A) (n i : ℕ) (d : A) → i < n → getD (tabulate f 0 n) i d ≡ f i
 table-get f n i d h = let z : 0 + i ≡ i = omega arith in getD-table f 0 n i d h ∙ ap f z
 
@@ -178,27 +183,36 @@ module _ (l : List ℕ) (entry : ℕ) where
   unfolding lastOf
   entry-told b u = table-get _ mostEntries entry noTold b ∙ rw (lt-ltb entry (leAt 4 l (answerFrom + 8)) u)
 
-  last-none : (part : ℕ) → 3 ≤ part → getD (lastOf l .entries) entry noTold ≡ noTold → 0 ≡ partOf (lastOf l) entry part
+  -- the numbers of an entry, among the parts
+  last-entry : (part : ℕ) → 3 ≤ part → part < 37 → (t : Told) → getD (lastOf l .entries) entry noTold ≡ t → getD (toldNumbers t) (part - 3) 0 ≡ partOf (lastOf l) entry part
   unfolding partOf
-  last-none zero h q = absurd (omega (arith, h))
-  last-none (suc zero) h q = absurd (omega (arith, h))
-  last-none (suc (suc zero)) h q = absurd (omega (arith, h))
-  last-none (suc (suc (suc n))) h q = zeros 34 n ∙ ap (λ (t : Told). getD (toldNumbers t) n 0) (sym q)
+  last-entry part h k t q =
+      let e : part ≡ suc (suc (suc (part - 3))) = omega arith in
+      ap (λ (x : Told). getD (toldNumbers x) (part - 3) 0) (sym q)
+      ∙ sym (List·getD-append (toldNumbers (getD (lastOf l .entries) entry noTold)) (pagedNumbers (lastOf l .paged)) 0 (part - 3) (omega arith))
+      ∙ ap (λ (m : ℕ). partOf (lastOf l) entry m) (sym e)
 
-  pub last-beyond : (part : ℕ) → 3 ≤ part → mostEntries ≤ entry → 0 ≡ partOf (lastOf l) entry part
-  last-beyond part h b = last-none part h (entry-beyond b)
+  last-none : (part : ℕ) → 3 ≤ part → part < 37 → getD (lastOf l .entries) entry noTold ≡ noTold → 0 ≡ partOf (lastOf l) entry part
+  last-none part h k q = zeros 34 (part - 3) ∙ last-entry part h k noTold q
 
-  pub last-unused : (part : ℕ) → 3 ≤ part → entry < mostEntries → leAt 4 l (answerFrom + 8) ≤ entry → 0 ≡ partOf (lastOf l) entry part
-  last-unused part h b u = last-none part h (entry-unused b u)
+  pub last-beyond : (part : ℕ) → 3 ≤ part → part < 37 → mostEntries ≤ entry → 0 ≡ partOf (lastOf l) entry part
+  last-beyond part h k b = last-none part h k (entry-beyond b)
 
-  pub last-told : (part : ℕ) → 3 ≤ part → entry < mostEntries → entry < leAt 4 l (answerFrom + 8) → getD (toldNumbers (toldNo l entry)) (part - 3) 0 ≡ partOf (lastOf l) entry part
+  pub last-unused : (part : ℕ) → 3 ≤ part → part < 37 → entry < mostEntries → leAt 4 l (answerFrom + 8) ≤ entry → 0 ≡ partOf (lastOf l) entry part
+  last-unused part h k b u = last-none part h k (entry-unused b u)
+
+  pub last-told : (part : ℕ) → 3 ≤ part → part < 37 → entry < mostEntries → entry < leAt 4 l (answerFrom + 8)
+      → getD (toldNumbers (toldNo l entry)) (part - 3) 0 ≡ partOf (lastOf l) entry part
+  last-told part h k b u = last-entry part h k (toldNo l entry) (entry-told b u)
+
+  -- and those of who is paged
+  pub last-paged : (part : ℕ) → 37 ≤ part → getD (pagedNumbers (lastOf l .paged)) (part - 37) 0 ≡ partOf (lastOf l) entry part
   unfolding partOf
-  last-told zero h b u = absurd (omega (arith, h))
-  last-told (suc zero) h b u = absurd (omega (arith, h))
-  last-told (suc (suc zero)) h b u = absurd (omega (arith, h))
-  last-told (suc (suc (suc n))) h b u =
-      let e : suc (suc (suc n)) - 3 ≡ n = omega arith in
-      ap (λ (m : ℕ). getD (toldNumbers (toldNo l entry)) m 0) e ∙ ap (λ (t : Told). getD (toldNumbers t) n 0) (sym (entry-told b u))
+  last-paged part h =
+      let a = lastOf l in
+      let e : 37 + (part - 37) ≡ part = omega arith in
+      sym (getD-append-add (a .expired ∷ a .dropped ∷ a .count ∷ toldNumbers (getD (a .entries) entry noTold)) (pagedNumbers (a .paged)) (part - 37) 0)
+      ∙ ap (λ (m : ℕ). partOf a entry m) e
 
   -- its record: only 1 to 3 carry one
   record-by : (t : Told) → getD (lastOf l .entries) entry noTold ≡ t → (n : ℕ) → n ≡ partOf (lastOf l) entry 4 → n ≡ t .number

@@ -13,6 +13,7 @@ use Rattle.receiver.specs.declared.Receiver.{Receiver}
 use Rattle.receiver.specs.declared.Cell.{Cell}
 use Rattle.receiver.specs.declared.Setup.{Setup}
 use Rattle.receiver.specs.declared.Told.{Told}
+use Rattle.receiver.specs.declared.Paged.{Paged}
 use Rattle.receiver.specs.Channels.{channels, keyCount, places}
 use Rattle.receiver.specs.Model.{noRecord, emptySlot, noCell, keysOf, keyPlaces, setPlaces}
 use Rattle.receiver.specs.Step.{noTold, mostEntries}
@@ -57,12 +58,18 @@ recordsFrom = sincesFrom + 4 * places
 abbrev pub recordSize : ℕ
 recordSize = 56
 
--- expiries, drops and the number of entries, four octets each, and four that are not used; then the entries
+-- expiries, drops and the number of entries, four octets each, and four that are not used; then who is paged; then the entries
 abbrev pub answerFrom : ℕ
 answerFrom = recordsFrom + recordSize * places
 
+abbrev pub pagedFrom : ℕ
+pagedFrom = answerFrom + 16
+
+abbrev pub pagedSize : ℕ
+pagedSize = 16
+
 abbrev pub toldsFrom : ℕ
-toldsFrom = answerFrom + 16
+toldsFrom = pagedFrom + pagedSize
 
 -- a key of eight octets, the number told, whether it can be followed, the kept count, five that are not used, a record
 abbrev pub toldLength : ℕ
@@ -79,7 +86,7 @@ isState l = eqb (length l) stateLength
 
 -- a layout of other octets has another number
 abbrev pub layoutNumber : ℕ
-layoutNumber = 3
+layoutNumber = 4
 
 -- the letters AHK, then the layout's number
 abbrev pub markOctets : List ℕ
@@ -239,12 +246,36 @@ toldNo l j =
       kept = octetAt l (toldPlace j + 10);
     }
 
+-- who is paged: eight octets, then the identity octets behind the first as one number
+unfoldable pub pagedAt : List ℕ → Paged
+pagedAt l =
+    record {
+      there = flagAt l pagedFrom;
+      page =
+          record {
+            identityLength = octetAt l (pagedFrom + 1);
+            identityFirst = octetAt l (pagedFrom + 2);
+            identityRest = leAt 8 l (pagedFrom + 8);
+            channelFirst = octetAt l (pagedFrom + 3);
+            hasPriority = flagAt l (pagedFrom + 4);
+            priority = octetAt l (pagedFrom + 5);
+          };
+      hasCause = flagAt l (pagedFrom + 6);
+      cause = flagAt l (pagedFrom + 7);
+    }
+
+unfoldable pub pagedOctets : Paged → List ℕ
+pagedOctets p =
+    asBit (p .there) ∷ p .page .identityLength ∷ p .page .identityFirst ∷ p .page .channelFirst ∷ asBit (p .page .hasPriority) ∷ p .page .priority
+    ∷ asBit (p .hasCause) ∷ asBit (p .cause) ∷ lowOctets 8 (p .page .identityRest)
+
 -- the answer to the last accepted event
 pub record Last : Type 0 where
   pub expired : ℕ
   pub dropped : ℕ
   pub count : ℕ
   pub entries : List Told
+  pub paged : Paged
 
 unfoldable pub lastOf : List ℕ → Last
 lastOf l =
@@ -253,6 +284,7 @@ lastOf l =
       dropped = leAt 4 l (answerFrom + 4);
       count = leAt 4 l (answerFrom + 8);
       entries = tabulate (λ j. pick (ltb j (leAt 4 l (answerFrom + 8))) (toldNo l j) noTold) 0 mostEntries;
+      paged = pagedAt l;
     }
 
 -- an entry that carries no record, and one that does
@@ -266,9 +298,13 @@ unfoldable pub putTold : List ℕ → ℕ → Told → List ℕ
 putTold l j t = pick (carries (t .number)) (putCarried l j t) (putNumber l j t)
 
 -- the tick, what is known of the cell, and the answer's three numbers
-unfoldable pub putHead : List ℕ → ℕ → Cell → ℕ → ℕ → ℕ → List ℕ
-putHead l tick cell expired dropped count =
+unfoldable pub putCounts : List ℕ → ℕ → Cell → ℕ → ℕ → ℕ → List ℕ
+putCounts l tick cell expired dropped count =
     stored (stored (stored l tickFrom (lowOctets 4 tick)) cellFrom (cellOctets cell)) answerFrom (lowOctets 4 expired ++ (lowOctets 4 dropped ++ lowOctets 4 count))
+
+-- and who is paged
+unfoldable pub putHead : List ℕ → ℕ → Cell → ℕ → ℕ → ℕ → Paged → List ℕ
+putHead l tick cell expired dropped count p = stored (putCounts l tick cell expired dropped count) pagedFrom (pagedOctets p)
 
 -- ## Setup: every octet is written
 

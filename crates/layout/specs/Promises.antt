@@ -37,7 +37,7 @@ An-accepted-setup-is-marked = (l : List ℕ) (s : Setup) (keys groups left : Lis
 -- ## 2. Reading an answer
 
 -- `asternhaken_read` gives `partOf (lastOf l) entry part` of a state. Where every part of every entry reads the same on two states, they hold the same answer: its counts,
--- and each entry with its key, its number, its whole record and whether it can be followed. What stands behind the count, or as the record of an entry told 0 or 4 to 8, is of no answer (`lastOf`).
+-- and each entry with its key, its number, its whole record and whether it can be followed, and who is paged. What stands behind the count, or as the record of an entry told 0 or 4 to 8, is of no answer (`lastOf`).
 abbrev pub All-parts-are-the-answer : Type 0
 All-parts-are-the-answer =
     (l l′ : List ℕ)

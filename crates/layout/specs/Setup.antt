@@ -5,7 +5,7 @@ use Prim.Native.Nat.{ℕ}
 use lib.Dec.{eqb}
 use Rattle.bits.specs.Field.{pick}
 use Rattle.receiver.specs.declared.Setup.{Setup}
-use Rattle.receiver.specs.Model.{startedOf}
+use Rattle.receiver.specs.Model.{noPaged, startedOf}
 use Rattle.receiver.specs.Step.{noTold, mostEntries}
 use Rattle.layout.specs.Octets.{tabulate}
 use Rattle.layout.specs.Layout.{isState, decodeOf, Last, lastOf, freshOctets}
@@ -18,7 +18,7 @@ unfoldable pub setupOctets : List ℕ → Setup → List ℕ → List ℕ → Li
 setupOctets l s keys groups = pick (eqb (setupCode l s keys groups) 0) (freshOctets s keys groups) l
 
 abbrev pub noAnswer : Last
-noAnswer = record { expired = 0; dropped = 0; count = 0; entries = tabulate (λ j. noTold) 0 mostEntries }
+noAnswer = record { expired = 0; dropped = 0; count = 0; entries = tabulate (λ j. noTold) 0 mostEntries; paged = noPaged }
 
 -- a setup's number and the octets at exit, and what they are read as where it was accepted
 pub record SetUp (l : List ℕ) (s : Setup) (keys groups left : List ℕ) (code : ℕ) : Type 0 where

@@ -1,19 +1,22 @@
-// The clock, what is known of the cell, and the answer to the last accepted event: its three numbers and its entries.
+// The clock, what is known of the cell, and the answer to the last accepted event: its three numbers, who is paged, and its entries.
 ghost use mathlib.Core.Path.{_≡_};
 ghost use Rattle.bits.specs.Field.{pick};
-ghost use Rattle.receiver.specs.Model.{noRecord, noCell};
+ghost use Rattle.receiver.specs.Model.{noRecord, noPaged, noCell};
+ghost use Rattle.arrays.specs.Runs.{stored};
 ghost use Rattle.layout.specs.Octets.{leAt};
 ghost use Prim.Native.Nat.{_<_};
 ghost use lib.ListN.{length};
 ghost use Rattle.receiver.specs.Step.{mostEntries, toldOnly};
-ghost use Rattle.layout.specs.Layout.{tickFrom, stateLength, isState, isEntry, cellAt, putNumber, putCarried, putHead};
+ghost use Rattle.layout.specs.Layout.{tickFrom, stateLength, isState, isEntry, cellAt, putNumber, putCarried, pagedFrom, pagedOctets, putCounts, putHead};
 use crate::ANSWER;
 use crate::CELL;
 use crate::LENGTH;
+use crate::PAGED;
 use crate::TICK;
 use crate::TOLD_LENGTH;
 use crate::TOLDS;
 use crate::octets::put_three;
+use crate::octets::put_two;
 use crate::octets::put_u32;
 use crate::octets::put_u64;
 use crate::octets::u32_at;
@@ -23,6 +26,7 @@ use receiver::MOST_ENTRIES;
 use receiver::NO_BIT;
 use receiver::NO_COUNT;
 use receiver::NO_NLN;
+use receiver::Paged;
 use receiver::Record;
 
 // The tick of the last accepted event.
@@ -91,8 +95,8 @@ pub fn put_told(b: &mut [u8], j: usize, key: u64, number: u8, follow: u8, kept: 
 }
 
 // The new tick, what is known of the cell then, and the answer's three numbers.
-pub fn put_head(b: &mut [u8], tick: u32, cell: Cell, expired: u32, dropped: u32, count: u32)
-    ensures { λ _. ⌜ now (b .exit) ≡ pick (isState (now (b .entry))) (putHead (now (b .entry)) tick cell expired dropped count) (now (b .entry)) ⌝ }
+fn put_counts(b: &mut [u8], tick: u32, cell: Cell, expired: u32, dropped: u32, count: u32)
+    ensures { λ _. ⌜ now (b .exit) ≡ pick (isState (now (b .entry))) (putCounts (now (b .entry)) tick cell expired dropped count) (now (b .entry)) ⌝ }
 {
     if b.len() != LENGTH {
         return;
@@ -102,4 +106,51 @@ pub fn put_head(b: &mut [u8], tick: u32, cell: Cell, expired: u32, dropped: u32,
     put_u32(b, ANSWER, expired);
     put_u32(b, ANSWER + 4, dropped);
     put_u32(b, ANSWER + 8, count);
+}
+
+// The head of an answer that pages nobody: beside those numbers two stores of zeros.
+pub fn put_head(b: &mut [u8], tick: u32, cell: Cell, expired: u32, dropped: u32, count: u32)
+    ensures { λ _. ⌜ now (b .exit) ≡ pick (isState (now (b .entry))) (putHead (now (b .entry)) tick cell expired dropped count noPaged) (now (b .entry)) ⌝ }
+{
+    if b.len() != LENGTH {
+        return;
+    }
+    put_counts(b, tick, cell, expired, dropped, count);
+    put_u64(b, PAGED, 0);
+    put_u64(b, PAGED + 8, 0);
+}
+
+// Who is paged.
+fn put_paged(b: &mut [u8], p: Paged)
+    requires { ⌜ length (now b) ≡ stateLength ⌝ }
+    ensures { λ _. ⌜ now (b .exit) ≡ stored (now (b .entry)) pagedFrom (pagedOctets p) ⌝ }
+{
+    let page = p.page;
+    put_three(
+        b,
+        PAGED,
+        p.there as u8,
+        page.identityLength,
+        page.identityFirst,
+    );
+    put_three(
+        b,
+        PAGED + 3,
+        page.channelFirst,
+        page.hasPriority as u8,
+        page.priority,
+    );
+    put_two(b, PAGED + 6, p.hasCause as u8, p.cause as u8);
+    put_u64(b, PAGED + 8, page.identityRest);
+}
+
+// The head of an answer that says who is paged: it has no entries.
+pub fn put_page(b: &mut [u8], tick: u32, cell: Cell, expired: u32, dropped: u32, p: Paged)
+    ensures { λ _. ⌜ now (b .exit) ≡ pick (isState (now (b .entry))) (putHead (now (b .entry)) tick cell expired dropped 0 p) (now (b .entry)) ⌝ }
+{
+    if b.len() != LENGTH {
+        return;
+    }
+    put_counts(b, tick, cell, expired, dropped, 0);
+    put_paged(b, p);
 }

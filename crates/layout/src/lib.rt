@@ -40,15 +40,17 @@ const RECORDS: usize = SINCES + 4 * PLACES;
 
 const RECORD_LENGTH: usize = 56;
 
-// Expiries, drops and the number of entries; then the entries.
+// Expiries, drops and the number of entries; then who is paged; then the entries.
 const ANSWER: usize = RECORDS + RECORD_LENGTH * PLACES;
 
-const TOLDS: usize = ANSWER + 16;
+const PAGED: usize = ANSWER + 16;
+
+const TOLDS: usize = PAGED + 16;
 
 const TOLD_LENGTH: usize = 16 + RECORD_LENGTH;
 
 // A layout of other octets has another number.
-const LAYOUT_NUMBER: u32 = 3;
+const LAYOUT_NUMBER: u32 = 4;
 
 // The letters AHK and the layout's number, as a number.
 const MARKED: u32 = 65 + 256 * (72 + 256 * (75 + 256 * LAYOUT_NUMBER));

@@ -46,7 +46,16 @@ pub(crate) fn put_u32(b: &mut [u8], at: usize, x: u32)
     b[at + 3] = (x / 16777216 % 256) as u8;
 }
 
-// Three octets, one behind the other.
+// Two octets, one behind the other.
+pub(crate) fn put_two(b: &mut [u8], at: usize, x: u8, y: u8)
+    requires { ⌜ at + 2 ≤ length (now b) ⌝ }
+    ensures { λ _. ⌜ now (b .exit) ≡ stored (now (b .entry)) at (x ∷ y ∷ []) ⌝ }
+{
+    b[at] = x;
+    b[at + 1] = y;
+}
+
+// Three octets, likewise.
 pub(crate) fn put_three(b: &mut [u8], at: usize, x: u8, y: u8, z: u8)
     requires { ⌜ at + 3 ≤ length (now b) ⌝ }
     ensures { λ _. ⌜ now (b .exit) ≡ stored (now (b .entry)) at (x ∷ y ∷ z ∷ []) ⌝ }

@@ -4,7 +4,7 @@ use mathlib.Core.List.{List, [], _∷_}
 use mathlib.Core.Bool.{Bool, true, false}
 use Prim.Native.Nat.{ℕ, zero, suc, _+_, _≤_, _<_}
 use lib.ListN.{length, getD}
-use lib.Dec.{ltb, eqb}
+use lib.Dec.{ltb, eqb, lit<}
 use native.Mathlib.Omega.{arith}
 use borrow.Author.Tests.{eqb-true, eq-eqb, ne-eqb, lt-ltb, le-ltb, lt-leb, le-leb}
 use Rattle.bits.specs.Field.{pick}
@@ -13,13 +13,16 @@ use Rattle.csn1.specs.Format.{ground}
 use Rattle.csn1.specs.Told.{padded, codeOf}
 use Rattle.receiver.specs.declared.Record.{Record}
 use Rattle.receiver.specs.declared.Cell.{Cell}
+use Rattle.receiver.specs.declared.Paged.{Paged}
 use Rattle.receiver.specs.declared.Told.{Told}
 use Rattle.receiver.specs.declared.Receiver.{Receiver}
 use Rattle.receiver.specs.declared.Rule.{Rule}
 use Rattle.receiver.specs.Channels.{places, numberOf}
-use Rattle.receiver.specs.Model.{noCell, late, keysOf, expiredOf, droppedOf, sweptSlots, remade, withSlots}
+use Rattle.receiver.specs.Model.{noPaged, noCell, late, keysOf, expiredOf, droppedOf, sweptSlots, remade, withSlots}
 use Rattle.receiver.specs.Step.{noTold, mostEntries, allAfter, allTold, Event, joins, bitIs, groundsOf, refusalOf, refusedWith, acceptedAs, stepOf}
 use Rattle.receiver.specs.Step.{Content, contentOf, cellAfter, ruleBy}
+use Rattle.facch.specs.declared.Notification.{Notification as Message}
+use Rattle.receiver.specs.Entries.{facchEntry, facchEntries, pagedOf}
 use Rattle.receiver.proofs.Cases.{by-test}
 use Rattle.receiver.proofs.Refusals.{Sound, grounds-sound, refusal-sound}
 use Rattle.layout.specs.Octets.{leAt, tabulate}
@@ -68,22 +71,22 @@ module _ (l : List ℕ) (now : ℕ) (rule : Rule) (cell : Cell) (ch : ℕ) (es :
   swept-is : decodeOf swept ≡ withSlots (decodeOf l) (sweptSlots (decodeOf l) now rule)
   swept-is = swept-decode l now rule whole
 
-  accepted : (told : List ℕ) → length es ≤ mostEntries → expired < 4294967296 → dropped < 4294967296 → AllTold swept cell ch now es told
-      → Accepted l now rule cell ch es (putHead told now cell expired dropped (length es))
-  accepted told few x d a =
+  accepted : (told : List ℕ) (p : Paged) → p .page .identityRest < 18446744073709551616 → length es ≤ mostEntries → expired < 4294967296 → dropped < 4294967296
+      → AllTold swept cell ch now es told → Accepted l now rule cell ch es p (putHead told now cell expired dropped (length es) p)
+  accepted told p w few x d a =
       let long : length told ≡ stateLength = all-length swept cell ch now es told a ∙ length-run now rule 0 places l ∙ whole in
       let ts : List Told = allTold (keysIn l) (setsIn l) cell ch now (sweptSlots (decodeOf l) now rule) es in
       let same : allTold (keysIn swept) (setsIn swept) cell ch now (decodeOf swept .slots) es ≡ ts = ap (λ (r : Receiver). allTold (keysOf r) (r .sets) cell ch now (r .slots) es) swept-is in
       let q : length ts ≡ length es = length-all-told (keysIn l) (setsIn l) cell ch now (sweptSlots (decodeOf l) now rule) es in
       record {
-        octets = ap (λ (o : List ℕ). putHead o now cell expired dropped (length es)) (a .octets);
+        octets = ap (λ (o : List ℕ). putHead o now cell expired dropped (length es) p) (a .octets);
         receiver =
-            decode-head told now cell expired dropped (length es) long t
+            decode-head told now cell expired dropped (length es) p long t
             ∙ ap (λ (r : Receiver). remade r (r .slots) now cell)
             (a .places ∙ ap (λ (r : Receiver). withSlots r (allAfter (keysOf r) ch now (r .slots) es)) swept-is);
         answer =
-            last-head told now cell expired dropped (length es) long x d (omega arith)
-            ∙ ap (λ (r : List Told). record { expired = expired; dropped = dropped; count = length es; entries = r })
+            last-head told now cell expired dropped (length es) p long x d (omega arith) w
+            ∙ ap (λ (r : List Told). record { expired = expired; dropped = dropped; count = length es; entries = r; paged = p })
             (table-padded (toldNo told) noTold (length es) 0 mostEntries ts (omega (arith, q))
             (λ j b.
             let z : 0 + j ≡ j = omega arith in
@@ -91,6 +94,27 @@ module _ (l : List ℕ) (now : ℕ) (rule : Rule) (cell : Cell) (ch : ℕ) (es :
       }
 
   -- the same from what the code has in hand: the octets after the sweep, and the numbers that it counted
+  pub accepted-with : (p : Paged)
+      → p .page .identityRest < 18446744073709551616
+      → (o told left : List ℕ) (x d n : ℕ)
+      → (x ≡ pick (isState l) expired 0) × ((d ≡ pick (isState l) dropped 0) × (o ≡ pick (isState l) swept l))
+      → x < 4294967296
+      → d < 4294967296
+      → n ≡ length es
+      → n ≤ mostEntries
+      → AllTold o cell ch now es told
+      → left ≡ pick (isState told) (putHead told now cell x d n p) told
+      → Accepted l now rule cell ch es p left
+  accepted-with p w o told left x d n s xs ds pn few a q =
+      let px : x ≡ expired = s .0 ∙ at-state l expired 0 whole in
+      let pd : d ≡ dropped = s .1 .0 ∙ at-state l dropped 0 whole in
+      let po : o ≡ swept = s .1 .1 ∙ at-state l swept l whole in
+      let b = subst (λ (r : List ℕ). AllTold r cell ch now es told) po a in
+      let long : length told ≡ stateLength = all-length swept cell ch now es told b ∙ length-run now rule 0 places l ∙ whole in
+      rw (q, at-state told (putHead told now cell x d n p) told long, px, pd, pn)
+      (accepted told p w (omega (arith, few, pn)) (omega (arith, xs, px)) (omega (arith, ds, pd)) b)
+
+  -- where nobody is paged
   pub accepted-by : (o told left : List ℕ) (x d n : ℕ)
       → (x ≡ pick (isState l) expired 0) × ((d ≡ pick (isState l) dropped 0) × (o ≡ pick (isState l) swept l))
       → x < 4294967296
@@ -98,16 +122,9 @@ module _ (l : List ℕ) (now : ℕ) (rule : Rule) (cell : Cell) (ch : ℕ) (es :
       → n ≡ length es
       → n ≤ mostEntries
       → AllTold o cell ch now es told
-      → left ≡ pick (isState told) (putHead told now cell x d n) told
-      → Accepted l now rule cell ch es left
-  accepted-by o told left x d n s xs ds pn few a q =
-      let px : x ≡ expired = s .0 ∙ at-state l expired 0 whole in
-      let pd : d ≡ dropped = s .1 .0 ∙ at-state l dropped 0 whole in
-      let po : o ≡ swept = s .1 .1 ∙ at-state l swept l whole in
-      let b = subst (λ (r : List ℕ). AllTold r cell ch now es told) po a in
-      let long : length told ≡ stateLength = all-length swept cell ch now es told b ∙ length-run now rule 0 places l ∙ whole in
-      rw (q, at-state told (putHead told now cell x d n) told long, px, pd, pn)
-      (accepted told (omega (arith, few, pn)) (omega (arith, xs, px)) (omega (arith, ds, pd)) b)
+      → left ≡ pick (isState told) (putHead told now cell x d n noPaged) told
+      → Accepted l now rule cell ch es noPaged left
+  accepted-by = accepted-with noPaged (lit< tt)
 
 -- ## What is returned
 
@@ -166,7 +183,7 @@ accepted-as : (l : List ℕ) (e : Event) (left : List ℕ)
     → eventCode l e ≡ 0
     → (x : Content)
     → x ≡ contentOf (e .happening)
-    → Accepted l (e .tick) (ruleBy (decodeOf l) (x .cause)) (cellAfter (decodeOf l .cell) (x .cause) (x .news)) (numberOf (x .channel)) (x .entries) left
+    → Accepted l (e .tick) (ruleBy (decodeOf l) (x .cause)) (cellAfter (decodeOf l .cell) (x .cause) (x .news)) (numberOf (x .channel)) (x .entries) (x .paged) left
     → Fed l e left 0
 unfolding octetsAfter
 accepted-as l e left q x w a =
@@ -217,7 +234,7 @@ module _ (l : List ℕ) (e : Event) (n : ℕ) (q : n ≡ earlyCode l (e .tick)) 
         → x ≡ contentOf (e .happening)
         → rule ≡ ruleBy (decodeOf l) (x .cause)
         → cell ≡ cellAfter (decodeOf l .cell) (x .cause) (x .news)
-        → Accepted l (e .tick) rule cell (numberOf (x .channel)) (x .entries) left
+        → Accepted l (e .tick) rule cell (numberOf (x .channel)) (x .entries) (x .paged) left
         → Fed l e left 0
     fed-accepted rule cell left g x w r c a = accepted-as l e left (none-early .1 ∙ number-code (groundsOf (e .happening)) (grounds-sound (e .happening)) g) x w (rw (← r, ← c) a)
 
@@ -227,7 +244,7 @@ pub length-after : (l : List ℕ) (e : Event) → length (octetsAfter l e) ≡ l
 unfolding octetsAfter
 length-after l e =
     by-test (eqb (eventCode l e) 0)
-    (λ p. rw p (length-head _ _ _ _ _ _ ∙ length-all _ _ _ (e .tick) 0 (contentOf (e .happening) .entries) ∙ length-run (e .tick) _ 0 places l))
+    (λ p. rw p (length-head _ _ _ _ _ _ _ ∙ length-all _ _ _ (e .tick) 0 (contentOf (e .happening) .entries) ∙ length-run (e .tick) _ 0 places l))
     (λ p. rw p)
 
 pub refused-stays : (l : List ℕ) (e : Event) → (eventCode l e ≡ 0 → ⊥) → octetsAfter l e ≡ l
@@ -268,3 +285,16 @@ twelve = (λ z. omega arith, refl)
 
 pub bit-in : (b : ℕ) → b ≤ 1 → groundsOf (bitIs b) .number ≡ 0
 bit-in b h = rw (le-leb b 1 h)
+
+-- a FACCH message notifies a call, or pages somebody
+pub call-entries : (m : Message) → m .paging ≡ false → facchEntries m ≡ facchEntry m ∷ []
+unfolding facchEntries
+call-entries m h = rw h
+
+pub call-paged : (m : Message) → m .paging ≡ false → pagedOf m ≡ noPaged
+unfolding pagedOf
+call-paged m h = rw h
+
+pub page-entries : (m : Message) → m .paging ≡ true → facchEntries m ≡ []
+unfolding facchEntries
+page-entries m h = rw h

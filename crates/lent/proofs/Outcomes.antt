@@ -17,10 +17,12 @@ use Rattle.receiver.specs.declared.Slot.{Slot}
 use Rattle.receiver.specs.declared.Met.{Met}
 use Rattle.receiver.specs.declared.Told.{Told}
 use Rattle.receiver.specs.declared.Cell.{Cell}
+use Rattle.receiver.specs.declared.Paged.{Paged}
 use Rattle.receiver.specs.Count.{followOf}
 use Rattle.receiver.specs.Channels.{channels, keyCount, places, placeOn, leads}
 use Rattle.receiver.specs.Model.{noRecord, emptySlot, keyOf, indexOf, classOf, agree, joinedOf, only, complete, storing, meetOf}
 use Rattle.receiver.proofs.Record as Declared
+use Rattle.receiver.proofs.Paged as DeclaredPaged
 use Rattle.receiver.proofs.Cases.{by-test}
 use Rattle.receiver.proofs.Classes.{meet-whole, meet-none, meet-first, meet-second, meet-early, meet-stored, class-least}
 use Rattle.receiver.specs.Step.{mostEntries, setAt, toldAs, toldOnly, slotsAfter, toldOf}
@@ -221,6 +223,10 @@ wide-value e vs ok =
       fullrate = omega (arith, ok);
       halfrate = omega (arith, ok);
     }
+
+-- and so does who is paged
+pub rest-value : (p : Paged) (vs : List Val) → Is (row DeclaredPaged.the-type) p vs → p .page .identityRest < 18446744073709551616
+rest-value p vs ok = omega (arith, ok)
 
 -- ## Its key is ours, or not: i is the index that was found
 

@@ -9,6 +9,7 @@ use Rattle.csn1.specs.Told.{codeOf}
 use Rattle.receiver.specs.declared.Record.{Record}
 use Rattle.receiver.specs.declared.Receiver.{Receiver}
 use Rattle.receiver.specs.declared.Cell.{Cell}
+use Rattle.receiver.specs.declared.Paged.{Paged}
 use Rattle.receiver.specs.declared.Answer.{Answer}
 use Rattle.receiver.specs.declared.Rule.{Rule}
 use Rattle.receiver.specs.declared.Met.{Met}
@@ -41,18 +42,18 @@ allOctets l cell ch now j (e ∷ es) = allOctets (tellOctets l cell ch now j e) 
 
 -- ## An event
 
-abbrev pub acceptedOctets : List ℕ → ℕ → Rule → Cell → ℕ → List Record → List ℕ
-acceptedOctets l now rule cell ch es =
-    putHead (allOctets (sweptOctets now rule l) cell ch now 0 es) now cell (expiredOf (decodeOf l) now (decodeOf l .slots)) (droppedOf (decodeOf l) now rule) (length es)
+abbrev pub acceptedOctets : List ℕ → ℕ → Rule → Cell → ℕ → List Record → Paged → List ℕ
+acceptedOctets l now rule cell ch es p =
+    putHead (allOctets (sweptOctets now rule l) cell ch now 0 es) now cell (expiredOf (decodeOf l) now (decodeOf l .slots)) (droppedOf (decodeOf l) now rule) (length es) p
 
 -- the same of what is in an event
 abbrev pub acceptedAsOctets : List ℕ → ℕ → Content → List ℕ
 acceptedAsOctets l now x =
-    acceptedOctets l now (ruleBy (decodeOf l) (x .cause)) (cellAfter (decodeOf l .cell) (x .cause) (x .news)) (numberOf (x .channel)) (x .entries)
+    acceptedOctets l now (ruleBy (decodeOf l) (x .cause)) (cellAfter (decodeOf l .cell) (x .cause) (x .news)) (numberOf (x .channel)) (x .entries) (x .paged)
 
 -- the answer by value, without its refusal and its receiver
 abbrev pub answered : Answer → Last
-answered a = record { expired = a .expired; dropped = a .dropped; count = a .count; entries = a .entries }
+answered a = record { expired = a .expired; dropped = a .dropped; count = a .count; entries = a .entries; paged = a .paged }
 
 -- 13 goes before everything else
 unfoldable pub eventCode : List ℕ → Event → ℕ

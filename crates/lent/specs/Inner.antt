@@ -14,6 +14,7 @@ use Rattle.nch.specs.NotificationNumbers.{recordFrom}
 use Rattle.receiver.specs.declared.Record.{Record}
 use Rattle.receiver.specs.declared.Slot.{Slot}
 use Rattle.receiver.specs.declared.Cell.{Cell}
+use Rattle.receiver.specs.declared.Paged.{Paged}
 use Rattle.receiver.specs.declared.Rule.{Rule}
 use Rattle.receiver.specs.declared.Met.{Met}
 use Rattle.receiver.specs.Model.{late, joinedOf, only, meetHalf, withSlots}
@@ -65,10 +66,10 @@ pub record AllTold (l : List ℕ) (cell : Cell) (ch now : ℕ) (es : List Record
 -- ## An event
 
 -- what an accepted event leaves, and what is read there
-pub record Accepted (l : List ℕ) (now : ℕ) (rule : Rule) (cell : Cell) (ch : ℕ) (es : List Record) (left : List ℕ) : Type 0 where
-  pub octets : left ≡ acceptedOctets l now rule cell ch es
-  pub receiver : decodeOf left ≡ acceptedWith (decodeOf l) now rule cell ch es .receiver
-  pub answer : lastOf left ≡ answered (acceptedWith (decodeOf l) now rule cell ch es)
+pub record Accepted (l : List ℕ) (now : ℕ) (rule : Rule) (cell : Cell) (ch : ℕ) (es : List Record) (p : Paged) (left : List ℕ) : Type 0 where
+  pub octets : left ≡ acceptedOctets l now rule cell ch es p
+  pub receiver : decodeOf left ≡ acceptedWith (decodeOf l) now rule cell ch es p .receiver
+  pub answer : lastOf left ≡ answered (acceptedWith (decodeOf l) now rule cell ch es p)
 
 -- the number that comes before the event's own: 13, then 9
 unfoldable pub earlyCode : List ℕ → ℕ → ℕ

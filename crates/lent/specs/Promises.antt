@@ -80,7 +80,7 @@ leftAfter l (a ∷ rest) = leftAfter (a .octets) rest
 
 -- an answer as it is read, without its refusal
 abbrev pub shown : Reply → Last
-shown a = record { expired = a .expired; dropped = a .dropped; count = a .count; entries = a .entries }
+shown a = record { expired = a .expired; dropped = a .dropped; count = a .count; entries = a .entries; paged = a .paged }
 
 -- For every lent octets that an accepted setup filled, and after every run of events on them: the next call returns the number and the bit that the receivers of the
 -- single calls give, and where that is 0, what is read then is their whole answer.

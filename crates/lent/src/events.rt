@@ -1,13 +1,13 @@
 // The events on a lent state: each is refused with its number and its bit and changes no octet, or works in place.
 ghost use mathlib.Core.Path.{_≡_};
-ghost use mathlib.Core.List.{[]};
+ghost use mathlib.Core.List.{[], _∷_};
 ghost use Prim.Native.Nat.{_≤_};
 ghost use lib.ListN.{length};
 ghost use Rattle.bits.specs.Field.{both};
 ghost use Rattle.nch.specs.NotificationNumbers.{recordFrom, Fits};
 ghost use Rattle.receiver.specs.Channels.{keyCount, Channel, hasNln};
-ghost use Rattle.receiver.specs.Model.{ruleFor, keep};
-ghost use Rattle.receiver.specs.Entries.{nchEntries, facchEntries, pchEntries};
+ghost use Rattle.receiver.specs.Model.{noPaged, ruleFor, keep};
+ghost use Rattle.receiver.specs.Entries.{nchEntries, facchEntry, pagedOf, pchEntries};
 ghost use Rattle.receiver.specs.Count.{counting, countingOver, cellWith};
 ghost use Rattle.receiver.specs.Step.{changes, numbering, cellAfter, mostEntries, moved, nch, facch, pch, joined, reselected, handedOver, reconfigured, leftIdle, bit22, tick};
 ghost use Rattle.layout.specs.Layout.{stateLength, decodeOf};
@@ -18,6 +18,7 @@ use crate::tell::tell_nch;
 use crate::tell::tell_pch;
 use layout::answer::cell_of;
 use layout::answer::put_head;
+use layout::answer::put_page;
 use layout::answer::tick_of;
 use layout::places::index_of;
 use layout::sweep::pass;
@@ -30,6 +31,7 @@ use receiver::Rule;
 use receiver::count;
 use receiver::events;
 use receiver::meeting;
+use receiver::messages;
 use receiver::store;
 
 // The number that comes before the event's own: 13 for another length, then 9.
@@ -48,7 +50,7 @@ fn early(b: &[u8], time: u32) -> u32
 // An accepted event without entries.
 fn accept(b: &mut [u8], time: u32, rule: Rule, cell: Cell)
     requires { ⌜ length (now b) ≡ stateLength ⌝ }
-    ensures { λ _. ⌜ Accepted (now (b .entry)) time rule cell 0 [] (now (b .exit)) ⌝ }
+    ensures { λ _. ⌜ Accepted (now (b .entry)) time rule cell 0 [] noPaged (now (b .exit)) ⌝ }
 {
     let lost = sweep(b, time, rule);
     put_head(b, time, cell, lost.expired, lost.dropped, 0);
@@ -57,7 +59,7 @@ fn accept(b: &mut [u8], time: u32, rule: Rule, cell: Cell)
 // An accepted tick. What is known of the cell is read behind the sweep and written as it was read, so that the compiler leaves out both.
 fn accept_tick(b: &mut [u8], time: u32)
     requires { ⌜ length (now b) ≡ stateLength ⌝ }
-    ensures { λ _. ⌜ Accepted (now (b .entry)) time keep (decodeOf (now (b .entry)) .cell) 0 [] (now (b .exit)) ⌝ }
+    ensures { λ _. ⌜ Accepted (now (b .entry)) time keep (decodeOf (now (b .entry)) .cell) 0 [] noPaged (now (b .exit)) ⌝ }
 {
     let lost = pass(b, time);
     let cell = cell_of(b);
@@ -71,7 +73,7 @@ fn accept_nch(b: &mut [u8], time: u32, m: &[u64])
         (ruleFor (λ (c : Channel). both (hasNln c) (both (recordFrom (now (m .entry)) .hasNln) (changes (decodeOf (now (b .entry)) .cell) (recordFrom (now (m .entry)) .nln)))) keyCount)
         (cellAfter (decodeOf (now (b .entry)) .cell) (numbering (recordFrom (now (m .entry)) .hasNln) (recordFrom (now (m .entry)) .nln))
         (counting (recordFrom (now (m .entry)) .release6 .hasCount) (recordFrom (now (m .entry)) .release6 .cellcount)))
-        0 (nchEntries (recordFrom (now (m .entry)))) (now (b .exit)) ⌝ }
+        0 (nchEntries (recordFrom (now (m .entry)))) noPaged (now (b .exit)) ⌝ }
 {
     let last = cell_of(b);
     let numbered = m[places::NUMBERED] == 1;
@@ -84,11 +86,11 @@ fn accept_nch(b: &mut [u8], time: u32, m: &[u64])
     put_head(b, time, cell, lost.expired, lost.dropped, entries);
 }
 
-// An accepted FACCH message: it takes no half, as a tick.
+// An accepted FACCH message that notifies a call: it takes no half, as a tick.
 fn accept_facch(b: &mut [u8], time: u32, m: facch::Notification)
     requires { ⌜ length (now b) ≡ stateLength ⌝ }
     ensures { λ _. ⌜ Accepted (now (b .entry)) time keep
-        (cellWith (decodeOf (now (b .entry)) .cell) (countingOver (m .release6 .hasCount) (m .release6 .b22) (m .release6 .cellcount))) 1 (facchEntries m) (now (b .exit)) ⌝ }
+        (cellWith (decodeOf (now (b .entry)) .cell) (countingOver (m .release6 .hasCount) (m .release6 .b22) (m .release6 .cellcount))) 1 (facchEntry m ∷ []) noPaged (now (b .exit)) ⌝ }
 {
     let six = m.release6;
     let lost = pass(b, time);
@@ -97,10 +99,29 @@ fn accept_facch(b: &mut [u8], time: u32, m: facch::Notification)
     put_head(b, time, cell, lost.expired, lost.dropped, 1);
 }
 
+// An accepted FACCH message that pages somebody: its count is taken, it touches no half, and it has no entries.
+fn accept_page(b: &mut [u8], time: u32, m: facch::Notification)
+    requires { ⌜ length (now b) ≡ stateLength ⌝ }
+    ensures { λ _. ⌜ Accepted (now (b .entry)) time keep
+        (cellWith (decodeOf (now (b .entry)) .cell) (countingOver (m .release6 .hasCount) (m .release6 .b22) (m .release6 .cellcount))) 1 [] (pagedOf m) (now (b .exit)) ⌝ }
+{
+    let six = m.release6;
+    let cell = count::taken_over(cell_of(b), six.hasCount, six.b22, six.cellcount);
+    let gone = pass(b, time);
+    put_page(
+        b,
+        time,
+        cell,
+        gone.expired,
+        gone.dropped,
+        messages::paged_of(m),
+    );
+}
+
 // An accepted entry of the PCH.
 fn accept_pch(b: &mut [u8], time: u32, rule: Rule, p: pch::Entry)
     requires { ⌜ length (now b) ≡ stateLength ⌝ }
-    ensures { λ _. ⌜ Accepted (now (b .entry)) time rule (cellWith (decodeOf (now (b .entry)) .cell) (counting (p .hasCount) (p .cellcount))) 2 (pchEntries p) (now (b .exit)) ⌝ }
+    ensures { λ _. ⌜ Accepted (now (b .entry)) time rule (cellWith (decodeOf (now (b .entry)) .cell) (counting (p .hasCount) (p .cellcount))) 2 (pchEntries p) noPaged (now (b .exit)) ⌝ }
 {
     let cell = count::taken(cell_of(b), p.hasCount, p.cellcount);
     let lost = sweep(b, time, rule);
@@ -138,6 +159,10 @@ pub fn facch(b: &mut [u8], time: u32, octets: &[u8]) -> u32
         return csn1::code(m.refusal);
     }
     let record = m.record;
+    if record.paging {
+        accept_page(b, time, record);
+        return 0;
+    }
     accept_facch(b, time, record);
     0
 }

@@ -1,5 +1,6 @@
 // The entries of a message: each meets its place, and its answer is written.
 ghost use mathlib.Core.Path.{_≡_};
+ghost use mathlib.Core.List.{[], _∷_};
 ghost use Prim.Native.Nat.{_<_, _≤_};
 ghost use lib.ListN.{length};
 ghost use Rattle.nch.specs.Places.{mostRandoms};
@@ -8,7 +9,7 @@ ghost use Rattle.receiver.specs.Channels.{channels, keyCount, places, placeOn};
 ghost use Rattle.receiver.specs.Model.{keyOf, meetOf};
 ghost use Rattle.bits.specs.Field.{pick};
 ghost use Rattle.receiver.specs.Step.{mostEntries, toldAs};
-ghost use Rattle.receiver.specs.Entries.{nchEntries, facchEntries, pchEntries};
+ghost use Rattle.receiver.specs.Entries.{nchEntries, facchEntry, pchEntries};
 ghost use Rattle.layout.specs.Layout.{stateLength, isEntry, slotNo, putCarried};
 ghost use Rattle.lent.specs.Events.{metOctets};
 ghost use Rattle.lent.specs.Inner.{metHalf, Telling, AllTold, entryFrom, EntryFits};
@@ -105,10 +106,10 @@ fn ours(b: &mut [u8], cell: Cell, ch: usize, tick: u32, j: usize, i: usize, e: R
     put_number(b, j, key, 4);
 }
 
-// The entry of a FACCH message. Its record is made only where its key is ours.
+// The entry of a FACCH message that notifies a call. Its record is made only where its key is ours.
 pub(crate) fn tell_facch(b: &mut [u8], cell: Cell, tick: u32, m: facch::Notification)
     requires { ⌜ length (now b) ≡ stateLength ⌝ }
-    ensures { λ _. ⌜ AllTold (now (b .entry)) cell 1 tick (facchEntries m) (now (b .exit)) ⌝ }
+    ensures { λ _. ⌜ AllTold (now (b .entry)) cell 1 tick (facchEntry m ∷ []) (now (b .exit)) ⌝ }
 {
     let c = m.call;
     let key = meeting::key_of(c);

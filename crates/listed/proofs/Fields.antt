@@ -19,6 +19,7 @@ use Rattle.receiver.specs.declared.Slot.{Slot}
 use Rattle.receiver.specs.declared.Receiver.{Receiver}
 use Rattle.receiver.specs.declared.Told.{Told}
 use Rattle.receiver.specs.declared.Answer.{Answer}
+use Rattle.receiver.specs.declared.Paged.{Paged}
 use Rattle.gcc.specs.declared.cause.Meaning.{Meaning}
 use Rattle.gcc.specs.declared.cause.Meaning.the-variants.{Nothing, Specific, Unspecific}
 use Rattle.gcc.specs.declared.cause.Reading.{Reading as CauseReading}
@@ -150,10 +151,16 @@ ofReceiver r =
     map ofSlot (r .slots) ∷ numbers (r .keys) ∷ numbers (r .tick ∷ r .t3206 ∷ r .t3208 ∷ r .t3210 ∷ r .cell .nln ∷ r .keycount ∷ r .cell .count ∷ r .cell .bit ∷ [])
     ∷ numbers (r .sets) ∷ []
 
+abbrev pub ofPaged : Paged → Nested 1
+ofPaged p =
+    flag (p .there) ∷ number (p .page .identityLength) ∷ number (p .page .identityFirst) ∷ number (p .page .identityRest) ∷ number (p .page .channelFirst)
+    ∷ flag (p .page .hasPriority) ∷ number (p .page .priority) ∷ flag (p .hasCause) ∷ flag (p .cause) ∷ []
+
 abbrev pub ofAnswer : Answer → Nested 3
 ofAnswer a =
     numbers (a .refusal .number ∷ a .refusal .bit ∷ a .expired ∷ a .dropped ∷ a .count ∷ [])
     ∷ map ofTold (a .entries)
+    ∷ alone (ofPaged (a .paged))
     ∷ ofReceiver (a .receiver)
 
 -- ## What `gcc::cause::read` and `gcc::digits::read` answer

@@ -19,6 +19,7 @@ use Rattle.receiver.specs.declared.Record.{Record}
 use Rattle.receiver.specs.declared.Slot.{Slot}
 use Rattle.receiver.specs.declared.Told.{Told}
 use Rattle.receiver.specs.declared.Answer.{Answer}
+use Rattle.receiver.specs.declared.Paged.{Paged}
 use Rattle.gcc.specs.declared.cause.Meaning.{Meaning}
 use Rattle.gcc.specs.declared.cause.Meaning.the-variants.{Nothing, Specific, Unspecific}
 use Rattle.gcc.specs.declared.cause.Reading.{Reading as CauseReading}
@@ -221,6 +222,23 @@ slotFrom s = record { half = numberAt 0 s; since = numberAt 1 s; «record» = re
 slots-back : (l : List Slot) → map slotFrom (map ofSlot l) ≡ l
 slots-back = map-back _ _ λ s. refl
 
+abbrev pagedFrom : Nested 1 → Paged
+pagedFrom s =
+    record {
+      there = flagAt 0 s;
+      page =
+          record {
+            identityLength = numberAt 1 s;
+            identityFirst = numberAt 2 s;
+            identityRest = numberAt 3 s;
+            channelFirst = numberAt 4 s;
+            hasPriority = flagAt 5 s;
+            priority = numberAt 6 s;
+          };
+      hasCause = flagAt 7 s;
+      cause = flagAt 8 s;
+    }
+
 abbrev answerFrom : Nested 3 → Answer
 answerFrom w =
     record {
@@ -229,17 +247,18 @@ answerFrom w =
       dropped = numberAt 3 (aloneAt 0 w);
       count = numberAt 4 (aloneAt 0 w);
       entries = map toldFrom (arrayAt 1 w);
+      paged = pagedFrom (aloneAt 2 w);
       receiver =
           record {
-            slots = map slotFrom (arrayAt 2 w);
-            keys = numbersFrom (aloneAt 3 w);
-            sets = numbersFrom (aloneAt 5 w);
-            keycount = numberAt 5 (aloneAt 4 w);
-            tick = numberAt 0 (aloneAt 4 w);
-            t3206 = numberAt 1 (aloneAt 4 w);
-            t3208 = numberAt 2 (aloneAt 4 w);
-            t3210 = numberAt 3 (aloneAt 4 w);
-            cell = record { nln = numberAt 4 (aloneAt 4 w); count = numberAt 6 (aloneAt 4 w); bit = numberAt 7 (aloneAt 4 w) };
+            slots = map slotFrom (arrayAt 3 w);
+            keys = numbersFrom (aloneAt 4 w);
+            sets = numbersFrom (aloneAt 6 w);
+            keycount = numberAt 5 (aloneAt 5 w);
+            tick = numberAt 0 (aloneAt 5 w);
+            t3206 = numberAt 1 (aloneAt 5 w);
+            t3208 = numberAt 2 (aloneAt 5 w);
+            t3210 = numberAt 3 (aloneAt 5 w);
+            cell = record { nln = numberAt 4 (aloneAt 5 w); count = numberAt 6 (aloneAt 5 w); bit = numberAt 7 (aloneAt 5 w) };
           };
     }
 

@@ -15,7 +15,7 @@ use Rattle.receiver.specs.declared.Record.{Record}
 use Rattle.receiver.specs.declared.Slot.{Slot}
 use Rattle.receiver.specs.declared.Answer.{Answer}
 use Rattle.receiver.specs.declared.Started.{Started}
-use Rattle.receiver.specs.Model.{noCommon, noRecord as noTelling, emptySlot, noCell, noKey, wrapSub, startedOf}
+use Rattle.receiver.specs.Model.{noCommon, noRecord as noTelling, noPaged, emptySlot, noCell, noKey, wrapSub, startedOf}
 use Rattle.receiver.specs.Step.{noTold, nch, tick, refusedWith, stepOf}
 use Rattle.gcc.specs.declared.cause.Meaning.{Meaning}
 use Rattle.gcc.specs.declared.cause.Meaning.the-variants.{Specific, Unspecific}
@@ -174,6 +174,7 @@ answerAt now x n m follow held =
       dropped = 0;
       count = 1;
       entries = record { key = key; number = n; «record» = m; follow = follow; kept = 0 } ∷ replicate 8 noTold;
+      paged = noPaged;
       receiver =
           record {
             slots = held ∷ replicate 149 emptySlot;

@@ -2,8 +2,7 @@
 use mathlib.Core.List.{List, [], _∷_}
 use mathlib.Core.Option.{Option}
 use Prim.Native.Nat.{ℕ, _+_, _-_}
-use Rattle.csn1.specs.Told.{isThere, asBit}
-use Rattle.nch.specs.Told.{orFalse}
+use Rattle.csn1.specs.Told.{isThere, asBit, orFalse}
 use Rattle.nch.specs.Places.{numberedAt, release6At, release7At, privateAt}
 
 -- how many numbers a record has, behind that of the bits used

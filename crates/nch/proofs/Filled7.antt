@@ -11,7 +11,7 @@ use Rattle.csn1.specs.declared.Refusal.{Refusal}
 use Rattle.csn1.specs.declared.Flagged.{Flagged}
 use Rattle.csn1.specs.Format.{Res, ok, bad, _then_, noRefusal, renumbered, numberedAs, Format, num, opt, list, _⨟_}
 use Rattle.csn1.specs.Grammar.{number, _and_, flagged, listed, format}
-use Rattle.csn1.specs.Told.{asBit, orZero, isOne, flaggedAt, flaggedOf}
+use Rattle.csn1.specs.Told.{asBit, orZero, isOne, flaggedAt, flaggedOf, orFalse}
 use Rattle.csn1.proofs.Lists.{length-padded}
 use Rattle.csn1.proofs.Promises.{lawful}
 use Rattle.csn1.proofs.Writing.{bit-back, flag-byte}
@@ -24,7 +24,7 @@ use Rattle.arrays.proofs.Zeroed.{zeros-later, zeros-set, zeros-behind, left-bad
 use Rattle.nch.specs.declared.lists.ListPassed.{ListPassed}
 use Rattle.nch.specs.declared.additions.PartPassed.{PartPassed}
 use Rattle.nch.specs.Octets.{AmrValue, Release7Value, amr}
-use Rattle.nch.specs.Told.{orFalse, release7Of}
+use Rattle.nch.specs.Told.{release7Of}
 use Rattle.nch.specs.Places.{release7At, marksAt, mostMarks, uplinkedAt, uplinkAt, amrAt, fullratedAt, fullrateAt, halfratedAt, halfrateAt, smsAt, confidentialAt, privateAt}
 use Rattle.nch.specs.Inner.{listPassed, partPassed, release7Passed, marksRun, amrRun, smsRun, release7Run}
 use Rattle.nch.proofs.Ends.{release7Length, uplinkRun}

@@ -13,6 +13,7 @@ use Rattle.bits.specs.Field.{both, pick}
 use Rattle.csn1.specs.Format.{num, optFits}
 use Rattle.csn1.specs.Grammar.{format}
 use Rattle.csn1.specs.Told.{asBit, isOne, isThere, orZero, padded}
+use Rattle.csn1.specs.Write.{flaggedRight}
 use Rattle.bits.proofs.Answers.{both-true}
 use Rattle.arrays.specs.Limits.{within, flag, octet, long, times}
 use Rattle.arrays.specs.Runs.{each}
@@ -26,7 +27,6 @@ use Rattle.call.proofs.Record.{value-in-range, value-length}
 use Rattle.nch.specs.declared.Release7.{Release7}
 use Rattle.nch.specs.Octets.{Release6Value, Release7Value, Value, reduced, random, release6, release7, readOctets}
 use Rattle.nch.specs.Told.{reducedOf, noReduced, randomOf, noRandom, release6Of, release7Of, recordOf, readOf}
-use Rattle.nch.specs.Write.{flaggedRight}
 use Rattle.nch.specs.Places.{mostCalls, mostReduceds, mostRandoms, mostMarks, usedAt, allLength}
 use Rattle.nch.specs.CallNumbers.{callNumbers, callMost}
 use Rattle.nch.specs.NotificationNumbers.{reducedNumbers, randomNumbers, markNumbers, release6Numbers, partsNumbers, release7Numbers, numbersOf, readNumbers, recordFrom, headMost, reducedMost, randomMost, release6Most, partsMost, release7Most, most, fieldsHold, Fits}
@@ -39,7 +39,7 @@ use Rattle.nch.proofs.NotificationBack.{record-back, refused-zeros}
 
 -- ## A call
 
-bit-low : (b : Bool) → leb (asBit b) 1 ≡ true
+pub bit-low : (b : Bool) → leb (asBit b) 1 ≡ true
 bit-low true = refl
 bit-low false = refl
 
@@ -78,7 +78,7 @@ small false d e k =
       frequencies = omega (arith, eqb-true (d .frequencies) 0 (j .1));
     }
 
-call-within : (c : Call) → callInRange c ≡ true → callLengthRight c ≡ true → within (callNumbers c) callMost ≡ true
+pub call-within : (c : Call) → callInRange c ≡ true → callLengthRight c ≡ true → within (callNumbers c) callMost ≡ true
 unfolding within callNumbers callInRange callLengthRight
 call-within c e k =
     let a = both-true (headInRange c) _ e in
@@ -120,7 +120,7 @@ random-within v f =
     let x = opt-small (v .1) 36 (omega arith) (f .1) in
     rw (bit-low (isOne (v .0)), bit-low (isThere (v .1)), le-leb (orZero (v .1)) 18446744073709551615 (omega arith))
 
-flag-small : (h : Bool) (v n : ℕ) → flaggedRight h v n ≡ true → 0 < n → v < n
+pub flag-small : (h : Bool) (v n : ℕ) → flaggedRight h v n ≡ true → 0 < n → v < n
 flag-small true v n e k = ltb-true v n e
 flag-small false v n e k = omega (arith, eqb-true v 0 e)
 

@@ -25,7 +25,7 @@ length-most = refl
 abbrev pub mostAt : ℕ → ℕ
 mostAt k = getD (0 ∷ most) k 0
 
-within-behind : (ns ms : List ℕ) (k : ℕ) → within (drop 1 ns) ms ≡ true → 1 ≤ k → k < length ms + 1 → getD ns k 0 ≤ getD (0 ∷ ms) k 0
+pub within-behind : (ns ms : List ℕ) (k : ℕ) → within (drop 1 ns) ms ≡ true → 1 ≤ k → k < length ms + 1 → getD ns k 0 ≤ getD (0 ∷ ms) k 0
 within-behind ns ms zero w o h = absurd (omega arith)
 within-behind [] ms (suc k) w o h = omega arith
 within-behind (n ∷ ns) ms (suc k) w o h = within-at ns ms k w (omega arith)
@@ -75,7 +75,7 @@ module _ (ns : List ℕ) (f : Fits ns) where
 
 -- ## Nothing is cut off
 
-octet-whole : (n : ℕ) → n ≤ octet → n % 256 ≡ n
+pub octet-whole : (n : ℕ) → n ≤ octet → n % 256 ≡ n
 octet-whole n h = omega arith
 
 word-whole : (n : ℕ) → n ≤ word → n % 4294967296 ≡ n

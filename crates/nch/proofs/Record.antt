@@ -12,7 +12,9 @@ use Rattle.bits.specs.Field.{pick}
 use Rattle.csn1.specs.Format.{num, optFits, itemsFit}
 use Rattle.csn1.specs.Grammar.{format}
 use Rattle.csn1.specs.Told.{there, asBit}
+use Rattle.csn1.specs.Write.{flaggedRight}
 use Rattle.bits.proofs.Answers.{both-true}
+use Rattle.csn1.proofs.Flags.{flag-fits, fits-flag, flag-zero}
 use Rattle.csn1.proofs.Writing.{there-back}
 use Rattle.csn1.proofs.Telling.{true-both, picked, due-last, number-back}
 use Rattle.call.specs.declared.Call.{Call}
@@ -22,10 +24,10 @@ use Rattle.call.proofs.Record.{call-fits, call-back, value-back, value-in-range
 use Rattle.nch.specs.declared.Notification.{Notification}
 use Rattle.nch.specs.Octets.{Release6Value, Value, release6, release7, notification, count, cipheredValue, describedValue, reducedsIn, randomsIn, marksIn}
 use Rattle.nch.specs.Told.{recordOf, reducedValue, randomValue, release6Value, release7Value, valueOf, Shaped}
-use Rattle.nch.specs.Write.{placesRight, all, flaggedRight, release6InRange, inRange, callsOf, reducedIsLow, referencesLow, lengthsRight, hopsRight, randomsOwned, isDescribed, marksOwned, recordTests, recordRefusal, formFits, writeNumber}
+use Rattle.nch.specs.Write.{placesRight, all, release6InRange, inRange, callsOf, reducedIsLow, referencesLow, lengthsRight, hopsRight, randomsOwned, isDescribed, marksOwned, recordTests, recordRefusal, formFits, writeNumber}
 use Rattle.nch.specs.Inner.{callRight}
 use Rattle.nch.proofs.InPlaces.{places-back, places-good, all-both, items-fit, told-all, told-places, told-back, take-told, count-map, count-le}
-use Rattle.nch.proofs.Releases.{flag-fits, fits-flag, flag-zero, in-use, Right6, right6, range6, fits6, back6, value6, told6, low6, count6, Right7, right7, range7, fits7, back7, value7, told7, count7}
+use Rattle.nch.proofs.Releases.{in-use, Right6, right6, range6, fits6, back6, value6, told6, low6, count6, Right7, right7, range7, fits7, back7, value7, told7, count7}
 
 -- ## From a record that the writer accepts
 

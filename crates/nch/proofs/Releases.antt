@@ -13,7 +13,9 @@ use Rattle.bits.specs.Field.{both, pick}
 use Rattle.csn1.specs.Format.{num, optFits}
 use Rattle.csn1.specs.Grammar.{number, _and_, format}
 use Rattle.csn1.specs.Told.{isThere, orZero, there, isOne, asBit}
+use Rattle.csn1.specs.Write.{flaggedRight, behind}
 use Rattle.bits.proofs.Answers.{both-true}
+use Rattle.csn1.proofs.Flags.{flag-fits, fits-flag, flag-zero, flag-none, bit-fits, behind-none, behind-bit, bit-behind, bit-value}
 use Rattle.csn1.proofs.Writing.{bit-back, flag-back, flag-lt, there-back}
 use Rattle.csn1.proofs.Telling.{true-both, number-back}
 use Rattle.nch.specs.declared.Reduced.{Reduced}
@@ -21,48 +23,9 @@ use Rattle.nch.specs.declared.Random.{Random}
 use Rattle.nch.specs.declared.Release6.{Release6}
 use Rattle.nch.specs.declared.Release7.{Release7}
 use Rattle.nch.specs.Octets.{Release6Value, Release7Value, AmrValue, reduced, random, amr, release6, release7, reducedsIn, randomsIn, marksIn}
-use Rattle.nch.specs.Told.{reducedOf, noReduced, randomOf, noRandom, release6Of, release7Of, orFalse, fullRate, halfRate, confidentiality, privacy, reducedValue, randomValue, release6Value, release7Value, amrValue}
-use Rattle.nch.specs.Write.{placesRight, all, flaggedRight, behind, reducedInRange, reducedIsZero, randomInRange, randomIsZero, anyMark, amrInRange, release6InRange, release7InRange, reducedIsLow}
+use Rattle.nch.specs.Told.{reducedOf, noReduced, randomOf, noRandom, release6Of, release7Of, fullRate, halfRate, confidentiality, privacy, reducedValue, randomValue, release6Value, release7Value, amrValue}
+use Rattle.nch.specs.Write.{placesRight, all, reducedInRange, reducedIsZero, randomInRange, randomIsZero, anyMark, amrInRange, release6InRange, release7InRange, reducedIsLow}
 use Rattle.nch.proofs.InPlaces.{places-back, places-empty, places-good, all-both, items-fit, told-all, told-places, told-back}
-
--- ## Flags, and what stands behind them
-
-pub flag-fits : (h : Bool) (v w : ℕ) → flaggedRight h v (2 ^ w) ≡ true → optFits (num w) (there h v)
-flag-fits true v w e = ltb-true v (2 ^ w) e
-flag-fits false v w e = tt
-
-pub fits-flag : (o : Option ℕ) (w : ℕ) → optFits (num w) o → flaggedRight (isThere o) (orZero o) (2 ^ w) ≡ true
-fits-flag none w f = refl
-fits-flag (some v) w f = lt-ltb v (2 ^ w) f
-
-pub flag-zero : (h : Bool) (v n : ℕ) → flaggedRight h v n ≡ true → orZero (there h v) ≡ v
-flag-zero true v n e = refl
-flag-zero false v n e = sym (eqb-true v 0 e)
-
--- a flag that is not set has 0 behind it
-flag-none : (h : Bool) (v n : ℕ) → h ≡ false → flaggedRight h v n ≡ true → 0 ≡ v
-flag-none true v n o e = absurd (let z : _≡_ {A = ℕ} 0 1 = cc in omega arith)
-flag-none false v n o e = sym (eqb-true v 0 e)
-
-bit-fits : (h b : Bool) → optFits (num 1) (there h (asBit b))
-bit-fits true b = flag-lt b
-bit-fits false b = tt
-
-behind-none : (h b : Bool) → h ≡ false → behind h b ≡ true → b ≡ false
-behind-none true b o e = absurd (let z : _≡_ {A = ℕ} 0 1 = cc in omega arith)
-behind-none false b o e = not-true b e
-
-behind-bit : (h b : Bool) → behind h b ≡ true → orFalse (there h (asBit b)) ≡ b
-behind-bit true b e = flag-back b
-behind-bit false b e = sym (not-true b e)
-
-bit-behind : (o : Option ℕ) → behind (isThere o) (orFalse o) ≡ true
-bit-behind none = refl
-bit-behind (some b) = refl
-
-bit-value : (o : Option ℕ) → optFits (num 1) o → there (isThere o) (asBit (orFalse o)) ≡ o
-bit-value none f = refl
-bit-value (some b) f = ap some (bit-back b f)
 
 -- ## A reduced reference
 

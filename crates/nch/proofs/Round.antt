@@ -3,9 +3,9 @@ use mathlib.Core.Path.{_≡_, refl, sym, ap, _∙_, subst}
 use mathlib.Core.List.{List, [], _∷_, _++_}
 use mathlib.Core.Bool.{Bool, true, false}
 use mathlib.Core.Option.{Option, none, some}
-use Prim.Native.Nat.{ℕ, _+_, _-_, _*_, _/_, _%_, _^_, _≤_, _<_}
+use Prim.Native.Nat.{ℕ, _+_, _*_, _≤_, _<_}
 use native.Mathlib.Omega.{arith}
-use lib.ListN.{length, replicate, length-append, getD-replicate}
+use lib.ListN.{length, replicate, length-append}
 use lib.Dec.{leb, eqb}
 use borrow.Author.Tests.{leb-true, le-leb, eqb-true, eq-eqb}
 use Rattle.bits.specs.Field.{pick, bit}
@@ -16,6 +16,7 @@ use Rattle.csn1.proofs.Holding.{length-put, bit-put-above, holds-put}
 use Rattle.csn1.proofs.Lawful.{length-row}
 use Rattle.csn1.proofs.Promises.{lawful, round}
 use Rattle.csn1.proofs.Lists.{items-many}
+use Rattle.csn1.proofs.Putting.{padding-bit}
 use Rattle.bits.proofs.Answers.{both-true}
 use Rattle.csn1.proofs.Telling.{picked, handed-on}
 use Rattle.call.specs.Call.{callGrammar, groupCall}
@@ -49,14 +50,10 @@ pub written-holds : (m : Notification) → length (form m) ≤ 160 → Holds (wr
 unfolding written
 written-holds m h = holds-put (replicate 20 43) 0 (form m) (form-binary m) (omega arith)
 
-padding-bit : (k : ℕ) → k < 160 → bit (replicate 20 43) k ≡ padBit k
-unfolding bit padBit
-padding-bit k h = ap (λ (o : ℕ). o / 2 ^ (7 - k % 8) % 2) (getD-replicate 20 (k / 8) 43 0 (omega arith))
-
 -- and padding behind it
 pub written-padding : (m : Notification) (k : ℕ) → length (form m) ≤ k → k < 160 → bit (written m) k ≡ padBit k
 unfolding written
-written-padding m k h l = bit-put-above (replicate 20 43) 0 (form m) k (form-binary m) (omega arith) ∙ padding-bit k l
+written-padding m k h l = bit-put-above (replicate 20 43) 0 (form m) k (form-binary m) (omega arith) ∙ padding-bit 20 k l
 
 -- the writer accepts what is right, where its form is not too long, and nothing else
 pub accepted : (m : Notification) → writeNumber m 20 ≡ 0 → Right m × (length (form m) ≤ 160)

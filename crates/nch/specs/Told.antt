@@ -6,7 +6,7 @@ use mathlib.Core.Option.{Option, none, some}
 use Prim.Native.Nat.{ℕ}
 use lib.ListN.{length, take}
 use Rattle.csn1.specs.Format.{Res, ok, bad, noRefusal}
-use Rattle.csn1.specs.Told.{isThere, orZero, there, isOne, asBit, padded}
+use Rattle.csn1.specs.Told.{isThere, orZero, there, isOne, asBit, orFalse, padded}
 use Rattle.call.specs.Call.{callReference, serviceFlag, callOf, callValue, noCall}
 use Rattle.nch.specs.Places.{mostCalls, mostReduceds, mostRandoms, mostMarks}
 use Rattle.nch.specs.Octets.{segmentId, vstkRand, Release6Value, cellGlobalCount, reducedReferences, randomEntries}
@@ -18,11 +18,6 @@ use Rattle.nch.specs.declared.Release6.{Release6}
 use Rattle.nch.specs.declared.Release7.{Release7}
 use Rattle.nch.specs.declared.Notification.{Notification}
 use Rattle.nch.specs.declared.Reading.{Reading}
-
--- a flag that may be missing
-abbrev pub orFalse : Option ℕ → Bool
-orFalse none = false
-orFalse (some b) = isOne b
 
 -- ## Release 6
 

@@ -1,11 +1,12 @@
 -- What the writer of NT/N Rest Octets refuses, in document 01's order, and the octets that it leaves. Assumes nothing.
 use mathlib.Core.List.{List, [], _∷_, _++_}
-use mathlib.Core.Bool.{Bool, true, false, not}
+use mathlib.Core.Bool.{Bool, true, not}
 use Prim.Native.Nat.{ℕ, zero, suc, _+_, _^_}
 use lib.ListN.{length, take, replicate}
 use lib.Dec.{leb, ltb, eqb}
 use Rattle.bits.specs.Field.{both, pick, firstDue}
 use Rattle.csn1.specs.Format.{putBits}
+use Rattle.csn1.specs.Write.{flaggedRight, behind}
 use Rattle.call.specs.Call.{ciphered}
 use Rattle.call.specs.declared.Call.{Call}
 use Rattle.call.specs.Write.{callInRange, callIsZero, callIsLow, callLengthRight, callHopsRight}
@@ -30,16 +31,6 @@ placesRight good zeroed (suc n) (a ∷ l) = both (good a) (placesRight good zero
 unfoldable pub all : {A : Type 0} → (A → Bool) → List A → Bool
 all t [] = true
 all t (a ∷ l) = both (t a) (all t l)
-
--- a number behind a flag: below its limit, and 0 where the flag is not set
-abbrev pub flaggedRight : Bool → ℕ → ℕ → Bool
-flaggedRight true v n = ltb v n
-flaggedRight false v n = eqb v 0
-
--- a bit behind a flag
-abbrev pub behind : Bool → Bool → Bool
-behind true b = true
-behind false b = not b
 
 -- ## 12: a field out of its range, or anything but zero in an absent part or an unused place
 

@@ -8,10 +8,11 @@ use lib.ListN.{take}
 use lib.Dec.{leb}
 use borrow.Author.Tests.{leb-true}
 use Rattle.bits.specs.Field.{pick}
+use Rattle.csn1.specs.Write.{flaggedRight}
 use Rattle.call.specs.Write.{callInRange, callIsZero}
 use Rattle.nch.specs.declared.Notification.{Notification}
 use Rattle.nch.specs.Octets.{count}
-use Rattle.nch.specs.Write.{inRange, release6InRange, flaggedRight, placesRight}
+use Rattle.nch.specs.Write.{inRange, release6InRange, placesRight}
 use Rattle.bits.proofs.Answers.{both-true}
 
 -- no more pass a test than were tested

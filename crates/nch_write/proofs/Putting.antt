@@ -1,14 +1,14 @@
 -- What the writer's loops and flags put: an item of each list behind its 1, and the numbers that are put as one. Assumes nothing.
-use mathlib.Core.Path.{_≡_, sym, ap, _∙_}
+use mathlib.Core.Path.{_≡_, sym, _∙_}
 use mathlib.Core.List.{List, [], _∷_}
-use mathlib.Core.Bool.{Bool, true, false, not}
+use mathlib.Core.Bool.{Bool, true, false}
 use Prim.Native.Nat.{ℕ, zero, suc, _+_, _*_, _^_, _≤_, _<_}
 use native.Mathlib.Omega.{arith}
 use lib.ListN.{length, getD, take, replicate}
 use lib.Dec.{leb, eqb}
-use borrow.Author.Tests.{ltb-true, leb-true, eqb-true, le-leb, lt-leb, eq-eqb, ne-eqb}
-use Rattle.bits.specs.Field.{both, pick, afterPut}
-use Rattle.csn1.specs.Format.{num, numBits, _⨟_, opt, putBits}
+use borrow.Author.Tests.{le-leb, lt-leb, eq-eqb, ne-eqb}
+use Rattle.bits.specs.Field.{afterPut}
+use Rattle.csn1.specs.Format.{num, numBits, _⨟_, opt}
 use Rattle.csn1.specs.Grammar.{format}
 use Rattle.csn1.specs.Inner.{Put}
 use Rattle.csn1.specs.Told.{there, asBit}
@@ -16,19 +16,19 @@ use Rattle.bits.proofs.Answers.{both-true}
 use Rattle.csn1.proofs.Writing.{flag-lt}
 use Rattle.csn1.proofs.Putting.{Laid, laid-then, laid-row, laid-bit, laid, bits}
 use Rattle.call.specs.declared.Call.{Call}
-use Rattle.call.specs.Call.{groupCall, callValue, oneToEight}
-use Rattle.call.specs.Write.{callInRange, callIsLow, callLengthRight, callHopsRight, callSize, canPutCall, afterPutCall}
-use Rattle.call.proofs.Laws.{call-anywhere, sizeFrom, call-size}
+use Rattle.call.specs.Call.{groupCall, callValue}
+use Rattle.call.specs.Write.{callSize, afterPutCall}
+use Rattle.call.proofs.Put.{call-laid}
 use Rattle.nch.specs.declared.Reduced.{Reduced}
 use Rattle.nch.specs.declared.Random.{Random}
 use Rattle.nch.specs.declared.Notification.{Notification}
 use Rattle.nch.specs.Octets.{reduced, random, notification}
 use Rattle.nch.specs.Told.{reducedValue, randomValue, valueOf}
-use Rattle.nch.specs.Write.{all, flaggedRight, recordRefusal, form, formFits, writeNumber, written, afterWrite}
+use Rattle.nch.specs.Write.{all, recordRefusal, form, formFits, writeNumber, written, afterWrite}
 use Rattle.nch.specs.Inner.{callRight}
 use Rattle.nch.proofs.Record.{one-more}
 
--- ## What the places and flags say
+-- ## What the places say
 
 pub all-at : {A : Type 0} (t : A → Bool) (z : A) (xs : List A) (n i : ℕ) → all t (take n xs) ≡ true → i < n → n ≤ length xs → t (getD xs i z) ≡ true
 unfolding all
@@ -36,10 +36,6 @@ all-at t z [] n i e h l = absurd (omega arith)
 all-at t z (x ∷ xs) zero i e h l = absurd (omega arith)
 all-at t z (x ∷ xs) (suc n) zero e h l = both-true (t x) (all t (take n xs)) e .0
 all-at t z (x ∷ xs) (suc n) (suc i) e h l = all-at t z xs n i (both-true (t x) (all t (take n xs)) e .1) (omega arith) (omega arith)
-
-pub flag-limit : (h : Bool) (v n : ℕ) → flaggedRight h v n ≡ true → 0 < n → v < n
-flag-limit true v n e k = ltb-true v n e
-flag-limit false v n e k = omega (arith, eqb-true v 0 e)
 
 -- ## Numbers put as one, behind the leading 1
 
@@ -71,36 +67,9 @@ module _ (b d : List ℕ) (p : ℕ) (size : length b * 8 ≡ 160) where
 
 -- ## A call
 
--- k bits at p, put by `call::writer::put`
-call-laid : (b d : List ℕ) (p : ℕ) (c : Call) → length b ≡ 20 → callRight c ≡ true → d ≡ afterPutCall b p c → Laid 160 p (groupCall .bits 160 p (callValue c)) (p + callSize c) b d
-unfolding callSize canPutCall afterPutCall
-call-laid b d p c n r e =
-    record {
-      next = ap (λ (x : List ℕ). p + length x) (sym (call-anywhere 160 p (callValue c)));
-      same =
-          λ h.
-          e ∙ rw (r, le-leb (length b) 4096 (omega arith), le-leb (p + length (groupCall .bits 0 0 (callValue c))) (length b * 8) (omega arith))
-          (ap (putBits b p) (sym (call-anywhere 160 p (callValue c))));
-    }
-
 pub call-put : (b d e : List ℕ) (p : ℕ) (c : Call) → length b ≡ 20 → length d ≡ 20 → callRight c ≡ true → d ≡ afterPut b p 1 1 → e ≡ afterPutCall d (p + 1) c
     → Laid 160 p (1 ∷ groupCall .bits 160 (p + 1) (callValue c)) (p + 1 + callSize c) b e
-call-put b d e p c n m r x y = laid-then (laid-bit b d p (omega arith) 1 x (omega arith)) (call-laid d e (p + 1) c m r y)
-
-pub call-short : (c : Call) → callRight c ≡ true → callSize c ≤ 135
-unfolding callLengthRight
-call-short c r =
-    let a = both-true (callInRange c) _ r in
-    let b = both-true (callIsLow c) _ (a .1) in
-    rw (call-size c) (go (c .hasDescription) (c .description .hopping) (c .description .shortlist) (both-true (callLengthRight c) (callHopsRight c) (b .1) .0))
-  where
-    go : (d h s : Bool) → pick (both d (both h (not s))) (oneToEight (c .description .length)) true ≡ true → sizeFrom d h s (c .description .length) ≤ 135
-    go false h s e = omega arith
-    go true false s e = omega arith
-    go true true true e = omega arith
-    go true true false e =
-        let n = c .description .length in
-        omega (arith, leb-true n 8 (both-true (leb 1 n) (leb n 8) e .1))
+call-put b d e p c n m r x y = laid-then (laid-bit b d p (omega arith) 1 x (omega arith)) (call-laid c r d e (p + 1) (omega arith) (omega arith) y)
 
 -- ## What `write` answers
 

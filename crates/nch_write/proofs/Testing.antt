@@ -1,13 +1,12 @@
 -- What a loop that tests the places of a list goes by: the places that are left decide the rest. Assumes nothing.
 use mathlib.Core.Path.{_≡_, refl, sym, ap, _∙_}
 use mathlib.Core.List.{List, [], _∷_}
-use mathlib.Core.Bool.{Bool, true, false, not}
+use mathlib.Core.Bool.{Bool, true, false}
 use Prim.Native.Nat.{ℕ, zero, suc, _+_, _-_, _≤_, _<_}
 use native.Mathlib.Numerals.{add-one}
 use native.Mathlib.Omega.{arith}
 use lib.ListN.{length, getD, take, drop, drop-of-length-le}
 use lib.Seq.{drop-cons}
-use borrow.Author.Tests.{not-true, not-false}
 use Rattle.bits.specs.Field.{both}
 use Rattle.nch.specs.Write.{placesRight, all}
 
@@ -20,13 +19,6 @@ both-yes false = refl
 both-assoc : (a b c : Bool) → both a (both b c) ≡ both (both a b) c
 both-assoc true b c = refl
 both-assoc false b c = refl
-
--- what a test `!f(x)` says of the answer that f must give
-pub fails : {a b : Bool} → not a ≡ true → a ≡ b → b ≡ false
-fails {a} n e = sym e ∙ not-true a n
-
-pub passes : {a b : Bool} → not a ≡ false → a ≡ b → b ≡ true
-passes {a} n e = sym e ∙ not-false a n
 
 -- ## What is left
 

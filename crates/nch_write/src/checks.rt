@@ -2,37 +2,17 @@
 ghost use mathlib.Core.Path.{_≡_};
 ghost use mathlib.Core.Bool.{not};
 ghost use lib.ListN.{take};
-ghost use Rattle.bits.specs.Field.{both};
 ghost use Rattle.call.specs.Write.{callInRange, callIsZero, callIsLow, callLengthRight, callHopsRight};
-ghost use Rattle.nch.specs.Write.{placesRight, all, flaggedRight, behind, reducedInRange, reducedIsZero, reducedIsLow, randomInRange, randomIsZero, anyMark, release6InRange, flagsInRange, release7InRange, inRange, recordRefusal};
+ghost use Rattle.nch.specs.Write.{placesRight, all, reducedInRange, reducedIsZero, reducedIsLow, randomInRange, randomIsZero, anyMark, release6InRange, flagsInRange, release7InRange, inRange, recordRefusal};
 use crate::calls;
 use call::Call;
+use csn1::writer;
 use nch::Notification;
 use nch::Random;
 use nch::Reduced;
 use nch::Release6;
 use nch::Release7;
 use nch::places;
-
-// A number behind a flag: below its limit, and 0 where the flag is not set.
-fn flagged_right(there: bool, v: u64, limit: u64) -> bool
-    ensures { λ r. ⌜ r ≡ flaggedRight there v limit ⌝ }
-{
-    if there {
-        return v < limit;
-    }
-    v == 0
-}
-
-// A bit behind a flag: not set where the flag is not.
-fn bit_right(there: bool, b: bool) -> bool
-    ensures { λ r. ⌜ r ≡ behind there b ⌝ }
-{
-    if there {
-        return true;
-    }
-    !b
-}
 
 fn calls_in_range(calls: [Call; places::MOST_CALLS], n: usize) -> bool
     ensures { λ r. ⌜ r ≡ placesRight callInRange callIsZero n calls ⌝ }
@@ -102,7 +82,7 @@ fn randoms_in_range(items: [Random; places::MOST_RANDOMS], n: usize) -> bool
     while i < places::MOST_RANDOMS {
         let c = items[i];
         if i < n {
-            if !flagged_right(c.hasRandom, c.rand, 68719476736) {
+            if !writer::flagged_right(c.hasRandom, c.rand, 68719476736) {
                 return false;
             }
         } else {
@@ -151,7 +131,7 @@ fn release6_in_range(r: Release6) -> bool
             return false;
         }
     }
-    if !flagged_right(r.hasCount, r.cellcount as u64, 4) {
+    if !writer::flagged_right(r.hasCount, r.cellcount as u64, 4) {
         return false;
     }
     let reduced = r.reduced;
@@ -166,25 +146,25 @@ fn release6_in_range(r: Release6) -> bool
 fn flags_in_range(r: Release7) -> bool
     ensures { λ b. ⌜ b ≡ flagsInRange r ⌝ }
 {
-    if !bit_right(r.hasUplink, r.uplink) {
+    if !writer::bit_right(r.hasUplink, r.uplink) {
         return false;
     }
-    if !bit_right(r.hasAmr, r.hasFullrate) {
+    if !writer::bit_right(r.hasAmr, r.hasFullrate) {
         return false;
     }
-    if !bit_right(r.hasAmr, r.hasHalfrate) {
+    if !writer::bit_right(r.hasAmr, r.hasHalfrate) {
         return false;
     }
-    if !flagged_right(r.hasFullrate, r.fullrate as u64, 16) {
+    if !writer::flagged_right(r.hasFullrate, r.fullrate as u64, 16) {
         return false;
     }
-    if !flagged_right(r.hasHalfrate, r.halfrate as u64, 16) {
+    if !writer::flagged_right(r.hasHalfrate, r.halfrate as u64, 16) {
         return false;
     }
-    if !bit_right(r.hasSms, r.confidential) {
+    if !writer::bit_right(r.hasSms, r.confidential) {
         return false;
     }
-    bit_right(r.hasSms, r.private)
+    writer::bit_right(r.hasSms, r.private)
 }
 
 fn release7_in_range(r: Release7) -> bool
@@ -221,7 +201,7 @@ pub fn in_range(m: Notification) -> bool
     if places::MOST_CALLS < m.callcount {
         return false;
     }
-    if !flagged_right(m.hasNln, m.nln as u64, 4) {
+    if !writer::flagged_right(m.hasNln, m.nln as u64, 4) {
         return false;
     }
     let calls = m.calls;
@@ -243,15 +223,6 @@ struct Tested {
     hops: bool,
 }
 
-fn both_hold(a: bool, b: bool) -> bool
-    ensures { λ r. ⌜ r ≡ both a b ⌝ }
-{
-    if a {
-        return b;
-    }
-    false
-}
-
 fn calls_tested(calls: [Call; places::MOST_CALLS], n: usize) -> Tested
     ensures { λ r. ⌜ (r .low ≡ all callIsLow (take n calls)) × ((r .lengths ≡ all callLengthRight (take n calls)) × (r .hops ≡ all callHopsRight (take n calls))) ⌝ }
 {
@@ -262,9 +233,9 @@ fn calls_tested(calls: [Call; places::MOST_CALLS], n: usize) -> Tested
     while i < places::MOST_CALLS {
         let c = calls[i];
         if i < n {
-            low = both_hold(low, call::writer::is_low(c));
-            lengths = both_hold(lengths, call::writer::length_right(c));
-            hops = both_hold(hops, call::writer::hops_right(c));
+            low = writer::both_hold(low, call::writer::is_low(c));
+            lengths = writer::both_hold(lengths, call::writer::length_right(c));
+            hops = writer::both_hold(hops, call::writer::hops_right(c));
         }
         i += 1;
     }

@@ -3,3 +3,6 @@ pub mod FacchRuns
 pub mod Listed
 pub mod Promises
 pub mod FacchBack
+pub mod FacchFits
+pub mod FacchInLimits
+pub mod FacchAgain

@@ -36,7 +36,7 @@ pub all-have-their-places : All-have-their-places
 all-have-their-places = (length-all, facch.length-all)
 
 facch-zeros : (r : Res facch-message.Value) → (facch-told.readingOf r .refusal .number ≡ 0 → ⊥)
-    → facch-told.readingOf r .used ∷ facch-numbers.numbersOf (facch-told.readingOf r .«record») ≡ replicate 22 0
+    → facch-told.readingOf r .used ∷ facch-numbers.numbersOf (facch-told.readingOf r .«record») ≡ replicate 30 0
 unfolding facch-numbers.numbersOf callNumbers
 facch-zeros (bad r) h = refl
 facch-zeros (ok v q) h = absurd (h refl)

@@ -2,3 +2,4 @@
 mod limits;
 pub mod on_facch;
 pub mod on_nch;
+mod places;

@@ -1,12 +1,12 @@
-// The largest number of each field of NT/N Rest Octets, in the order of the record's numbers.
+// The largest number of each field of both notifications, in the order of the record's numbers.
 
 use arrays::limits::FLAG;
 use arrays::limits::LONG;
 use arrays::limits::OCTET;
 use arrays::limits::WORD;
-use nch::places;
 
-pub const MOST: [u64; places::RECORD_LENGTH] = [
+// Of NT/N Rest Octets.
+pub const NCH_MOST: [u64; nch::places::RECORD_LENGTH] = [
     // NLN there, NLN, how many calls
     FLAG,
     OCTET,
@@ -121,6 +121,44 @@ pub const MOST: [u64; places::RECORD_LENGTH] = [
     OCTET,
     FLAG,
     OCTET,
+    FLAG,
+    FLAG,
+    FLAG,
+];
+
+// Of NOTIFICATION/FACCH.
+pub const FACCH_MOST: [u64; crate::places::RECORD_LENGTH] = [
+    // a call or paging
+    FLAG,
+    // the call
+    WORD,
+    FLAG,
+    FLAG,
+    OCTET,
+    OCTET,
+    FLAG,
+    WORD,
+    FLAG,
+    FLAG,
+    OCTET,
+    LONG,
+    // length of the mobile identity, its first octet, its other octets, channel first, eMLPP priority there, eMLPP priority
+    OCTET,
+    OCTET,
+    LONG,
+    OCTET,
+    FLAG,
+    OCTET,
+    // Release 6 there, count there, CELL_GLOBAL_COUNT, B22_COUNT, VSTK_RAND there, VSTK_RAND
+    FLAG,
+    FLAG,
+    OCTET,
+    FLAG,
+    FLAG,
+    LONG,
+    // Release 7 there, Priority Uplink Access, emergency, Paging Cause there, Paging Cause
+    FLAG,
+    FLAG,
     FLAG,
     FLAG,
     FLAG,

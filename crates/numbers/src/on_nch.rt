@@ -25,7 +25,7 @@ pub fn write(numbers: &[u64], octets: &mut [u8]) -> u8
     if numbers.len() != places::LENGTH {
         return 13;
     }
-    if !arrays::limits::holds(&numbers[places::NUMBERED..], &limits::MOST) {
+    if !arrays::limits::holds(&numbers[places::NUMBERED..], &limits::NCH_MOST) {
         return 12;
     }
     let m = nch::numbers::record_from(numbers);

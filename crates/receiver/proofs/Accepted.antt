@@ -8,13 +8,15 @@ use lib.Dec.{leb}
 use lib.ListN.{length, take, length-append}
 use borrow.Author.Tests.{ltb-true}
 use Rattle.csn1.specs.Told.{padded}
+use Rattle.csn1.specs.Write.{flaggedRight}
 use Rattle.bits.proofs.Answers.{both-true}
+use Rattle.bits.specs.Field.{pick}
 use Rattle.csn1.proofs.Telling.{picked}
 use Rattle.nch.specs.declared.Notification.{Notification}
 use Rattle.nch.specs.Told.{readOf}
 use Rattle.facch.specs.declared.Notification.{Notification as Message}
 use Rattle.facch.specs.Told.{readOf as readFacch}
-use Rattle.nch.specs.Write.{callsOf, flaggedRight, inRange, writeNumber}
+use Rattle.nch.specs.Write.{callsOf, inRange, writeNumber}
 use Rattle.pch.specs.declared.Entry.{Entry}
 use Rattle.pch.specs.Entry.{readOf as readPch}
 use Rattle.nch.proofs.Promises.{writing-gives-back-what-was-read, places-are-enough}
@@ -22,7 +24,7 @@ use Rattle.receiver.specs.declared.Record.{Record}
 use Rattle.receiver.specs.declared.Slot.{Slot}
 use Rattle.receiver.specs.declared.Cell.{Cell}
 use Rattle.receiver.specs.Model.{noNln, mapAt}
-use Rattle.receiver.specs.Entries.{callEntry, reducedEntry, nchEntries, facchEntries, pchEntries}
+use Rattle.receiver.specs.Entries.{callEntry, reducedEntry, nchEntries, facchEntry, facchEntries, pchEntries}
 use Rattle.receiver.specs.Step.{mostEntries, Happening, heardNch, heardFacch, heardPch, joins, moves, bitIs, passes, Cause, nothing, joining, paged, moving}
 use Rattle.receiver.specs.Step.{numbered, numbering, contentOf, groundsOf, slotsAfter, allTold, noTold}
 use Rattle.receiver.proofs.Loops.{length-mapAt}
@@ -84,9 +86,14 @@ nch-few m h k =
       take-le (m .release6 .reducedcount) (m .release6 .reduced),
     )
 
+-- b: the message pages somebody
 facch-few : (m : Message) → length (facchEntries m) ≤ mostEntries
 unfolding facchEntries
-facch-few m = omega arith
+facch-few m = go (m .paging)
+  where
+    go : (b : Bool) → length (pick b [] (facchEntry m ∷ [])) ≤ mostEntries
+    go true = omega arith
+    go false = omega arith
 
 pch-few : (p : Entry) → length (pchEntries p) ≤ mostEntries
 unfolding pchEntries

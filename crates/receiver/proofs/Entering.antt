@@ -19,12 +19,13 @@ use Rattle.receiver.specs.declared.Told.{Told}
 use Rattle.receiver.specs.declared.Met.{Met}
 use Rattle.receiver.specs.declared.Rule.{Rule}
 use Rattle.receiver.specs.declared.Cell.{Cell}
+use Rattle.receiver.specs.declared.Paged.{Paged}
 use Rattle.receiver.specs.Channels.{keyCount, placeOn, Channel, hasNln, numberOf}
 use Rattle.receiver.specs.declared.messages.Entries.{Entries}
 use Rattle.receiver.proofs.Accepted.{few, take-padded, length-told}
 use Rattle.receiver.proofs.Loops.{padded-snoc}
 use Rattle.receiver.specs.declared.Answer.{Answer}
-use Rattle.receiver.specs.Model.{noRecord, emptySlot, late, keyOf, keysOf, indexOf, sweptSlots, expiredOf, droppedOf, meetOf, ruleFor, remade, withSlots}
+use Rattle.receiver.specs.Model.{noRecord, noPaged, emptySlot, late, keyOf, keysOf, indexOf, sweptSlots, expiredOf, droppedOf, meetOf, ruleFor, remade, withSlots}
 use Rattle.receiver.specs.Step.{mostEntries, entriesIn, Event, Happening, numbering, contentOf, changes, cellAfter, ruleBy, setAt, toldAs, toldOnly, toldOf, slotsAfter, allAfter}
 use Rattle.receiver.specs.Step.{allTold, noTold, groundsOf, refusalOf, refusedWith, acceptedWith, acceptedAs, stepOf}
 
@@ -118,19 +119,24 @@ module _ (r : Receiver) (e : Event) where
 
 -- one sweep, the new tick and what is known of the cell, then all entries
 module _ (r : Receiver) (now ch : ℕ) (cell : Cell) (rule : Rule) (es : List Record) where
-  abbrev whole : Refusal → ℕ → ℕ → ℕ → List Told → Receiver → Answer
-  whole w x d n entries after =
-      record { refusal = w; expired = x; dropped = d; count = n; entries = entries; receiver = after }
+  abbrev whole : Refusal → ℕ → ℕ → ℕ → List Told → Paged → Receiver → Answer
+  whole w x d n entries p after =
+      record { refusal = w; expired = x; dropped = d; count = n; entries = entries; paged = p; receiver = after }
 
   -- the receiver as the entries find it
   abbrev met : Receiver → Receiver
   met swept = remade swept (swept .slots) now cell
 
-  pub accepted-told : {w : Refusal} {x d n : ℕ} {swept : Receiver} {entries : List Told} {after : Receiver} → w ≡ noRefusal
+  pub accepted-told : {w : Refusal} {x d n : ℕ} {swept : Receiver} {entries : List Told} {p : Paged} {after : Receiver} → w ≡ noRefusal
       → swept ≡ withSlots r (sweptSlots r now rule) → x ≡ expiredOf r now (r .slots) → d ≡ droppedOf r now rule → n ≡ length es
       → entries ≡ padded noTold mostEntries (allTold (keysOf swept) (swept .sets) cell ch now (swept .slots) es) → after ≡ withSlots (met swept) (allAfter (keysOf swept) ch now (swept .slots) es)
-      → whole w x d n entries after ≡ acceptedWith r now rule cell ch es
-  accepted-told ew es₀ ex ed en et ea = rw (et, ea, ew, ex, ed, en, es₀)
+      → p ≡ noPaged → whole w x d n entries p after ≡ acceptedWith r now rule cell ch es noPaged
+  accepted-told ew es₀ ex ed en et ea ep = rw (et, ea, ew, ex, ed, en, ep, es₀)
+
+-- an answer that says who is paged
+abbrev pub paging : Answer → Paged → Answer
+paging a p =
+    record { refusal = a .refusal; expired = a .expired; dropped = a .dropped; count = a .count; entries = a .entries; paged = p; receiver = a .receiver }
 
 -- an event against a receiver; b: whether it is late, as was tested. The clock goes before the rest.
 module _ (r : Receiver) (t : ℕ) (h : Happening) {b : Bool} (q : b ≡ late t (r .tick)) where
@@ -150,11 +156,11 @@ module _ (r : Receiver) (t : ℕ) (h : Happening) {b : Bool} (q : b ≡ late t (
       pub is-few : e .count ≤ mostEntries
       is-few = rw x (few h z)
 
-      -- the rule, the cell and the entries are those of what is in the event
-      pub is-accepted : {rule : Rule} {cell : Cell} → rule ≡ ruleBy r (contentOf h .cause) → cell ≡ cellAfter (r .cell) (contentOf h .cause) (contentOf h .news)
-          → acceptedWith r t rule cell (numberOf (contentOf h .channel)) (take (e .count) (e .items)) ≡ stepOf r event
+      -- the rule, the cell, the entries and who is paged are those of what is in the event
+      pub is-accepted : {rule : Rule} {cell : Cell} {p : Paged} → rule ≡ ruleBy r (contentOf h .cause) → cell ≡ cellAfter (r .cell) (contentOf h .cause) (contentOf h .news)
+          → p ≡ contentOf h .paged → acceptedWith r t rule cell (numberOf (contentOf h .channel)) (take (e .count) (e .items)) p ≡ stepOf r event
       unfolding refusalOf
-      is-accepted a c = rw (a, c, x, take-padded noRecord mostEntries (contentOf h .entries) (few h z)) (step-accepted r event (rw (sym q ∙ l) z))
+      is-accepted a c d = rw (a, c, d, x, take-padded noRecord mostEntries (contentOf h .entries) (few h z)) (step-accepted r event (rw (sym q ∙ l) z))
 
 -- a message's NLN; b: there is one
 pub numbering-rule : (r : Receiver) (b : Bool) (n : ℕ) → ruleFor (λ (c : Channel). both (hasNln c) (both b (changes (r .cell) n))) keyCount ≡ ruleBy r (numbering b n)

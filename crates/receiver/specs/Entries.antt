@@ -17,8 +17,9 @@ use Rattle.facch.specs.declared.Notification.{Notification as Message}
 use Rattle.pch.specs.declared.Entry.{Entry}
 use Rattle.receiver.specs.declared.Common.{Common}
 use Rattle.receiver.specs.declared.Record.{Record}
+use Rattle.receiver.specs.declared.Paged.{Paged}
 use Rattle.receiver.specs.declared.messages.Owned.{Owned}
-use Rattle.receiver.specs.Model.{mapAt}
+use Rattle.receiver.specs.Model.{noPaged, mapAt}
 
 -- ## NCH
 
@@ -133,8 +134,13 @@ facchEntry m =
       common = facchCommon m;
     }
 
+-- a message that pages somebody has no call
 unfoldable pub facchEntries : Message → List Record
-facchEntries m = facchEntry m ∷ []
+facchEntries m = pick (m .paging) [] (facchEntry m ∷ [])
+
+-- who is paged (document 02, §7); without a Paging Cause a mobile terminating call is assumed, which only a display says
+unfoldable pub pagedOf : Message → Paged
+pagedOf m = pick (m .paging) (record { there = true; page = m .page; hasCause = m .release7 .hasCause; cause = m .release7 .cause }) noPaged
 
 -- ## PCH: its call, without Segment Id, and its count (document 02, §8)
 

@@ -9,6 +9,7 @@ use Rattle.csn1.specs.Format.{noRefusal, ground}
 use Rattle.csn1.specs.Told.{asBit, padded}
 use Rattle.call.specs.declared.Call.{Call}
 use Rattle.call.specs.Call.{noCall, ciphered}
+use Rattle.facch.specs.Told.{noPage}
 use Rattle.receiver.specs.declared.Common.{Common}
 use Rattle.receiver.specs.declared.Record.{Record}
 use Rattle.receiver.specs.declared.Slot.{Slot}
@@ -16,6 +17,7 @@ use Rattle.receiver.specs.declared.Receiver.{Receiver}
 use Rattle.receiver.specs.declared.Cell.{Cell}
 use Rattle.receiver.specs.declared.Rule.{Rule}
 use Rattle.receiver.specs.declared.Met.{Met}
+use Rattle.receiver.specs.declared.Paged.{Paged}
 use Rattle.receiver.specs.declared.Setup.{Setup}
 use Rattle.receiver.specs.declared.Started.{Started}
 use Rattle.pch.specs.Entry.{lastKey as highestKey}
@@ -48,6 +50,10 @@ noRecord = record { full = false; call = noCall; hasSegment = false; segment = f
 
 abbrev pub emptySlot : Slot
 emptySlot = record { half = 0; since = 0; «record» = noRecord }
+
+-- nobody is paged
+abbrev pub noPaged : Paged
+noPaged = record { there = false; page = noPage; hasCause = false; cause = false }
 
 -- an NLN has two bits: this says that none is known
 abbrev pub noNln : ℕ

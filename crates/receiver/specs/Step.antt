@@ -18,14 +18,15 @@ use Rattle.receiver.specs.declared.Told.{Told}
 use Rattle.receiver.specs.declared.Answer.{Answer}
 use Rattle.receiver.specs.declared.Rule.{Rule}
 use Rattle.receiver.specs.declared.Cell.{Cell}
+use Rattle.receiver.specs.declared.Paged.{Paged}
 use Rattle.receiver.specs.declared.Move.{Move}
 use Rattle.receiver.specs.declared.Move.the-variants.{Reselection, Handover, Reconfiguration, LeftIdle}
 use Rattle.receiver.specs.Channels.{keyCount, placeOn, Channel, onNch, onFacch, onPch, numberOf, hasNln, hasPages, drops, forgets, forgetsCount}
 use Rattle.receiver.specs.Count.{noCount, noBit, News, noNews, bits, counting, countingOver, cellWith, followOf, countBeside}
 use Rattle.receiver.specs.declared.Met.{Met}
 use Rattle.receiver.specs.declared.messages.Entries.{Entries}
-use Rattle.receiver.specs.Model.{noRecord, emptySlot, noNln, lastKey, late, keyOf, keysOf, indexOf, ruleFor, sweptSlots, expiredOf, droppedOf, meetOf, remade}
-use Rattle.receiver.specs.Entries.{nchEntries, facchEntries, pchEntries}
+use Rattle.receiver.specs.Model.{noRecord, noPaged, emptySlot, noNln, lastKey, late, keyOf, keysOf, indexOf, ruleFor, sweptSlots, expiredOf, droppedOf, meetOf, remade}
+use Rattle.receiver.specs.Entries.{nchEntries, facchEntries, pagedOf, pchEntries}
 
 -- ## The entries of a message
 
@@ -155,7 +156,7 @@ groundsOf passes = noRefusal
 unfoldable pub refusalOf : Receiver → Event → Refusal
 refusalOf r e = pick (late (e .tick) (r .tick)) (ground 9) (groundsOf (e .happening))
 
--- ## What is in an event: what may discard halves, what it tells of the cell's count, then entries on a channel
+-- ## What is in an event: what may discard halves, what it tells of the cell's count, then entries on a channel, and who is paged
 
 pub data Cause : Type 0 where
   nothing : Cause
@@ -171,6 +172,7 @@ pub record Content : Type 0 where
   pub news : News
   pub channel : Channel
   pub entries : List Record
+  pub paged : Paged
 
 -- b: there is an NLN
 abbrev pub numbering : Bool → ℕ → Cause
@@ -178,7 +180,7 @@ numbering b n = pick b (numbered n) nothing
 
 -- an event without entries
 abbrev pub plainly : Cause → News → Content
-plainly x w = record { cause = x; news = w; channel = onNch; entries = [] }
+plainly x w = record { cause = x; news = w; channel = onNch; entries = []; paged = noPaged }
 
 abbrev pub contentOf : Happening → Content
 contentOf (heardNch s) =
@@ -187,6 +189,7 @@ contentOf (heardNch s) =
       news = counting (readOf s .«record» .release6 .hasCount) (readOf s .«record» .release6 .cellcount);
       channel = onNch;
       entries = nchEntries (readOf s .«record»);
+      paged = noPaged;
     }
 contentOf (heardFacch s) =
     record {
@@ -194,6 +197,7 @@ contentOf (heardFacch s) =
       news = countingOver (readFacch s .«record» .release6 .hasCount) (readFacch s .«record» .release6 .b22) (readFacch s .«record» .release6 .cellcount);
       channel = onFacch;
       entries = facchEntries (readFacch s .«record»);
+      paged = pagedOf (readFacch s .«record»);
     }
 contentOf (heardPch ns) =
     record {
@@ -201,6 +205,7 @@ contentOf (heardPch ns) =
       news = counting (readPch ns .«record» .hasCount) (readPch ns .«record» .cellcount);
       channel = onPch;
       entries = pchEntries (readPch ns .«record»);
+      paged = noPaged;
     }
 contentOf (joins k) = plainly (joining k) noNews
 contentOf (moves m) = plainly (moving m) noNews
@@ -252,22 +257,23 @@ ruleOf r e = ruleBy r (contentOf (e .happening) .cause)
 -- ## The step
 
 abbrev pub refusedWith : Receiver → Refusal → Answer
-refusedWith r w = record { refusal = w; expired = 0; dropped = 0; count = 0; entries = padded noTold mostEntries []; receiver = r }
+refusedWith r w = record { refusal = w; expired = 0; dropped = 0; count = 0; entries = padded noTold mostEntries []; paged = noPaged; receiver = r }
 
 -- the entries are told with what is known of the cell then: the message's own count is taken before
-abbrev pub acceptedWith : Receiver → ℕ → Rule → Cell → ℕ → List Record → Answer
-acceptedWith r now rule cell ch es =
+abbrev pub acceptedWith : Receiver → ℕ → Rule → Cell → ℕ → List Record → Paged → Answer
+acceptedWith r now rule cell ch es p =
     record {
       refusal = noRefusal;
       expired = expiredOf r now (r .slots);
       dropped = droppedOf r now rule;
       count = length es;
       entries = padded noTold mostEntries (allTold (keysOf r) (r .sets) cell ch now (sweptSlots r now rule) es);
+      paged = p;
       receiver = remade r (allAfter (keysOf r) ch now (sweptSlots r now rule) es) now cell;
     }
 
 abbrev pub acceptedAs : Receiver → ℕ → Content → Answer
-acceptedAs r now x = acceptedWith r now (ruleBy r (x .cause)) (cellAfter (r .cell) (x .cause) (x .news)) (numberOf (x .channel)) (x .entries)
+acceptedAs r now x = acceptedWith r now (ruleBy r (x .cause)) (cellAfter (r .cell) (x .cause) (x .news)) (numberOf (x .channel)) (x .entries) (x .paged)
 
 unfoldable pub stepOf : Receiver → Event → Answer
 stepOf r e = pick (eqb (refusalOf r e .number) 0) (acceptedAs r (e .tick) (contentOf (e .happening))) (refusedWith r (refusalOf r e))

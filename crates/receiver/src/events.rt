@@ -5,7 +5,7 @@ ghost use mathlib.Core.Bool.{true};
 ghost use Prim.Native.Nat.{_<_, _≤_};
 ghost use Rattle.bits.specs.Field.{both};
 ghost use Rattle.receiver.specs.Channels.{channels, keyCount, Channel, hasNln, hasPages, drops, forgets, forgetsCount};
-ghost use Rattle.receiver.specs.Model.{keysOf, ruleFor, withSlots};
+ghost use Rattle.receiver.specs.Model.{noPaged, keysOf, ruleFor, withSlots};
 ghost use lib.ListN.{take};
 ghost use Rattle.csn1.specs.Told.{padded};
 ghost use Rattle.receiver.specs.Step.{mostEntries, toldAs, toldOnly, noTold, toldOf, slotsAfter, allAfter, allTold, refusedWith, acceptedWith, changes, numbering, moving};
@@ -135,14 +135,15 @@ fn refused(r: Receiver, refusal: Refusal) -> Answer
         dropped: 0,
         count: 0,
         entries: [no_told(); MOST_ENTRIES],
+        paged: messages::no_paged(),
         receiver: r,
     }
 }
 
-// An accepted event: one sweep, the new tick, what is known of the cell now, then the entries.
+// An accepted event that pages nobody: one sweep, the new tick, what is known of the cell now, then the entries.
 fn accepted(r: Receiver, now: u32, rule: Rule, cell: Cell, ch: usize, e: Entries) -> Answer
     requires { ⌜ (ch < channels) × (e .count ≤ mostEntries) ⌝ }
-    ensures { λ a. ⌜ a ≡ acceptedWith r now rule cell ch (take (e .count) (e .items)) ⌝ }
+    ensures { λ a. ⌜ a ≡ acceptedWith r now rule cell ch (take (e .count) (e .items)) noPaged ⌝ }
 {
     let swept = store::sweep(r, now, rule);
     let mut before = swept.receiver;
@@ -157,13 +158,14 @@ fn accepted(r: Receiver, now: u32, rule: Rule, cell: Cell, ch: usize, e: Entries
         dropped: swept.dropped,
         count: e.count,
         entries,
+        paged: messages::no_paged(),
         receiver: after,
     }
 }
 
 // An event without entries.
 fn plain(r: Receiver, now: u32, rule: Rule, cell: Cell) -> Answer
-    ensures { λ a. ⌜ a ≡ acceptedWith r now rule cell 0 [] ⌝ }
+    ensures { λ a. ⌜ a ≡ acceptedWith r now rule cell 0 [] noPaged ⌝ }
 {
     accepted(r, now, rule, cell, channels::NCH, messages::no_entries())
 }
@@ -347,7 +349,7 @@ impl Receiver {
         )
     }
 
-    // NOTIFICATION/FACCH.
+    // NOTIFICATION/FACCH: a call, or who is paged, which touches no half.
     pub fn facch(self, tick: u32, octets: &[u8]) -> Answer
         ensures { λ a. ⌜ a ≡ stepOf self (facch tick (now (octets .entry))) ⌝ }
     {
@@ -362,14 +364,17 @@ impl Receiver {
         let last = self.cell;
         let six = n.release6;
         let cell = count::taken_over(last, six.hasCount, six.b22, six.cellcount);
-        accepted(
+        let mut a = accepted(
             self,
             tick,
             store::keep(),
             cell,
             channels::FACCH,
             messages::facch_entries(n),
-        )
+        );
+        let paged = messages::paged_of(n);
+        a.paged = paged;
+        a
     }
 
     // An entry of the PCH, as numbers: PCH halves under other keys go, whether the entry's key is subscribed or not.

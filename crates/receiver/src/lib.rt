@@ -105,6 +105,16 @@ pub struct Told {
     pub kept: u8,
 }
 
+// Who was paged, by a message of the FACCH: all zero where nobody was.
+pub struct Paged {
+    pub there: bool,
+    pub page: facch::Page,
+    // Whether Release 7 said a Paging Cause; without one a mobile terminating call is assumed.
+    pub hasCause: bool,
+    // Paging Cause: a short message where true.
+    pub cause: bool,
+}
+
 // A message has at most this many entries: four calls and five reduced references.
 pub const MOST_ENTRIES: usize = 9;
 
@@ -115,6 +125,7 @@ pub struct Answer {
     pub dropped: usize,
     pub count: usize,
     pub entries: [Told; MOST_ENTRIES],
+    pub paged: Paged,
     pub receiver: Receiver,
 }
 

@@ -10,14 +10,16 @@ ghost use Rattle.call.specs.Call.{ciphered};
 ghost use Rattle.nch.specs.Octets.{count};
 ghost use Rattle.nch.specs.Write.{callsOf, isDescribed};
 ghost use Rattle.nch.specs.Owners.{nth, orNot, randomsOf, marksOf};
-ghost use Rattle.receiver.specs.Model.{noRecord, mapAt};
-ghost use Rattle.receiver.specs.Entries.{nchCommon, ownedOf, callWith, reducedWith, callEntry, nchEntries, facchEntry, facchEntries, pchEntry, pchEntries};
+ghost use Rattle.receiver.specs.Model.{noRecord, noPaged, mapAt};
+ghost use Rattle.receiver.specs.Entries.{nchCommon, ownedOf, callWith, reducedWith, callEntry, nchEntries, facchEntry, facchEntries, pagedOf, pchEntry, pchEntries};
 ghost use Rattle.receiver.specs.Step.{mostEntries, entriesIn};
 use crate::Common;
 use crate::MOST_ENTRIES;
+use crate::Paged;
 use crate::Record;
 use crate::meeting;
 use call::Call;
+use facch::Page;
 use nch::Reduced;
 
 // The entries of a message, in order.
@@ -66,14 +68,52 @@ pub fn facch_entry(m: facch::Notification) -> Record
     }
 }
 
-// The entries of a FACCH message: its call.
+// The entries of a FACCH message: its call, and none where it pages somebody.
 pub fn facch_entries(m: facch::Notification) -> Entries
     ensures { λ r. ⌜ r ≡ entriesIn (facchEntries m) ⌝ }
 {
     let mut e = no_entries();
+    if m.paging {
+        return e;
+    }
     e.items[0] = facch_entry(m);
     e.count = 1;
     e
+}
+
+// Nobody is paged.
+pub fn no_paged() -> Paged
+    ensures { λ r. ⌜ r ≡ noPaged ⌝ }
+{
+    Paged {
+        there: false,
+        page: Page {
+            identityLength: 0,
+            identityFirst: 0,
+            identityRest: 0,
+            channelFirst: 0,
+            hasPriority: false,
+            priority: 0,
+        },
+        hasCause: false,
+        cause: false,
+    }
+}
+
+// Who is paged by a FACCH message.
+pub fn paged_of(m: facch::Notification) -> Paged
+    ensures { λ r. ⌜ r ≡ pagedOf m ⌝ }
+{
+    if !m.paging {
+        return no_paged();
+    }
+    let page = m.page;
+    Paged {
+        there: true,
+        page,
+        hasCause: m.release7.hasCause,
+        cause: m.release7.cause,
+    }
 }
 
 // What an entry of the PCH says of its call. A VSTK_RAND is of use to a call that is ciphered, and to a reduced reference that is not marked so it is none.

@@ -62,7 +62,7 @@ unfolding octetsAfter
 mark-stays l e j h =
     by-test (eqb (eventCode l e) 0)
     (λ p. rw p
-    (head-elsewhere _ _ _ _ _ _ (markFrom + j) (omega arith) (λ q. omega arith) (λ q. omega arith)
+    (head-elsewhere _ _ _ _ _ _ _ (markFrom + j) (omega arith) (λ q. omega arith) (omega arith)
     ∙ all-stays (markFrom + j) (omega arith) _ _ _ (e .tick) 0 (contentOf (e .happening) .entries)
     ∙ run-elsewhere (e .tick) _ 0 places l (omega arith) (markFrom + j) (λ q. omega arith) (λ q. omega arith)))
     (λ p. rw p)

@@ -18,7 +18,7 @@ slice-aggregate-show-message : tie.Need-slice-aggregate-show-message
 slice-aggregate-show-message c = simp length-take (omega arith)
 
 show-message-requires : tie.Need-show-message-requires
-show-message-requires c κs = search needs
+show-message-requires c κs = simp length-take (omega arith)
 
 end-requires : tie.Need-end-requires
 end-requires c κs = search needs

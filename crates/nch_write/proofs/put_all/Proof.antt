@@ -2,12 +2,12 @@
 use mathlib.Core.Path.{_∙_}
 use Rattle.csn1.specs.Format.{num, opt, _⨟_, list, release}
 use Rattle.csn1.specs.Grammar.{format}
+use Rattle.csn1.proofs.Flags.{flag-limit}
 use Rattle.csn1.proofs.Putting.{laid, bits, put-both}
 use Rattle.call.specs.Call.{groupCall}
 use Rattle.nch.specs.Octets.{release6, release7, notification}
 use Rattle.nch.proofs.Releases.{range6, range7}
 use Rattle.nch.proofs.Record.{right, calls-right}
-use Rattle.nch_write.proofs.Putting.{flag-limit}
 use native.Mathlib.Omega.{arith}
 use Rattle.nch_write.proofs.put_all.Statement.{statement}
 use Rattle.nch_write.proofs.put_all.Tie as tie

@@ -5,8 +5,9 @@ use Prim.Native.Nat.{_+_, _-_, _*_, _≤_}
 use lib.ListN.{length, getD, take}
 use Rattle.csn1.proofs.Putting.{Items, items-begin, items-next, items-end, used-next, used-end}
 use Rattle.call.specs.Call.{groupCall, callValue, noCall}
+use Rattle.call.proofs.Put.{call-short}
 use Rattle.nch.specs.Inner.{callRight}
-use Rattle.nch_write.proofs.Putting.{all-at, call-put, call-short}
+use Rattle.nch_write.proofs.Putting.{all-at, call-put}
 use native.Mathlib.Omega.{arith}
 use Rattle.nch_write.proofs.put_calls.Statement.{statement}
 use Rattle.nch_write.proofs.put_calls.Tie as tie

@@ -1,4 +1,5 @@
 -- `nch_write::put_randoms` meets its contract. Assumes nothing.
+use Rattle.csn1.proofs.Flags.{flag-limit}
 use Rattle.csn1.proofs.Writing.{flag-lt}
 use mathlib.Core.Path.{_≡_, _∙_}
 use mathlib.Core.List.{map}
@@ -9,7 +10,7 @@ use Rattle.csn1.specs.Grammar.{format}
 use Rattle.nch.specs.Octets.{random}
 use Rattle.nch.specs.Told.{randomValue, noRandom}
 use Rattle.nch.specs.Write.{randomInRange}
-use Rattle.nch_write.proofs.Putting.{all-at, flag-limit, random-put}
+use Rattle.nch_write.proofs.Putting.{all-at, random-put}
 use native.Mathlib.Omega.{arith}
 use Rattle.nch_write.proofs.put_randoms.Statement.{statement}
 use Rattle.nch_write.proofs.put_randoms.Tie as tie

@@ -6,6 +6,7 @@ use lib.ListN.{length}
 use borrow.Author.Tests.{not-true, not-false}
 use Rattle.csn1.specs.Format.{num, opt, _⨟_, list}
 use Rattle.csn1.specs.Grammar.{format}
+use Rattle.csn1.proofs.Flags.{flag-limit}
 use Rattle.csn1.proofs.Putting.{put-low, put-high, put-both, put-inside}
 use Rattle.nch.specs.declared.Release6.{Release6}
 use Rattle.nch.specs.Octets.{reduced, random, release6}
@@ -13,7 +14,6 @@ use Rattle.nch.specs.Told.{release6Value}
 use Rattle.nch.specs.Write.{reducedInRange, reducedIsZero, randomInRange, randomIsZero}
 use Rattle.nch.proofs.InPlaces.{places-good}
 use Rattle.nch.proofs.Releases.{Right6, right6}
-use Rattle.nch_write.proofs.Putting.{flag-limit}
 use native.Mathlib.Omega.{arith}
 use Rattle.nch_write.proofs.put_release6.Statement.{statement}
 use Rattle.nch_write.proofs.put_release6.Tie as tie

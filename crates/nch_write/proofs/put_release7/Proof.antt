@@ -6,13 +6,13 @@ use lib.ListN.{length}
 use borrow.Author.Tests.{not-true, not-false}
 use Rattle.csn1.specs.Format.{num, opt, _⨟_, list}
 use Rattle.csn1.specs.Grammar.{format}
+use Rattle.csn1.proofs.Flags.{flag-limit}
 use Rattle.csn1.proofs.Writing.{flag-lt}
 use Rattle.csn1.proofs.Putting.{put-low, put-high, put-both, put-inside}
 use Rattle.nch.specs.declared.Release7.{Release7}
 use Rattle.nch.specs.Octets.{amr, release7}
 use Rattle.nch.specs.Told.{release7Value}
 use Rattle.nch.proofs.Releases.{Right7, right7}
-use Rattle.nch_write.proofs.Putting.{flag-limit}
 use native.Mathlib.Omega.{arith}
 use Rattle.nch_write.proofs.put_release7.Statement.{statement}
 use Rattle.nch_write.proofs.put_release7.Tie as tie

@@ -47,10 +47,15 @@ no-refusal-requires c κs = search needs
 
 returns-4 : tie.Need-returns-4
 returns-4 c =
-    let u = c .before .before .before .before .before .before .before .before .before .read-coded in
-    let e = c .before .before .before .before .before .before .read-coded2 in
-    let p = c .before .before .before .read-flagged in
-    parts7-told (now (c .before .before .before .before .before .before .before .before .before .before .before .args .s)) (c .before .before .before .before .before .before .before .before .before .before .before .args .at) (c .before .before .before .before .before .before .before .before .before .before .before .pre) (u .result) (u .ensures) (c .before .before .before .before .before .before .before .if1 .left) (e .result) (e .ensures) (c .before .before .before .before .if2 .left) (p .result) (p .ensures) (c .before .if3 .left) (c .no-refusal .result) (c .no-refusal .ensures)
+    let c4 = c .before .before .before .before in
+    let c7 = c4 .before .before .before in
+    let c10 = c7 .before .before .before in
+    let a = c10 .before .before in
+    let u = c10 .read-coded in
+    let e = c7 .read-coded2 in
+    let p = c4 .read-flagged in
+    parts7-told (now (a .args .s)) (a .args .at) (a .pre) (u .result) (u .ensures) (c7 .before .if1 .left) (e .result) (e .ensures) (c4 .before .if2 .left)
+    (p .result) (p .ensures) (c .before .before .if3 .left) (c .before .no-refusal .result) (c .before .no-refusal .ensures)
 
 pub read-parts7-spec : {M : Type 1} → statement M
 read-parts7-spec =

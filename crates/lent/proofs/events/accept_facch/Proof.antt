@@ -1,9 +1,10 @@
 -- `lent::events::accept_facch` meets its contract. Assumes nothing.
 use mathlib.Core.Path.{refl}
+use mathlib.Core.List.{[], _∷_}
 use native.Mathlib.Omega.{arith}
 use borrow.Author.Needs.{needs}
 use Rattle.receiver.specs.Model.{keep}
-use Rattle.receiver.specs.Entries.{facchEntries}
+use Rattle.receiver.specs.Entries.{facchEntry}
 use Rattle.lent.proofs.Feeding.{accepted-by, cell-behind}
 use Rattle.lent.proofs.events.accept_facch.Statement.{statement}
 use Rattle.lent.proofs.events.accept_facch.Tie as tie
@@ -27,7 +28,6 @@ same-length : tie.Need-same-length
 same-length c = search needs
 
 returns : tie.Need-returns
-unfolding facchEntries
 returns c =
     let c2 = c .before .before in
     let c6 = c2 .before .before .before .before in
@@ -39,7 +39,7 @@ returns c =
     let l = a .b .now in
     let s = c13 .pass in
     rw (← cell-behind l (a .time) keep (c17 .pre) _ (s .ensures .1 .1) _ (c9 .cell-of .ensures), ← c8 .taken-over .ensures)
-    (accepted-by l (a .time) keep _ 1 (facchEntries (a .m)) (c17 .pre) (omega arith) _ _ _ _ _ 1 (s .ensures) (omega (arith, s .ok)) (omega (arith, s .ok)) refl
+    (accepted-by l (a .time) keep _ 1 (facchEntry (a .m) ∷ []) (c17 .pre) (omega arith) _ _ _ _ _ 1 (s .ensures) (omega (arith, s .ok)) (omega (arith, s .ok)) refl
     (omega arith) (c6 .tell-facch .ensures) (c2 .put-head .ensures))
 
 pub accept-facch-spec : {M : Type 1} → statement M

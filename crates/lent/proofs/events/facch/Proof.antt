@@ -3,7 +3,7 @@ use mathlib.Core.Path.{refl, sym, ap, _∙_}
 use borrow.Author.Needs.{needs}
 use Rattle.facch.specs.declared.Reading.{Reading}
 use Rattle.receiver.specs.Step.{contentOf, heardFacch, facch}
-use Rattle.lent.proofs.Feeding.{fed-early, whole-then, fed-refused, fed-accepted}
+use Rattle.lent.proofs.Feeding.{fed-early, whole-then, fed-refused, fed-accepted, call-entries, call-paged, page-entries}
 use Rattle.lent.proofs.events.facch.Statement.{statement}
 use Rattle.lent.proofs.events.facch.Tie as tie
 
@@ -40,13 +40,12 @@ returns-2 c =
     fed-refused (a .b .now) (facch (a .time) (a .octets .now)) _ (c4 .early .ensures) (c3 .if1 .left) _ (ap (λ (r : Reading). r .refusal) (c2 .read .ensures))
     (d .if2 .taken) _ (c .code .ensures)
 
-accept-facch-requires : tie.Need-accept-facch-requires
-accept-facch-requires c κs =
-    let c5 = c .before .before .before .before .before in
-    let c6 = c5 .before in
-    let c10 = c6 .before .before .before .before in
-    let a = c10 .args in
-    whole-then (a .b .now) (facch (a .time) (a .octets .now)) _ (c6 .early .ensures) (c5 .if1 .left)
+accept-page-requires : tie.Need-accept-page-requires
+accept-page-requires c κs =
+    let c6 = c .before .before .before .before .before .before in
+    let c7 = c6 .before in
+    let a = c7 .before .before .before .before .args in
+    whole-then (a .b .now) (facch (a .time) (a .octets .now)) _ (c7 .early .ensures) (c6 .if1 .left)
 
 same-length-3 : tie.Need-same-length-3
 same-length-3 c = search needs
@@ -54,17 +53,42 @@ same-length-3 c = search needs
 returns-3 : tie.Need-returns-3
 returns-3 c =
     let c2 = c .before .before in
-    let c5 = c2 .before .before .before in
-    let c7 = c5 .before .before in
-    let c8 = c7 .before in
+    let c4 = c2 .before .before in
+    let c6 = c4 .before .before in
+    let c8 = c6 .before .before in
     let c9 = c8 .before in
-    let c13 = c9 .before .before .before .before in
-    let a = c13 .args in
-    let l = a .b .now in
+    let c10 = c9 .before in
+    let a = c10 .before .before .before .before .args in
     let s = a .octets .now in
-    let r = c7 .read .ensures in
-    fed-accepted l (facch (a .time) s) _ (c9 .early .ensures) (c8 .if1 .left) _ _ _ (sym (ap (λ (x : Reading). x .refusal .number) r) ∙ c5 .if2 .left)
-    (contentOf (heardFacch s)) refl refl refl (rw (← r) (c2 .accept-facch .ensures))
+    let r = c8 .read .ensures in
+    let p = page-entries (c8 .read .result .«record») (c4 .if3 .taken) in
+    fed-accepted (a .b .now) (facch (a .time) s) _ (c10 .early .ensures) (c9 .if1 .left) _ _ _ (sym (ap (λ (x : Reading). x .refusal .number) r) ∙ c6 .if2 .left)
+    (contentOf (heardFacch s)) refl refl refl (rw (← r, p) (c2 .accept-page .ensures))
+
+accept-facch-requires : tie.Need-accept-facch-requires
+accept-facch-requires c κs =
+    let c6 = c .before .before .before .before .before .before in
+    let c7 = c6 .before in
+    let a = c7 .before .before .before .before .args in
+    whole-then (a .b .now) (facch (a .time) (a .octets .now)) _ (c7 .early .ensures) (c6 .if1 .left)
+
+same-length-4 : tie.Need-same-length-4
+same-length-4 c = search needs
+
+returns-4 : tie.Need-returns-4
+returns-4 c =
+    let c2 = c .before .before in
+    let c4 = c2 .before .before in
+    let c6 = c4 .before .before in
+    let c8 = c6 .before .before in
+    let c9 = c8 .before in
+    let c10 = c9 .before in
+    let a = c10 .before .before .before .before .args in
+    let s = a .octets .now in
+    let r = c8 .read .ensures in
+    let m = c8 .read .result .«record» in
+    fed-accepted (a .b .now) (facch (a .time) s) _ (c10 .early .ensures) (c9 .if1 .left) _ _ _ (sym (ap (λ (x : Reading). x .refusal .number) r) ∙ c6 .if2 .left)
+    (contentOf (heardFacch s)) refl refl refl (rw (← r, call-entries m (c4 .if3 .left), call-paged m (c4 .if3 .left)) (c2 .accept-facch .ensures))
 
 pub facch-spec : {M : Type 1} → statement M
 facch-spec =
@@ -77,6 +101,9 @@ facch-spec =
     code-requires
     same-length-2
     returns-2
-    accept-facch-requires
+    accept-page-requires
     same-length-3
-    returns-3)
+    returns-3
+    accept-facch-requires
+    same-length-4
+    returns-4)

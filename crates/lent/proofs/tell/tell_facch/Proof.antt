@@ -5,7 +5,7 @@ use lib.Dec.{lit<}
 use borrow.Author.Needs.{needs}
 use Rattle.receiver.specs.declared.Record.{Record}
 use Rattle.receiver.specs.Model.{keyOf}
-use Rattle.receiver.specs.Entries.{facchEntry, facchEntries}
+use Rattle.receiver.specs.Entries.{facchEntry}
 use Rattle.lent.proofs.Tellings.{all-one-told}
 use Rattle.lent.proofs.Outcomes.{wide-value, telling-other, telling-ours}
 use Rattle.lent.proofs.tell.tell_facch.Statement.{statement}
@@ -24,7 +24,7 @@ same-length : tie.Need-same-length
 same-length c = search needs
 
 returns : tie.Need-returns
-unfolding facchEntry facchEntries
+unfolding facchEntry
 returns c =
     let c2 = c .before .before in
     let c4 = c2 .before .before in
@@ -48,7 +48,7 @@ same-length-2 : tie.Need-same-length-2
 same-length-2 c = search needs
 
 returns-2 : tie.Need-returns-2
-unfolding facchEntry facchEntries
+unfolding facchEntry
 returns-2 c =
     let c2 = c .before .before in
     let c3 = c2 .before in

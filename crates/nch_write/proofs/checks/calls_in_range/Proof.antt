@@ -3,8 +3,9 @@ use native.Mathlib.Omega.{arith}
 use mathlib.Core.Bool.{true}
 use mathlib.Core.Logic.{⊎-elim}
 use Prim.Native.Nat.{_-_}
+use Rattle.csn1.proofs.Telling.{fails, passes}
 use Rattle.call.specs.Write.{callInRange, callIsZero}
-use Rattle.nch_write.proofs.Testing.{Places, places-begin, places-used, places-unused, places-end, places-failed, fails, passes}
+use Rattle.nch_write.proofs.Testing.{Places, places-begin, places-used, places-unused, places-end, places-failed}
 use Rattle.nch_write.proofs.checks.calls_in_range.Statement.{statement}
 use Rattle.nch_write.proofs.checks.calls_in_range.Tie as tie
 

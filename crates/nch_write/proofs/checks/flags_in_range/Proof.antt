@@ -2,9 +2,9 @@
 use mathlib.Core.Path.{_≡_}
 use mathlib.Core.Bool.{true}
 use native.Mathlib.Omega.{arith}
+use Rattle.csn1.proofs.Telling.{fails, passes}
+use Rattle.csn1.specs.Write.{flaggedRight, behind}
 use Rattle.nch.specs.declared.Release7.{Release7}
-use Rattle.nch.specs.Write.{flaggedRight, behind}
-use Rattle.nch_write.proofs.Testing.{fails, passes}
 use Rattle.nch_write.proofs.checks.flags_in_range.Statement.{statement}
 use Rattle.nch_write.proofs.checks.flags_in_range.Tie as tie
 

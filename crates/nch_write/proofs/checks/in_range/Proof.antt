@@ -4,10 +4,11 @@ use mathlib.Core.Bool.{true}
 use native.Mathlib.Omega.{arith}
 use lib.Dec.{leb}
 use borrow.Author.Tests.{le-leb, lt-leb}
-use Rattle.nch_write.proofs.Testing.{fails, passes}
+use Rattle.csn1.proofs.Telling.{fails, passes}
+use Rattle.csn1.specs.Write.{flaggedRight}
 use Rattle.call.specs.Write.{callInRange, callIsZero}
 use Rattle.nch.specs.declared.Notification.{Notification}
-use Rattle.nch.specs.Write.{placesRight, flaggedRight, release6InRange, inRange}
+use Rattle.nch.specs.Write.{placesRight, release6InRange, inRange}
 use Rattle.nch_write.proofs.checks.in_range.Statement.{statement}
 use Rattle.nch_write.proofs.checks.in_range.Tie as tie
 

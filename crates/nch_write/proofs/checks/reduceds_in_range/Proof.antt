@@ -4,8 +4,9 @@ use mathlib.Core.Bool.{true}
 use mathlib.Core.Logic.{⊎-elim}
 use Prim.Native.Nat.{_-_}
 use borrow.Author.Tests.{lt-ltb, le-ltb}
+use Rattle.csn1.proofs.Telling.{fails, passes}
 use Rattle.nch.specs.Write.{reducedInRange, reducedIsZero}
-use Rattle.nch_write.proofs.Testing.{Places, places-begin, places-used, places-unused, places-end, places-failed, fails, passes}
+use Rattle.nch_write.proofs.Testing.{Places, places-begin, places-used, places-unused, places-end, places-failed}
 use native.Mathlib.Omega.{arith}
 use Rattle.nch_write.proofs.checks.reduceds_in_range.Statement.{statement}
 use Rattle.nch_write.proofs.checks.reduceds_in_range.Tie as tie

@@ -1,11 +1,11 @@
 -- `nch_write::checks::refusal` meets its contract. Assumes nothing.
 use native.Mathlib.Omega.{arith}
 use borrow.Author.Tests.{le-leb, lt-leb}
+use Rattle.csn1.proofs.Telling.{fails, passes}
 use Rattle.call.specs.Call.{ciphered}
 use Rattle.nch.specs.declared.Notification.{Notification}
 use Rattle.nch.specs.Write.{recordRefusal, referencesLow, lengthsRight, hopsRight, randomsOwned, marksOwned}
 use Rattle.nch_write.proofs.InRange.{count-few, in-range-few}
-use Rattle.nch_write.proofs.Testing.{fails, passes}
 use Rattle.nch_write.proofs.checks.refusal.Statement.{statement}
 use Rattle.nch_write.proofs.checks.refusal.Tie as tie
 

@@ -6,7 +6,7 @@ use mathlib.Core.Bool.{true, false, not}
 use mathlib.Core.Logic.{⊎-elim}
 use lib.Dec.{leb, eqb}
 use Rattle.bits.specs.Field.{both, pick}
-use Rattle.nch_write.proofs.Testing.{fails, passes}
+use Rattle.csn1.proofs.Telling.{fails, passes}
 use Rattle.nch.specs.declared.Release6.{Release6}
 use Rattle.nch.specs.Write.{release6InRange}
 use Rattle.nch_write.proofs.checks.release6_in_range.Statement.{statement}

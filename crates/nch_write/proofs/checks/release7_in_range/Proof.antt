@@ -6,7 +6,7 @@ use mathlib.Core.Bool.{true, not}
 use mathlib.Core.Logic.{⊎-elim}
 use lib.Dec.{eqb}
 use Rattle.bits.specs.Field.{both, pick}
-use Rattle.nch_write.proofs.Testing.{fails, passes}
+use Rattle.csn1.proofs.Telling.{fails, passes}
 use Rattle.nch.specs.declared.Release7.{Release7}
 use Rattle.nch.specs.Write.{release7InRange}
 use Rattle.nch_write.proofs.checks.release7_in_range.Statement.{statement}

@@ -58,7 +58,7 @@ returns-3 c =
     let a = s .before .args in
     let low = le-leb (a .bit) 1 (omega arith) in
     c .plain .ensures
-    ∙ is-accepted (a .self) _ (bitIs (a .bit)) (s .is-late .ensures) (c5 .if1 .left) (rw low) refl (c .before .before .keep .ensures) (c .before .turned .ensures)
+    ∙ is-accepted (a .self) _ (bitIs (a .bit)) (s .is-late .ensures) (c5 .if1 .left) (rw low) refl (c .before .before .keep .ensures) (c .before .turned .ensures) refl
 
 pub bit-22-spec : {M : Type 1} → statement M
 bit-22-spec =

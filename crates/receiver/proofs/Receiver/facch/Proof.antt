@@ -3,8 +3,9 @@ use mathlib.Core.Path.{sym, ap, _∙_}
 use denote.Ref.{now}
 use native.Mathlib.Omega.{arith}
 use Rattle.facch.specs.declared.Reading.{Reading as Facch}
+use Rattle.receiver.specs.declared.Answer.{Answer}
 use Rattle.receiver.specs.Step.{heardFacch}
-use Rattle.receiver.proofs.Entering.{is-late, is-refused, is-few, is-accepted}
+use Rattle.receiver.proofs.Entering.{is-late, is-refused, is-few, is-accepted, paging}
 use borrow.Author.Needs.{needs}
 use Rattle.receiver.proofs.Receiver.facch.Statement.{statement}
 use Rattle.receiver.proofs.Receiver.facch.Tie as tie
@@ -55,15 +56,20 @@ accepted-requires c κs =
           (rw (m .read .ensures) at (c .facch-entries .ensures)),
     )
 
+paged-of-requires : tie.Need-paged-of-requires
+paged-of-requires c κs = search needs
+
 returns-3 : tie.Need-returns-3
 returns-3 c =
-    let m = c .before .before .before .before .before .before .before .before .before in
+    let c1 = c .before in
+    let c8 = c1 .before .before .before .before .before .before .before in
+    let m = c8 .before .before in
     let s = m .before .before in
     let a = s .before .before .args in
-    let z = ap (λ (x : Facch). x .refusal .number) (sym (m .read .ensures)) ∙ c .before .before .before .before .before .before .before .if2 .left in
-    c .accepted .ensures
-    ∙ is-accepted (a .self) _ (heardFacch (now (a .octets))) (s .is-late .ensures) (m .before .if1 .left) z (rw (m .read .ensures) at (c .before .facch-entries .ensures))
-    (c .before .before .keep .ensures) (rw (m .read .ensures) at (c .before .before .before .taken-over .ensures))
+    let z = ap (λ (x : Facch). x .refusal .number) (sym (m .read .ensures)) ∙ c8 .if2 .left in
+    ap (λ (x : Answer). paging x (c .paged-of .result)) (c1 .accepted .ensures)
+    ∙ is-accepted (a .self) _ (heardFacch (now (a .octets))) (s .is-late .ensures) (m .before .if1 .left) z (rw (m .read .ensures) at (c1 .before .facch-entries .ensures))
+    (c1 .before .before .keep .ensures) (rw (m .read .ensures) at (c1 .before .before .before .taken-over .ensures)) (rw (m .read .ensures) at (c .paged-of .ensures))
 
 pub facch-spec : {M : Type 1} → statement M
 facch-spec =
@@ -80,4 +86,5 @@ facch-spec =
     keep-requires
     facch-entries-requires
     accepted-requires
+    paged-of-requires
     returns-3)

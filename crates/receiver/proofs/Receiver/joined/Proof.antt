@@ -57,7 +57,7 @@ returns-3 c =
     let i = c .before .before .index-of .ensures in
     c .plain .ensures
     ∙ is-accepted (a .self) _ (joins (a .key)) (s .is-late .ensures) (c .before .before .before .before .before .before .if1 .left) (rw (le-leb (a .key) lastKey (omega arith))) refl
-    (c .before .join-rule .ensures ∙ ap (ruleFor (λ x. true)) i) refl
+    (c .before .join-rule .ensures ∙ ap (ruleFor (λ x. true)) i) refl refl
 
 pub joined-spec : {M : Type 1} → statement M
 joined-spec =

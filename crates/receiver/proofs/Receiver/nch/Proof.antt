@@ -1,5 +1,5 @@
 -- `receiver::Receiver::nch` meets its contract. Assumes nothing.
-use mathlib.Core.Path.{sym, ap, _∙_}
+use mathlib.Core.Path.{refl, sym, ap, _∙_}
 use denote.Ref.{now}
 use native.Mathlib.Omega.{arith}
 use Rattle.nch.specs.declared.Reading.{Reading as Nch}
@@ -71,7 +71,7 @@ returns-3 c =
     let rule = numbering-rule (a .self) (n .hasNln) (n .nln) ∙ ap (λ (x : Nch). ruleBy (a .self) (numbering (x .«record» .hasNln) (x .«record» .nln))) (m .read .ensures) in
     c .accepted .ensures
     ∙ is-accepted (a .self) _ (heardNch (now (a .octets))) (s .is-late .ensures) (m .before .if1 .left) z (rw (m .read .ensures) at (c .before .nch-entries .ensures))
-    (c .before .before .before .before .before .nln-rule .ensures ∙ rule) (rw (m .read .ensures) at cell)
+    (c .before .before .before .before .before .nln-rule .ensures ∙ rule) (rw (m .read .ensures) at cell) refl
 
 pub nch-spec : {M : Type 1} → statement M
 nch-spec =

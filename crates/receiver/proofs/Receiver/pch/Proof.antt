@@ -1,5 +1,5 @@
 -- `receiver::Receiver::pch` meets its contract. Assumes nothing.
-use mathlib.Core.Path.{sym, ap, _∙_}
+use mathlib.Core.Path.{refl, sym, ap, _∙_}
 use denote.Ref.{now}
 use native.Mathlib.Omega.{arith}
 use Rattle.pch.specs.declared.Reading.{Reading as Pch}
@@ -76,7 +76,7 @@ returns-3 c =
     c .accepted .ensures
     ∙ is-accepted (a .self) _ (heardPch (now (a .numbers))) (s .is-late .ensures) (m .before .if1 .left) z (rw (m .read .ensures) at (c .before .pch-entries .ensures))
     (c .before .before .page-rule .ensures ∙ ap (ruleFor hasPages) (c .before .before .before .index-of .ensures ∙ ap (indexOf (keysOf (a .self))) k))
-    (rw (m .read .ensures) at (c4 .before .taken .ensures))
+    (rw (m .read .ensures) at (c4 .before .taken .ensures)) refl
 
 pub pch-spec : {M : Type 1} → statement M
 pch-spec =

@@ -25,7 +25,7 @@ plain-requires : tie.Need-plain-requires
 plain-requires c κs = search needs
 
 returns-2 : tie.Need-returns-2
-returns-2 c = c .plain .ensures ∙ is-accepted _ _ passes (c .before .before .before .before .is-late .ensures) (c .before .before .before .if1 .left) refl refl (c .before .keep .ensures) refl
+returns-2 c = c .plain .ensures ∙ is-accepted _ _ passes (c .before .before .before .before .is-late .ensures) (c .before .before .before .if1 .left) refl refl (c .before .keep .ensures) refl refl
 
 pub tick-spec : {M : Type 1} → statement M
 tick-spec =

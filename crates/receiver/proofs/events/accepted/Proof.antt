@@ -17,16 +17,20 @@ tell-all-requires c κs = search needs
 no-refusal-requires : tie.Need-no-refusal-requires
 no-refusal-requires c κs = search needs
 
+no-paged-requires : tie.Need-no-paged-requires
+no-paged-requires c κs = search needs
+
 returns : tie.Need-returns
 returns c =
-    let b = c .before .before .before .before .before .before in
+    let c6 = c .before .before .before .before .before .before in
+    let b = c6 .before in
     let a = b .args in
-    let s = c .before .before .before .before .before .sweep in
-    let t = c .before .before .before .tell-all in
+    let s = c6 .sweep in
+    let t = c .before .before .before .before .tell-all in
     let k : length (a .e .items) ≡ mostEntries = sym (length-map (a .e .items) _) ∙ b .good .1 .1 .1 .1 .1 .0 .1 .1 .0 .1 .0 .1 in
     let n : a .e .count ≡ length (take (a .e .count) (a .e .items)) = sym (length-take (a .e .count) (a .e .items) ∙ omega (arith, b .pre .1)) in
-    accepted-told (a .r) (a .now) (a .ch) (a .cell) (a .rule) (take (a .e .count) (a .e .items)) (c .no-refusal .ensures) (s .ensures .0) (s .ensures .1 .0) (s .ensures .1 .1) n
-    (t .ensures .0) (t .ensures .1)
+    accepted-told (a .r) (a .now) (a .ch) (a .cell) (a .rule) (take (a .e .count) (a .e .items)) (c .before .no-refusal .ensures) (s .ensures .0) (s .ensures .1 .0) (s .ensures .1 .1) n
+    (t .ensures .0) (t .ensures .1) (c .no-paged .ensures)
 
 pub accepted-spec : {M : Type 1} → statement M
-accepted-spec = tie.close (tie.spec sweep-requires tell-all-requires no-refusal-requires returns)
+accepted-spec = tie.close (tie.spec sweep-requires tell-all-requires no-refusal-requires no-paged-requires returns)

@@ -34,7 +34,7 @@ returns-2 c =
     let s = c .before .before .before .before .before in
     c .plain .ensures
     ∙ is-accepted _ _ (moves (s .before .args .m)) (s .is-late .ensures) (c .before .before .before .before .if1 .left) refl refl (c .before .before .move-rule .ensures)
-    (c .before .move-cell .ensures)
+    (c .before .move-cell .ensures) refl
 
 pub move-on-spec : {M : Type 1} → statement M
 move-on-spec =

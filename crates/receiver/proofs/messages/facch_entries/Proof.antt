@@ -7,16 +7,22 @@ use Rattle.receiver.proofs.messages.facch_entries.Tie as tie
 no-entries-requires : tie.Need-no-entries-requires
 no-entries-requires c κs = search needs
 
+returns : tie.Need-returns
+unfolding facchEntries
+returns c = rw (c .before .no-entries .ensures, c .if1 .taken)
+
 facch-entry-requires : tie.Need-facch-entry-requires
 facch-entry-requires c κs = search needs
 
 element-set-from-e : tie.Need-element-set-from-e
 element-set-from-e c = search needs
 
-returns : tie.Need-returns
+returns-2 : tie.Need-returns-2
 unfolding facchEntries
-returns c = rw (c .before .no-entries .ensures, c .facch-entry .ensures)
+returns-2 c =
+    let c2 = c .before .before in
+    rw (c2 .no-entries .ensures, c .facch-entry .ensures, c .before .if1 .left)
 
 pub facch-entries-spec : {M : Type 1} → statement M
 facch-entries-spec =
-    tie.close (tie.spec no-entries-requires facch-entry-requires element-set-from-e returns)
+    tie.close (tie.spec no-entries-requires returns facch-entry-requires element-set-from-e returns-2)

@@ -1,6 +1,6 @@
--- `nch_write::checks::flagged_right` meets its contract. Assumes nothing.
-use Rattle.nch_write.proofs.checks.flagged_right.Statement.{statement}
-use Rattle.nch_write.proofs.checks.flagged_right.Tie as tie
+-- `csn1::writer::flagged_right` meets its contract. Assumes nothing.
+use Rattle.csn1.proofs.writer.flagged_right.Statement.{statement}
+use Rattle.csn1.proofs.writer.flagged_right.Tie as tie
 
 returns : tie.Need-returns
 returns c = rw (c .if1 .taken)

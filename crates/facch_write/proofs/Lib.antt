@@ -1,0 +1,5 @@
+pub mod Widths
+pub mod Records
+pub mod Placing
+pub mod Round
+pub mod Promises
