@@ -46,7 +46,7 @@ target/proved/x86_64.a: crates.txt $(shell find crates -name '*.rt' -o -name '*.
 # The crates of exported functions, as tools/library names them.
 parts := $(shell sed -n "s/^parts='\(.*\)'$$/\1/p" tools/library)
 
-target/proved/native.a: target/proved/x86_64.a tools/native-archive
+target/proved/native.a: target/proved/x86_64.a tools/native-archive tools/module
 	@rm -f $@
 	@for part in $(parts); do tools/native-archive $@ $$part >&2 || exit; done
 

@@ -83,11 +83,20 @@ note $? 'valgrind on the driver'
 
 wraps=$(sed -n 's/^uint32_t __wrap_\([a-z0-9_]*\)(.*/-Wl,--wrap=\1/p' tests/drive-stub.c)
 builds cc -std=c99 $strict -O2 -Iinclude tests/drive.c tests/drive-stub.c $wraps "$archive" -o "$tmp/faulty"
-compare "$tmp/faulty" "$file"
+# The newest file need not come to every fault. Behind its rows stand some of ours: a Paging Cause that is written for a call, and a refused setup while somebody is paged.
+{
+    cat "$file"
+    echo '> wfacch 7 0 0 1 0 2 5 0 0 0 0 0 0 0 0 0 0 0 0 0 0 0 0 0 0 0 0 0 0 0 0 0 0 0 0 0 0 0 0 0 1 0 1 1 1' && echo '< 0 52 00000000092a7b'
+    echo '> setup 7 1000 5000 5000 5000 / 9422 / 2' && echo '< 0'
+    echo '> ev facch 1001 0482fa091a2b3c572b' && echo '< 0 0 0 0'
+    echo '> setup 7 1002 0 5000 5000 / 9422 / 2' && echo '< 10'
+    echo '> paged' && echo '< 1 5 244 18 52 86 120 0 0 0 0 2 1 3 0 0'
+} > "$tmp/rows"
+compare "$tmp/faulty" "$tmp/rows"
 grep -q ' passed, 0 failed$' "$tmp/compared"
 note $? 'without a fault the faulty library is the library'
 while IFS=: read -r seeded text; do
-    finds "$seeded" "FAULT='$seeded' $tmp/faulty" "$file" "$text"
+    finds "$seeded" "FAULT='$seeded' $tmp/faulty" "$tmp/rows" "$text"
 done << 'END'
 a refused setup writes:^FAULT .*a refused call changed lent memory: state, octet 4711$
 a refused event moves the clock:^FAULT .*a refused call changed lent memory: state, octet [0-3]$

@@ -5,6 +5,7 @@
 #   run.sh --quick         the answers agree, and nothing takes 10 times what plain takes; ends in 'N passed, M failed' (under 10 s)
 #   run.sh --instructions  instructions per event; these repeat on a busy machine
 #   run.sh --plain         the plain sides alone, where there is no archive
+#   run.sh --digits FOLDER..   ns for one reading and one writing of digits by the archive of each folder in turn, so that two versions compare
 #
 # ASTERNHAKEN_LIB is the folder of libasternhaken.a, ASTERNHAKEN_INCLUDE that of asternhaken.h; ASTERNHAKEN_BENCH is where to build.
 #
@@ -19,12 +20,29 @@ lib=${ASTERNHAKEN_LIB:-$lib}
 include=${ASTERNHAKEN_INCLUDE:-$top/include}
 build=${ASTERNHAKEN_BENCH:-$top/target/bench}
 mode=${1:---tables}
-case $mode in --tables | --quick | --instructions | --plain) ;; *) sed -n '2,7s/^# \{0,1\}//p' "$0" >&2; exit 2 ;; esac
+case $mode in --tables | --quick | --instructions | --plain | --digits) ;; *) sed -n '2,8s/^# \{0,1\}//p' "$0" >&2; exit 2 ;; esac
 mkdir -p "$build"
 build=$(cd "$build" && pwd)
+flags="-std=c11 -Wall -Wextra -Wpedantic -Werror"
+
+# digits NAME FOLDER: the program that times the digits of a folder's archive.
+digits() { gcc -O2 $flags -I "$include" "$here/digits.c" "$2/libasternhaken.a" -o "$build/$1"; }
+if [ "$mode" = --digits ]; then
+    shift
+    [ $# -gt 0 ] || set -- "$lib"
+    k=0
+    for folder; do digits "digits-$((k += 1))" "$folder"; done
+    echo '| archive | reading | writing |'
+    echo '|---|---|---|'
+    for turn in 1 2 3 4 5 6; do
+        k=0
+        for folder; do echo "$((k += 1)) $("$build/digits-$k" 2000) $folder"; done
+    done | awk '{ if (!($1 in name) || $3 < reading[$1]) reading[$1] = $3; if (!($1 in name) || $6 < writing[$1]) writing[$1] = $6; name[$1] = $8; n = $1 > n ? $1 : n }
+        END { for (k = 1; k <= n; k++) printf "| %s | %.1f | %.1f |\n", name[k], reading[k], writing[k] }'
+    exit
+fi
 cd "$here"
 
-flags="-std=c11 -Wall -Wextra -Wpedantic -Werror"
 defines= archive=$lib/libasternhaken.a emulated= what=
 [ "$mode" != --plain ] || { defines=-DNO_LIBRARY archive=; }
 if [ -n "$archive" ]; then
@@ -120,6 +138,8 @@ case $mode in
         sed '$d' "$build/guard"
         cat "$build/answers" "$build/guard" | awk '/^[0-9]+ passed, / { p += $1; f += $3 } END { printf "%d passed, %d failed\n", p, f; exit f > 0 || !p }'
     else
+        digits digits "$lib"
+        "$build/digits" 20
         run --quick
     fi
     ;;

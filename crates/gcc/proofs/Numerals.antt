@@ -1,15 +1,16 @@
 -- Numbers and their digits in any base: each gives the other back, and the steps of the loops that go from one to the other. Assumes nothing.
-use mathlib.Core.Path.{_≡_, refl, ap, _∙_}
+use mathlib.Core.Path.{_≡_, refl, sym, ap, _∙_}
 use mathlib.Core.Bool.{true}
 use mathlib.Core.List.{List, [], _∷_, _++_, append-assoc}
 use native.Mathlib.Omega.{arith}
-use native.Mathlib.Nat.{pow-zero, pow-suc, pow-succ', div-one, div-div-eq-div-mul, mul-assoc, one-mul, add-mul, mul-le-mul-right, mod-one, div-eq-of-lt-le, pow-le-pow-right, one-le-pow, mod-eq-of-lt, mod-lt, zero-mul}
+use native.Mathlib.Nat.{pow-zero, pow-suc, pow-succ', div-one, div-div-eq-div-mul, mul-assoc, one-mul, add-mul, mul-le-mul-right, mod-one, div-eq-of-lt-le, pow-le-pow-right, one-le-pow, mod-eq-of-lt, mod-lt, zero-mul, mul-comm, zero-add, suc-add}
 use native.Mathlib.Numerals.{add-one}
 use borrow.Author.Tests.{le-leb}
 use Prim.Native.Nat.{ℕ, zero, suc, _+_, _-_, _*_, _/_, _%_, _^_, _≤_, _<_, zero-le, suc-le-suc}
 use lib.ListN.{length, getD, set, drop}
 use lib.Seq.{drop-cons}
 use lib.Arith.{digits-lt, digits-mod, mod-mul}
+use lib.Pow.{pow-add}
 use Rattle.gcc.specs.Octet.{allBetween}
 use Rattle.gcc.specs.Numeral.{spell, worth, Spells}
 use Rattle.gcc.proofs.Lists.{drop-set-here, within-each}
@@ -87,6 +88,22 @@ spell-within b z (suc k) n h =
 -- digits within the range are digits
 pub within-spells : (b z : ℕ) (l : List ℕ) → 0 < b → allBetween z (z + (b - 1)) l ≡ true → Spells b z l
 within-spells b z l h w i k = let d = within-each z (z + (b - 1)) l w i k in (d .0, omega arith)
+
+-- what lies above k digits does not change them
+spell-low : (b z k n : ℕ) → 0 < b → spell b z k n ≡ spell b z k (n % b ^ k)
+spell-low b z k n h =
+    let l : List ℕ = spell b z k n in
+    let e : spell b z k (worth b z 0 l) ≡ l = rw (length-spell b z k n) at (spell-worth b z 0 l (within-spells b z l h (spell-within b z k n h))) in
+    let w : worth b z 0 l ≡ n % b ^ k = worth-spell b z 0 k n h ∙ rw zero-mul (omega arith) in
+    sym (ap (λ t. spell b z k t) (sym w) ∙ e)
+
+-- the first digits, and the last k
+pub spell-parts : (b z j k n : ℕ) → 0 < b → spell b z (j + k) n ≡ spell b z j (n / b ^ k) ++ spell b z k (n % b ^ k)
+unfolding spell
+spell-parts b z zero k n h = rw zero-add (spell-low b z k n h)
+spell-parts b z (suc j) k n h =
+    let e : b ^ (j + k) ≡ b ^ k * b ^ j = pow-add b j k ∙ mul-comm (b ^ j) (b ^ k) in
+    rw (suc-add, e, div-div-eq-div-mul n (b ^ k) (b ^ j), spell-parts b z j k n h)
 
 -- ## Steps of the loops
 

@@ -1,68 +1,46 @@
 -- `gcc::digits::spelled` meets its contract. Assumes nothing.
 use native.Mathlib.Omega.{arith}
-use mathlib.Core.Path.{_≡_, refl, sym, _∙_}
-use mathlib.Core.List.{_++_, append-nil}
-use Prim.Native.Nat.{_≤_}
-use lib.ListN.{length, drop, length-set}
+use mathlib.Core.Path.{_≡_, sym}
+use mathlib.Core.List.{List, _++_}
+use Prim.Native.Nat.{ℕ, _/_, _%_, _^_}
+use Rattle.gcc.specs.Inner.{fourOf}
 use Rattle.gcc.specs.Numeral.{spell}
-use Rattle.gcc.proofs.Numerals.{spell-turn}
+use Rattle.gcc.proofs.Numerals.{spell-parts}
 use borrow.Author.Needs.{needs}
 use Rattle.gcc.proofs.digits.spelled.Statement.{statement}
 use Rattle.gcc.proofs.digits.spelled.Tie as tie
 
-abbrev Inv-loop : tie.InvT-loop
-Inv-loop n digits₀ rest₀ i₀ digits rest i =
-    (i ≤ 12) × (rest ≤ 999999999999) × (length digits ≡ 12) × (spell 10 48 12 n ≡ spell 10 48 i rest ++ drop i digits)
+parted-requires : tie.Need-parted-requires
+parted-requires c κs = search needs
 
-abbrev μ-loop : tie.MeasureT-loop
-μ-loop n digits₀ rest₀ i₀ digits rest i = i
+spelled-four-requires : tie.Need-spelled-four-requires
+spelled-four-requires c κs = search needs
 
-loop-holds : tie.Need-loop-holds Inv-loop μ-loop
-loop-holds c = (search needs, search needs, refl, sym (append-nil _))
+spelled-four-requires-2 : tie.Need-spelled-four-requires-2
+spelled-four-requires-2 c κs = search needs
 
-last-digit-requires : tie.Need-last-digit-requires Inv-loop μ-loop
-last-digit-requires c κs = search needs
+spelled-four-requires-3 : tie.Need-spelled-four-requires-3
+spelled-four-requires-3 c κs = search needs
 
-sub-digits : tie.Need-sub-digits Inv-loop μ-loop
-sub-digits c = search needs
+-- twelve digits are three times four
+thrice : (n : ℕ) (a b c : List ℕ) → a ≡ spell 10 48 4 (n / 10 ^ 8) → b ≡ spell 10 48 4 (n % 10 ^ 8 / 10 ^ 4) → c ≡ spell 10 48 4 (n % 10 ^ 8 % 10 ^ 4)
+    → a ++ (b ++ c) ≡ spell 10 48 12 n
+thrice n a b c e f g = rw (e, f, g, ← spell-parts 10 48 4 4 (n % 10 ^ 8) (omega arith)) (sym (spell-parts 10 48 4 8 n (omega arith)))
 
-array-write-digits : tie.Need-array-write-digits Inv-loop μ-loop
-array-write-digits c = search needs
-
-sub-i : tie.Need-sub-i Inv-loop μ-loop
-sub-i c = search needs
-
-loop-less : tie.Need-loop-less Inv-loop μ-loop
-loop-less c = search needs
-
-loop-again : tie.Need-loop-again Inv-loop μ-loop
-loop-again c =
-    let l = c .before .before .loop in
-    let d = c .last-digit .ensures in (
-      omega arith,
-      omega arith,
-      simp length-set (l .inv .2),
-      l .inv .3 ∙ rw (d .1) (spell-turn 10 48 (l .i) (l .rest) (c .last-digit .result .digit) (l .digits) (omega arith) (omega arith) (d .0)),
-    )
-
-returns : tie.Need-returns Inv-loop μ-loop
-unfolding spell
+returns : tie.Need-returns
 returns c =
-    let l = c .before .loop in
-    let e : l .i ≡ 0 = omega arith in
-    sym (l .inv .3 ∙ rw e)
+    let p = c .before .before .before .parted .ensures in
+    let a = c .before .before .spelled-four in
+    let b = c .before .spelled-four2 in
+    let d = c .spelled-four3 in
+    thrice _ (fourOf (a .result)) (fourOf (b .result)) (fourOf (d .result)) (rw (p .0) at (a .ensures)) (rw (p .1) at (b .ensures)) (rw (p .2) at (d .ensures))
 
 pub spelled-spec : {M : Type 1} → statement M
 spelled-spec =
     tie.close
     (tie.spec
-    Inv-loop
-    μ-loop
-    loop-holds
-    last-digit-requires
-    sub-digits
-    array-write-digits
-    sub-i
-    loop-less
-    loop-again
+    parted-requires
+    spelled-four-requires
+    spelled-four-requires-2
+    spelled-four-requires-3
     returns)
