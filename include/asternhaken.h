@@ -24,7 +24,7 @@
  * ASTERNHAKEN_REFUSAL(result) and ASTERNHAKEN_BIT(result). A refused event leaves every octet of the state as it was, the clock included. The octets of the state are laid out in docs/STATE.md; docs/C-API.md tells a host's programmer the rest.
  *
  * Names: ASTERNHAKEN_REFUSED_ is a refusal number, ASTERNHAKEN_TOLD_ a told number, ASTERNHAKEN_FOLLOW_ says whether a call can be followed, ASTERNHAKEN_PART_ is a part for
- * asternhaken_read, ASTERNHAKEN_PCH_ a number of a PCH entry; of a page, ASTERNHAKEN_IDENTITY_ is a kind of identity, ASTERNHAKEN_CHANNEL_FIRST_ and ASTERNHAKEN_PAGED_FOR_ are what is wanted.
+ * asternhaken_read, ASTERNHAKEN_PCH_ a number of a PCH entry; of a page, ASTERNHAKEN_IDENTITY_ is a kind of identity, ASTERNHAKEN_CHANNEL_FIRST_ and ASTERNHAKEN_PAGED_FOR_ are what is wanted; ASTERNHAKEN_UPLINK_ is of the uplink.
  * A flag that says whether something is there ends in _GIVEN, or _given: channel_given stands beside channel. What is not there is 0.
  * Each struct is made of uint64_t alone and has the layout of the array of numbers that it stands for; get, put, decode and encode are for structs, read, write and numbers for arrays. */
 #ifndef ASTERNHAKEN_H
@@ -97,6 +97,8 @@ uint32_t asternhaken_version(void);
 #define ASTERNHAKEN_PAGED_NUMBERS 9    /* numbers of who is paged: the parts from ASTERNHAKEN_PART_PAGED on */
 #define ASTERNHAKEN_HELD_NUMBERS 34    /* numbers of a half that is held */
 #define ASTERNHAKEN_NEVER 4294967295u  /* ms: no half is held, and none will run out */
+#define ASTERNHAKEN_UPLINK_LENGTH 16   /* octets of the uplink's own lent state */
+#define ASTERNHAKEN_UPLINK_FREE 480    /* ms: the uplink is free for less than so long after a "free" */
 
 /* A subscription's key: the reference (at most 99,999,999) times 2 plus the service flag, 1 for VGCS and 0 for VBS. */
 #define ASTERNHAKEN_KEY(reference, vgcs) ((uint32_t)(reference) * 2u + (uint32_t)(vgcs))
@@ -119,10 +121,10 @@ enum asternhaken_refusal {
     ASTERNHAKEN_REFUSED_EMERGENCY_MARKS = 7,   /* NCH: more emergency marks than described calls */
     ASTERNHAKEN_REFUSED_IDENTITY_LENGTH = 8,   /* FACCH: the length of the mobile identity that is paged is not 1 to 9 */
     ASTERNHAKEN_REFUSED_CLOCK = 9,             /* a clock step of 2^31 ms or more: after such a pause, set up anew */
-    ASTERNHAKEN_REFUSED_SETUP = 10,            /* over 50 keys, a key above 199,999,999, keys that do not strictly rise, a timer outside 1 to 60,000, not one set of group keys for each key, a number in it that is not 1 to 15 */
+    ASTERNHAKEN_REFUSED_SETUP = 10,            /* over 50 keys, a key above 199,999,999, keys that do not strictly rise, a timer outside 1 to 60,000 (T3128 too), not one set of group keys for each key, a number in it that is not 1 to 15 */
     ASTERNHAKEN_REFUSED_FORM_SIZE = 11,        /* a written form over 160 bits, or a write buffer not of the form's exact size; FACCH: a write buffer not of 2 to 23 octets, or too small for the form */
     ASTERNHAKEN_REFUSED_RANGE = 12,            /* a field out of its range; to write, anything but zero in an absent part or an unused place; PCH: parts that do not fit each other; a bit 22 above 1 */
-    ASTERNHAKEN_REFUSED_LENGTH = 13,           /* an element, an array to write, a PCH entry or the lent state of a wrong length; a cause that never ends */
+    ASTERNHAKEN_REFUSED_LENGTH = 13,           /* an element, an array to write, a PCH entry or a lent state of a wrong length; a cause that never ends */
     ASTERNHAKEN_REFUSED_RAN_OUT_6 = 14,        /* the bits ran out inside Release 6 */
     ASTERNHAKEN_REFUSED_RAN_OUT_7 = 15         /* the bits ran out inside Release 7 */
 };
@@ -146,6 +148,15 @@ enum asternhaken_follow {
     ASTERNHAKEN_FOLLOW_NO_KEY = 1,    /* its cipher key number is not in its subscription's set of group keys */
     ASTERNHAKEN_FOLLOW_NO_COUNT = 2,  /* no CELL_GLOBAL_COUNT of the cell is kept */
     ASTERNHAKEN_FOLLOW_WITH_COUNT = 3 /* it can be followed, with the kept count */
+};
+
+/* What became of the driver's request for the uplink. */
+enum asternhaken_uplink {
+    ASTERNHAKEN_UPLINK_NOTHING = 0,        /* nothing is to be told */
+    ASTERNHAKEN_UPLINK_GRANTED = 1,        /* the driver may talk */
+    ASTERNHAKEN_UPLINK_REJECTED = 2,       /* T3128 ran out */
+    ASTERNHAKEN_UPLINK_WAITING = 3,        /* the uplink is not free, and T3128 was started */
+    ASTERNHAKEN_UPLINK_ALREADY_WAITING = 4 /* a request waits already, and its T3128 runs on as it was */
 };
 
 /* Parts for asternhaken_read. What a part is not there for reads as 0. */
@@ -402,6 +413,37 @@ static inline uint32_t asternhaken_held_get(const uint8_t *state, size_t state_l
  * many keys it was compared with, ASTERNHAKEN_LOOKS at most and 0 for no keys. The keys are lent in rising order, as for a setup; in another order, it may pass a key by.
  * More than 50 keys are ASTERNHAKEN_REFUSED_SETUP, and both numbers are then 0; nothing else is refused. */
 ASTERNHAKEN_MUST_USE uint32_t asternhaken_find(const uint32_t *keys, size_t n_keys, uint32_t key, uint64_t *place, uint64_t *looks);
+
+/* ---- The uplink: may our driver talk? ----
+ *
+ * For networks without talker priority (3GPP TS 44.018, 3.3.1.2.1.1). One lent state of ASTERNHAKEN_UPLINK_LENGTH octets, beside that of the receiver and apart from it, follows
+ * the uplink of one call. Each message that says whether it is free is an event, and so is the driver's wish to talk:
+ *
+ *     uint8_t uplink[ASTERNHAKEN_UPLINK_LENGTH];
+ *     if (ASTERNHAKEN_REFUSAL(asternhaken_uplink_setup(uplink, sizeof uplink, tick, 3000))) return;
+ *     ...
+ *     uint32_t result = asternhaken_uplink_request(uplink, sizeof uplink, tick);
+ *     if (ASTERNHAKEN_UPLINK_TOLD(result) == ASTERNHAKEN_UPLINK_GRANTED) talk();
+ *
+ * The uplink is free for less than 480 ms from a "free" on, and until a "busy". A request on a free uplink is granted at once; any other starts T3128 and waits: the next "free" grants
+ * it, and at T3128's end it is rejected, also where the event at the end is a "free". So ticks must come while a request waits. One event may end the request that waited and
+ * answer a new one; the result has a place for each, and a bit number (ASTERNHAKEN_BIT) never. A refused event has 0 in both places, and leaves every octet as it was. */
+
+/* What became of the request that waited: nothing, granted or rejected. What a new request is told: nothing (there was none), granted, waiting or already waiting. */
+#define ASTERNHAKEN_UPLINK_ENDED(result) ((result) >> 8 & 255u)
+#define ASTERNHAKEN_UPLINK_TOLD(result) ((result) >> 16 & 255u)
+
+/* Makes the lent octets an uplink that is not free and that nobody waits for, whatever they held. T3128 is 1 to ASTERNHAKEN_LONGEST ms; another is ASTERNHAKEN_REFUSED_SETUP. */
+ASTERNHAKEN_MUST_USE uint32_t asternhaken_uplink_setup(uint8_t *uplink, size_t uplink_length, uint32_t tick, uint32_t t3128);
+
+/* A message came that says that the uplink is free. */
+ASTERNHAKEN_MUST_USE uint32_t asternhaken_uplink_free(uint8_t *uplink, size_t uplink_length, uint32_t tick);
+/* A message came that says that the uplink is busy. */
+ASTERNHAKEN_MUST_USE uint32_t asternhaken_uplink_busy(uint8_t *uplink, size_t uplink_length, uint32_t tick);
+/* The driver wants to talk. */
+ASTERNHAKEN_MUST_USE uint32_t asternhaken_uplink_request(uint8_t *uplink, size_t uplink_length, uint32_t tick);
+/* Time passed. */
+ASTERNHAKEN_MUST_USE uint32_t asternhaken_uplink_tick(uint8_t *uplink, size_t uplink_length, uint32_t tick);
 
 /* ---- The codecs, for test rigs ----
  *
@@ -686,7 +728,7 @@ ASTERNHAKEN_MUST_USE static inline uint32_t asternhaken_digits_encode(const stru
 
 /* ---- Words ----
  *
- * A short word and a sentence for each refusal number, each told number and each number of enum asternhaken_follow, to be shown or logged. They answer for every number: one
+ * A short word and a sentence for each refusal number, each told number and each number of enum asternhaken_follow and enum asternhaken_uplink, to be shown or logged. They answer for every number: one
  * that this version does not know has the word "unknown" and a sentence that says so. Of a page, each kind of identity (ASTERNHAKEN_IDENTITY_KIND of its first octet), channel
  * first and paging cause has a word. The texts are constant; they are for people, and a program goes by the numbers. */
 const char *asternhaken_refusal_word(uint32_t refusal);
@@ -698,6 +740,8 @@ const char *asternhaken_follow_sentence(uint64_t follow);
 const char *asternhaken_identity_word(uint64_t kind);
 const char *asternhaken_channel_first_word(uint64_t channel_first);
 const char *asternhaken_paging_cause_word(uint64_t paging_cause);
+const char *asternhaken_uplink_word(uint32_t told);
+const char *asternhaken_uplink_sentence(uint32_t told);
 
 #ifdef __cplusplus
 }

@@ -29,7 +29,12 @@ the octets of its identity, what it is paged for and the channel, and None after
 What is held. receiver.held is a tuple of the halves that wait for their other half, each with its key, what it came on, which half it is, how many ms it has left from
 the last accepted event, and its record; receiver.next_expiry is the least of those times, or None.
 
-Saved states. receiver.state is a copy of the octets, and Receiver.from_state goes on from one; is_set_up says whether a setup of this version left it.
+The uplink. Uplink(tick, t3128) follows the uplink of one call, for a driver who wants to talk, apart from every receiver. free and busy say what the network said, request that the
+driver wants to talk, and tick that time passed; each takes the tick and answers with an UplinkAnswer: in ended what became of the request that waited (UPLINK_NOTHING, UPLINK_GRANTED or
+UPLINK_REJECTED), in told what a new one is told (UPLINK_NOTHING, UPLINK_GRANTED, UPLINK_WAITING or UPLINK_ALREADY_WAITING).
+
+Saved states. receiver.state is a copy of the octets, and Receiver.from_state goes on from one; is_set_up says whether a setup of this version left it. An uplink has state and
+Uplink.from_state too.
 
 Refusals. What the library refuses raises Refused, with the number, its word, and its sentence as text; nothing has changed then, the clock included. An
 exception, since an answer that is not there cannot then be taken for an empty one.
@@ -45,8 +50,10 @@ import os
 
 # ---- The library ----
 
-# Octets of the state, and the parts of an answer in their order: the header's, which the tests hold equal.
+# Octets of the two states, and the parts of an answer in their order: the header's, which the tests hold equal.
 STATE_LENGTH = 10256
+UPLINK_LENGTH = 16
+UPLINK_FREE = 480
 KEYS = 50
 LAST_GROUP_KEY = 15
 T3206 = 10000
@@ -75,6 +82,9 @@ IDENTITY_NONE, IDENTITY_IMSI, IDENTITY_IMEI, IDENTITY_IMEISV, IDENTITY_TMSI = ra
 CHANNEL_FIRST_ANY, CHANNEL_FIRST_SDCCH, CHANNEL_FIRST_TCH_F, CHANNEL_FIRST_TCH_H_OR_F = range(4)
 PAGED_FOR_CALL, PAGED_FOR_SHORT_MESSAGE = range(2)
 
+# What became of a request for the uplink.
+UPLINK_NOTHING, UPLINK_GRANTED, UPLINK_REJECTED, UPLINK_WAITING, UPLINK_ALREADY_WAITING = range(5)
+
 # What a half came on, and which it is.
 ON_NCH, ON_FACCH, ON_PCH = range(3)
 FIRST_HALF, SECOND_HALF = 1, 2
@@ -100,10 +110,11 @@ def _load():
         "read": plain + [_U32, _NUMBERS], "entry_numbers": plain + [_NUMBERS, _SIZE], "paged_numbers": [_OCTETS, _SIZE, _NUMBERS, _SIZE],
         "held_count": [_OCTETS, _SIZE, _NUMBERS], "held_numbers": plain + [_NUMBERS, _SIZE], "next_expiry": [_OCTETS, _SIZE, _NUMBERS],
         "is_set_up": [_OCTETS, _SIZE], "version": [],
+        "uplink_setup": plain + [_U32], "uplink_free": plain, "uplink_busy": plain, "uplink_request": plain, "uplink_tick": plain,
     }.items():
         function = getattr(library, "asternhaken_" + name)
         function.argtypes, function.restype = words, _U32
-    for name, number in {"refusal": _U32, "told": ctypes.c_uint64, "follow": ctypes.c_uint64}.items():
+    for name, number in {"refusal": _U32, "told": ctypes.c_uint64, "follow": ctypes.c_uint64, "uplink": _U32}.items():
         for text in "word", "sentence":
             function = getattr(library, "asternhaken_%s_%s" % (name, text))
             function.argtypes, function.restype = [number], ctypes.c_char_p
@@ -164,6 +175,16 @@ def channel_first_word(number):
 def paging_cause_word(number):
     """A short word for what a mobile station is paged for."""
     return _library.asternhaken_paging_cause_word(_u32(number, "a paging cause")).decode()
+
+
+def uplink_word(number):
+    """A short word for a number that says what became of a request for the uplink."""
+    return _library.asternhaken_uplink_word(_u32(number, "a number of the uplink")).decode()
+
+
+def uplink_sentence(number):
+    """A sentence for a number that says what became of a request for the uplink."""
+    return _library.asternhaken_uplink_sentence(_u32(number, "a number of the uplink")).decode()
 
 
 def key(reference, vgcs):
@@ -277,6 +298,20 @@ class Answer(collections.namedtuple("Answer", "expired dropped entries paged")):
     __slots__ = ()
 
 
+class UplinkAnswer(collections.namedtuple("UplinkAnswer", "ended told")):
+    """The answer to an event of an uplink: what became of the request that waited, and what a new one is told."""
+
+    __slots__ = ()
+
+    @property
+    def ended_word(self):
+        return uplink_word(self.ended)
+
+    @property
+    def told_word(self):
+        return uplink_word(self.told)
+
+
 class Held(_Keyed, collections.namedtuple("Held", "key on half ms_left record")):
     """A half that is held: ON_NCH, ON_FACCH or ON_PCH, then FIRST_HALF or SECOND_HALF, and for how many ms more from the last accepted event."""
 
@@ -289,33 +324,42 @@ PchEntry = collections.namedtuple(
 PchEntry.__new__.__defaults__ = (0,) * 13
 
 
-# ---- The receiver ----
+# ---- States ----
 
 
-class Receiver:
-    """A receiver in a state of its own. Every method but answer and state raises Refused where the library refuses."""
-
-    def __init__(self, keys, tick, t3206=T3206, t3208=T3208, t3210=T3210, groups=None):
-        self._take(bytearray(STATE_LENGTH))
-        self.setup(keys, tick, t3206, t3208, t3210, groups)
+class _Lent:
+    """What has a state of its own, which it lends to the library. _LENGTH is how many octets that has."""
 
     def _take(self, octets):
         self._state = octets
-        self._lent = (ctypes.c_uint8 * STATE_LENGTH).from_buffer(octets)
+        self._lent = (ctypes.c_uint8 * self._LENGTH).from_buffer(octets)
 
     @classmethod
     def from_state(cls, octets):
-        """A receiver that goes on from a saved state. Other octets than a receiver's are answered too, as docs/STATE.md says (is_set_up tells them); another length is refused, 13."""
-        if len(octets) != STATE_LENGTH:
+        """One that goes on from a saved state. Other octets are answered too, as docs/STATE.md says (a receiver's is_set_up tells them); another length is refused, 13."""
+        if len(octets) != cls._LENGTH:
             raise Refused(REFUSED_LENGTH)
-        receiver = cls.__new__(cls)
-        receiver._take(bytearray(octets))
-        return receiver
+        lent = cls.__new__(cls)
+        lent._take(bytearray(octets))
+        return lent
 
     @property
     def state(self):
         """A copy of the state's octets, to be saved or sent; from_state goes on from it."""
         return bytes(self._state)
+
+
+# ---- The receiver ----
+
+
+class Receiver(_Lent):
+    """A receiver in a state of its own. Every method but answer and state raises Refused where the library refuses."""
+
+    _LENGTH = STATE_LENGTH
+
+    def __init__(self, keys, tick, t3206=T3206, t3208=T3208, t3210=T3210, groups=None):
+        self._take(bytearray(STATE_LENGTH))
+        self.setup(keys, tick, t3206, t3208, t3210, groups)
 
     def _call(self, function, *words):
         result = function(self._lent, STATE_LENGTH, *words)
@@ -433,3 +477,42 @@ class Receiver:
         """In how many ms from the last accepted event the next half runs out; None where none is held."""
         ms = self._number(_library.asternhaken_next_expiry)
         return None if ms == _NEVER else ms
+
+
+# ---- The uplink ----
+
+
+class Uplink(_Lent):
+    """The uplink of one call, in a state of its own: may our driver talk? Every method raises Refused where the library refuses."""
+
+    _LENGTH = UPLINK_LENGTH
+
+    def __init__(self, tick, t3128):
+        self._take(bytearray(UPLINK_LENGTH))
+        self.setup(tick, t3128)
+
+    def _event(self, function, tick, *words):
+        result = function(self._lent, UPLINK_LENGTH, _u32(tick, "the tick"), *words)
+        if result & 255:
+            raise Refused(result)
+        return UplinkAnswer(result >> 8 & 255, result >> 16 & 255)
+
+    def setup(self, tick, t3128):
+        """Makes this an uplink that is not free and that nobody waits for; T3128 is 1 to 60,000 ms. Refused (10), it stays as it was."""
+        self._event(_library.asternhaken_uplink_setup, tick, _u32(t3128, "T3128"))
+
+    def free(self, tick):
+        """A message came that says that the uplink is free."""
+        return self._event(_library.asternhaken_uplink_free, tick)
+
+    def busy(self, tick):
+        """A message came that says that the uplink is busy."""
+        return self._event(_library.asternhaken_uplink_busy, tick)
+
+    def request(self, tick):
+        """The driver wants to talk."""
+        return self._event(_library.asternhaken_uplink_request, tick)
+
+    def tick(self, tick):
+        """Time passed."""
+        return self._event(_library.asternhaken_uplink_tick, tick)

@@ -18,7 +18,7 @@ enum {
     SETUP, NCH, FACCH, PCH, JOINED, RESELECTED, HANDED_OVER, RECONFIGURED, LEFT_IDLE, BIT_22, TICK, READ, ENTRY_NUMBERS, HELD_NUMBERS, PAGED_NUMBERS, HELD_COUNT, NEXT_EXPIRY, IS_SET_UP,
     NCH_READ, NCH_WRITE, FACCH_READ, FACCH_WRITE, MESSAGE_TYPE_READ, MESSAGE_TYPE_WRITE, CALL_REFERENCE_READ, CALL_REFERENCE_WRITE, CALL_STATE_READ, CALL_STATE_WRITE,
     CAUSE_READ, CAUSE_WRITE, ORIGINATOR_READ, ORIGINATOR_WRITE, STATE_ATTRIBUTES_READ, STATE_ATTRIBUTES_WRITE, SMS_READ, SMS_WRITE, TALKER_READ, TALKER_WRITE,
-    DIGITS_READ, DIGITS_WRITE, FIND, FUNCTIONS
+    DIGITS_READ, DIGITS_WRITE, FIND, UPLINK_SETUP, UPLINK_FREE, UPLINK_BUSY, UPLINK_REQUEST, UPLINK_TICK, FUNCTIONS
 };
 
 static const char *const names[FUNCTIONS] = {
@@ -26,7 +26,8 @@ static const char *const names[FUNCTIONS] = {
     "held_count", "next_expiry", "is_set_up", "nch_read", "nch_write", "facch_read", "facch_write",
     "message_type_read", "message_type_write", "call_reference_read", "call_reference_write", "call_state_read", "call_state_write",
     "cause_read", "cause_write", "originator_read", "originator_write", "state_attributes_read", "state_attributes_write", "sms_read",
-    "sms_write", "talker_read", "talker_write", "digits_read", "digits_write", "find"
+    "sms_write", "talker_read", "talker_write", "digits_read", "digits_write", "find",
+    "uplink_setup", "uplink_free", "uplink_busy", "uplink_request", "uplink_tick"
 };
 
 static unsigned long calls[FUNCTIONS], passed, failed;
@@ -150,6 +151,24 @@ static void state_call(unsigned function)
     give_back(&octets);
 }
 
+/* On a state of the uplink's own; nothing else is lent. */
+static void uplink_call(unsigned function)
+{
+    state_is_untouched();
+    struct lent octets = lend_record(small());
+    uint32_t tick = small(), result = 0;
+    switch (function) {
+    case UPLINK_SETUP: result = asternhaken_uplink_setup(state.at, state.size, tick, small()); break;
+    case UPLINK_FREE: result = asternhaken_uplink_free(state.at, state.size, tick); break;
+    case UPLINK_BUSY: result = asternhaken_uplink_busy(state.at, state.size, tick); break;
+    case UPLINK_REQUEST: result = asternhaken_uplink_request(state.at, state.size, tick); break;
+    default: result = asternhaken_uplink_tick(state.at, state.size, tick);
+    }
+    compare(function, result, &state, untouched(&octets));
+    memcpy(state.before, state.at, state.size);
+    give_back(&octets);
+}
+
 /* What looks at the state: it fills numbers, or answers alone. */
 static void view_call(unsigned function)
 {
@@ -256,6 +275,7 @@ int main(int argc, char **argv)
         if (function == STATE) state_is_untouched(), give_back(&state), state = lend_record(small());
         else if (function < READ) state_call((unsigned)function);
         else if (function < NCH_READ) view_call((unsigned)function);
+        else if (function >= UPLINK_SETUP && function < FUNCTIONS) uplink_call((unsigned)function);
         else codec_call((unsigned)function);
     }
     state_is_untouched();

@@ -158,3 +158,49 @@ uint32_t __wrap_asternhaken_facch_write(const uint64_t *numbers, size_t n_number
     if (seeded("a FACCH writing is an octet too long")) octets[n] = 0x2b;
     return result;
 }
+
+/* ---- The uplink ---- */
+
+uint32_t __real_asternhaken_uplink_setup(uint8_t *uplink, size_t uplink_length, uint32_t tick, uint32_t t3128);
+uint32_t __wrap_asternhaken_uplink_setup(uint8_t *uplink, size_t uplink_length, uint32_t tick, uint32_t t3128)
+{
+    uint32_t result = __real_asternhaken_uplink_setup(uplink, uplink_length, tick, t3128);
+    if (result && seeded("a refused setup of the uplink writes")) uplink[7] ^= 1;
+    return result;
+}
+
+uint32_t __real_asternhaken_uplink_free(uint8_t *uplink, size_t uplink_length, uint32_t tick);
+uint32_t __wrap_asternhaken_uplink_free(uint8_t *uplink, size_t uplink_length, uint32_t tick)
+{
+    uint32_t result = __real_asternhaken_uplink_free(uplink, uplink_length, tick);
+    if (ASTERNHAKEN_UPLINK_ENDED(result) == ASTERNHAKEN_UPLINK_REJECTED && seeded("a \"free\" that comes too late grants")) result ^= 0x300;
+    if (ASTERNHAKEN_UPLINK_ENDED(result) == ASTERNHAKEN_UPLINK_GRANTED && seeded("a grant is told twice")) result |= ASTERNHAKEN_UPLINK_GRANTED << 16;
+    if (seeded("a \"free\" is an octet too long")) uplink[uplink_length] = 0;
+    return result;
+}
+
+uint32_t __real_asternhaken_uplink_busy(uint8_t *uplink, size_t uplink_length, uint32_t tick);
+uint32_t __wrap_asternhaken_uplink_busy(uint8_t *uplink, size_t uplink_length, uint32_t tick)
+{
+    if (seeded("a \"busy\" is a tick alone")) return asternhaken_uplink_tick(uplink, uplink_length, tick);
+    return __real_asternhaken_uplink_busy(uplink, uplink_length, tick);
+}
+
+uint32_t __real_asternhaken_uplink_request(uint8_t *uplink, size_t uplink_length, uint32_t tick);
+uint32_t __wrap_asternhaken_uplink_request(uint8_t *uplink, size_t uplink_length, uint32_t tick)
+{
+    uint32_t result = __real_asternhaken_uplink_request(uplink, uplink_length, tick);
+    if (seeded("a request rejects nobody")) result &= ~0xff00u;
+    if (ASTERNHAKEN_UPLINK_TOLD(result) == ASTERNHAKEN_UPLINK_ALREADY_WAITING && seeded("a second request is told to wait")) result ^= 0x70000;
+    return result;
+}
+
+uint32_t __real_asternhaken_uplink_tick(uint8_t *uplink, size_t uplink_length, uint32_t tick);
+uint32_t __wrap_asternhaken_uplink_tick(uint8_t *uplink, size_t uplink_length, uint32_t tick)
+{
+    uint32_t result = __real_asternhaken_uplink_tick(uplink, uplink_length, tick);
+    if (result && seeded("a refused tick moves the clock of the uplink")) uplink[3] ^= (uint8_t)(ASTERNHAKEN_REFUSAL(result) == ASTERNHAKEN_REFUSED_CLOCK);
+    if (ASTERNHAKEN_REFUSAL(result) && seeded("a refused tick of the uplink tells something")) result |= ASTERNHAKEN_UPLINK_REJECTED << 8;
+    if (seeded("a tick tells a rejection")) result |= ASTERNHAKEN_UPLINK_REJECTED << 16;
+    return result;
+}

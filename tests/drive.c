@@ -711,6 +711,43 @@ static void ev_bit(void)
     if (understood()) say_answer(WATCHED(asternhaken_bit_22(state, LENGTH, tick, bit), state, LEAVES));
 }
 
+/* ---- The uplink, on a state of its own ---- */
+
+static uint8_t *uplink;
+
+static void usetup(void)
+{
+    uint32_t tick = take_u32(), t3128 = take_u32();
+    if (understood()) say_number(WATCHED(asternhaken_uplink_setup(uplink, ASTERNHAKEN_UPLINK_LENGTH, tick, t3128), uplink, LEAVES));
+}
+
+/* What then became of a request, one that waited or a new one; a rejection stands before it. */
+static const char *uplink_said(uint32_t ended, uint32_t told)
+{
+    if (ended == ASTERNHAKEN_UPLINK_GRANTED || told == ASTERNHAKEN_UPLINK_GRANTED) return "granted";
+    if (told == ASTERNHAKEN_UPLINK_WAITING) return "waiting";
+    return told == ASTERNHAKEN_UPLINK_ALREADY_WAITING ? "already" : "-";
+}
+
+static void uplink_event(uint32_t (*event)(uint8_t *uplink, size_t uplink_length, uint32_t tick))
+{
+    uint32_t tick = take_u32();
+    if (!understood()) return;
+    uint32_t result = WATCHED(event(uplink, ASTERNHAKEN_UPLINK_LENGTH, tick), uplink, LEAVES);
+    uint32_t refusal = ASTERNHAKEN_REFUSAL(result), ended = ASTERNHAKEN_UPLINK_ENDED(result), told = ASTERNHAKEN_UPLINK_TOLD(result);
+    int means_something = !(refusal && result != refusal) && result >> 24 == 0 && told != ASTERNHAKEN_UPLINK_REJECTED && told <= ASTERNHAKEN_UPLINK_ALREADY_WAITING &&
+        (ended == ASTERNHAKEN_UPLINK_NOTHING || ended == ASTERNHAKEN_UPLINK_REJECTED || (ended == ASTERNHAKEN_UPLINK_GRANTED && !told));
+    if (!means_something) fault("a result that means nothing", "uplink", result);
+    say_number(refusal);
+    say_number(ended == ASTERNHAKEN_UPLINK_REJECTED);
+    say(uplink_said(ended, told));
+}
+
+static void uev_free(void) { uplink_event(asternhaken_uplink_free); }
+static void uev_busy(void) { uplink_event(asternhaken_uplink_busy); }
+static void uev_request(void) { uplink_event(asternhaken_uplink_request); }
+static void uev_tick(void) { uplink_event(asternhaken_uplink_tick); }
+
 /* ---- The commands ---- */
 
 struct command {
@@ -743,6 +780,16 @@ static const struct command events[] = {
 
 static void ev(void) { run(events); }
 
+static const struct command uplink_events[] = {
+    { "free", uev_free },
+    { "busy", uev_busy },
+    { "request", uev_request },
+    { "tick", uev_tick },
+    { NULL, NULL }
+};
+
+static void uev(void) { run(uplink_events); }
+
 static const struct command commands[] = {
     { "nch", nch },
     { "facch", facch },
@@ -752,6 +799,8 @@ static const struct command commands[] = {
     { "ev", ev },
     { "paged", paged },
     { "find", find },
+    { "usetup", usetup },
+    { "uev", uev },
     { "message_type", message_type },
     { "call_reference", call_reference },
     { "call_state", call_state },
@@ -809,6 +858,7 @@ int main(void)
     int status = 0;
     state = (uint8_t *)lend("state", LENGTH);
     value = (uint64_t *)lend("value", sizeof *value);
+    uplink = (uint8_t *)lend("uplink", ASTERNHAKEN_UPLINK_LENGTH);
     struct lent *stays = lents;
     for (; wrong = NULL, read_line(); take_back(stays)) {
         line_number++;

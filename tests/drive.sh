@@ -145,6 +145,16 @@ a place is another:must answer: [0-9-]*$
 a seventh look:^FAULT .*there are more than places for them: looks
 a second look at one key:^FAULT .*there are more than places for them: looks
 a look at no keys:^FAULT .*there are more than places for them: looks
+a refused setup of the uplink writes:^FAULT .*a refused call changed lent memory: uplink, octet 7$
+a refused tick moves the clock of the uplink:^FAULT .*a refused call changed lent memory: uplink, octet 3$
+a refused tick of the uplink tells something:^FAULT .*a result that means nothing: uplink, octet
+a "free" is an octet too long:^FAULT .*a write behind what was lent: uplink, octet 16$
+a tick tells a rejection:^FAULT .*a result that means nothing: uplink, octet
+a grant is told twice:^FAULT .*a result that means nothing: uplink, octet
+a "free" that comes too late grants:must answer: 0 1 -$
+a "busy" is a tick alone:must answer: 0 0 waiting$
+a request rejects nobody:must answer: 0 1 waiting$
+a second request is told to wait:must answer: 0 0 already$
 END
 
 # ---- Faults of the driver, and of the file ----

@@ -58,6 +58,9 @@ T3210 T3210 receiver/src/start.rt
 LAST_KEY LAST_KEY pch/src/lib.rt
 LAST_GROUP_KEY LAST_GROUP_KEY receiver/src/count.rt
 PCH_NUMBERS LENGTH pch/src/lib.rt
+UPLINK_LENGTH LENGTH uplink_lent/src/lib.rt
+UPLINK_FREE FREE uplink/src/lib.rt
+LONGEST LONGEST uplink/src/lib.rt
 END
 }
 
@@ -88,7 +91,8 @@ must_use() {
     set -- "$1" "$tmp/ignored.$2" 'asternhaken_setup(s, 1, k, 1, k, 1, 0, 1, 1, 1)' 'asternhaken_nch(s, 1, 0, s, 1)' 'asternhaken_facch(s, 1, 0, s, 1)' 'asternhaken_pch(s, 1, 0, v, 1)' \
         'asternhaken_joined(s, 1, 0, 1)' 'asternhaken_reselected(s, 1, 0)' 'asternhaken_handed_over(s, 1, 0)' 'asternhaken_reconfigured(s, 1, 0)' 'asternhaken_left_idle(s, 1, 0)' 'asternhaken_bit_22(s, 1, 0, 1)' \
         'asternhaken_tick(s, 1, 0)' 'asternhaken_find(k, 1, 1, v, v + 1)' 'asternhaken_nch_read(s, 1, v, 1)' 'asternhaken_nch_write(v, 1, s, 1)' 'asternhaken_facch_read(s, 1, v, 1)' 'asternhaken_facch_write(v, 1, s, 1)' 'asternhaken_cause_decode(s, 1, c)' \
-        'asternhaken_cause_encode(c, s, 1)'
+        'asternhaken_cause_encode(c, s, 1)' 'asternhaken_uplink_setup(s, 1, 0, 1)' 'asternhaken_uplink_free(s, 1, 0)' 'asternhaken_uplink_busy(s, 1, 0)' 'asternhaken_uplink_request(s, 1, 0)' \
+        'asternhaken_uplink_tick(s, 1, 0)'
     by=$1 file=$2
     shift 2
     ignored "$@" > "$file"
@@ -119,19 +123,20 @@ holds 'the header declares functions, and has some of its own' test -s "$tmp/fun
 figures
 while read -r f; do holds "tests/stack.c does not call $f" grep -qw "$f" tests/stack.c; done < "$tmp/functions"
 cat "$tmp/inlines" "$tmp/functions" > "$tmp/called"
-while read -r f; do holds "neither tests/header.c nor tests/views.c calls $f" grep -qw "$f" tests/header.c tests/views.c; done < "$tmp/called"
-# names HEADER: refusals, told numbers, what is said of following, parts and the numbers of a page have their prefixes, and behind them no two have the same name; a flag that says whether something is there ends in _GIVEN.
+while read -r f; do holds "none of tests/header.c, tests/views.c and tests/uplink.c calls $f" grep -qw "$f" tests/header.c tests/views.c tests/uplink.c; done < "$tmp/called"
+# names HEADER: refusals, told numbers, what is said of following and of the uplink, parts and the numbers of a page have their prefixes, and behind them no two have the same name; a flag that says whether something is there ends in _GIVEN.
 names() {
     sed -n 's/^    ASTERNHAKEN_\([A-Z0-9_]*\) = .*/\1/p' "$1" | grep -v '^PCH_' > "$tmp/names"
-    ! grep -v -e '^ACCEPTED$' -e '^REFUSED_' -e '^TOLD_' -e '^FOLLOW_' -e '^PART_' -e '^IDENTITY_' -e '^CHANNEL_FIRST_' -e '^PAGED_FOR_' "$tmp/names" && [ "$(wc -l < "$tmp/names")" -ge 86 ] && [ -z "$(sed 's/^[A-Z]*_//' "$tmp/names" | sort | uniq -d)" ] || return 1
+    ! grep -v -e '^ACCEPTED$' -e '^REFUSED_' -e '^TOLD_' -e '^FOLLOW_' -e '^UPLINK_' -e '^PART_' -e '^IDENTITY_' -e '^CHANNEL_FIRST_' -e '^PAGED_FOR_' "$tmp/names" && [ "$(wc -l < "$tmp/names")" -ge 91 ] && [ -z "$(sed 's/^[A-Z]*_//' "$tmp/names" | sort | uniq -d)" ] || return 1
     [ "$(grep -cE '^    ASTERNHAKEN_.*_GIVEN = .* (is|are) there' "$1")" -ge 13 ] && ! grep -E '^    ASTERNHAKEN_.* = .* (is|are) there' "$1" | grep -v '_GIVEN = '
 }
 not_names() { sed "$1" include/asternhaken.h > "$tmp/names.h" && ! cmp -s include/asternhaken.h "$tmp/names.h" && ! names "$tmp/names.h"; }
-holds 'the names of refusals, told numbers, what is said of following, parts and the numbers of a page' names include/asternhaken.h
+holds 'the names of refusals, told numbers, what is said of following and of the uplink, parts and the numbers of a page' names include/asternhaken.h
 holds 'a refusal without its prefix is refused' not_names 's/ASTERNHAKEN_REFUSED_CLOCK = /ASTERNHAKEN_CLOCK = /'
 holds 'a part with the name of a refusal is refused' not_names 's/ASTERNHAKEN_PART_HOPS = /ASTERNHAKEN_PART_HOPPING = /'
 holds 'a number of following without its prefix is refused' not_names 's/ASTERNHAKEN_FOLLOW_NO_KEY = /ASTERNHAKEN_NO_KEY = /'
 holds 'a kind of identity without its prefix is refused' not_names 's/ASTERNHAKEN_IDENTITY_TMSI = /ASTERNHAKEN_TMSI = /'
+holds 'a number of the uplink without its prefix is refused' not_names 's/ASTERNHAKEN_UPLINK_WAITING = /ASTERNHAKEN_WAITING = /'
 holds 'a flag under another name is refused' not_names 's/ASTERNHAKEN_PART_COUNT_GIVEN = /ASTERNHAKEN_PART_COUNTED = /'
 # may_be_left HEADER: all results but those of what only looks at a state or at a page, and of the version, must be used.
 may_be_left() {
@@ -147,7 +152,7 @@ pages() {
     [ "$(wc -l < "$tmp/names")" -ge 20 ] && while read -r f; do grep -qw "$f" include/asternhaken.h || { echo "$f"; return 1; }; done < "$tmp/names"
 }
 not_pages() { sed 's/asternhaken_held_get/asternhaken_held_take/' docs/C-API.md > "$tmp/page.md" && ! pages "$tmp/page.md"; }
-for page in README.md docs/C-API.md docs/asternhaken.3 'docs/STATE.md examples/control_room.c examples/live_list.c'; do holds "what $page names" pages $page; done
+for page in README.md docs/C-API.md docs/asternhaken.3 'docs/STATE.md examples/control_room.c examples/live_list.c examples/driver.c'; do holds "what $page names" pages $page; done
 holds 'a page with a name that is not there is refused' not_pages
 
 # ---- Each archive ----
@@ -265,13 +270,38 @@ live_list() {
     printf '%s\n' 'accepted; 0 held' 'accepted; 1 held' '    4711 VBS   first half on the NCH, 0.3 s left' 'accepted; 0 held' 'message length; 0 held' | diff - "$tmp/shown" || return 1
     ! $run "$tmp/live_list" 0 9422 < /dev/null > "$tmp/shown" && [ "$(cat "$tmp/shown")" = 'setup; 0 held' ]
 }
-# by COMPILER..: every function, the views, the events and both examples as that compiler takes them.
+# The driver's set: what the driver is shown, and a line that is wrong is named and passed over.
+driver() { [ -s examples/driver.expected ] && $run "$tmp/driver" < examples/driver.txt > "$tmp/shown" && diff examples/driver.expected "$tmp/shown"; }
+driver_wrong_lines() {
+    printf '%s\n' 'press 5' 'setup 5' 'setup 0 0' 'setup 0 60001' '  # a comment' '' 'setup 0 100' 'press' 'press x' 'press 4294967296' 'setup 0 4294967296' 'press 1 2' 'frob 1' 'setup 1 2 3' 'press 0' |
+        $run "$tmp/driver" > "$tmp/shown" 2> "$tmp/wrong"
+    status=$?
+    [ $status = 1 ] || { echo "status $status"; cat "$tmp/wrong"; return 1; }
+    diff - "$tmp/wrong" <<'END' || return 1
+line 1: no setup was accepted yet
+line 2: a line is WORD TICK, or setup TICK T3128
+line 8: a line is WORD TICK, or setup TICK T3128
+line 9: a line is WORD TICK, or setup TICK T3128
+line 10: a number has more than 32 bits
+line 11: a number has more than 32 bits
+line 12: a line is WORD TICK, or setup TICK T3128
+line 13: no such event
+line 14: a line is WORD TICK, or setup TICK T3128
+END
+    diff - "$tmp/shown" <<'END'
+         0  setup  refused 10: setup
+         0  setup  refused 10: setup
+         0  setup
+         0  press  please wait
+END
+}
+# by COMPILER..: every function, the views, the uplink, the events and the examples as that compiler takes them.
 by() {
-    for program in tests/header tests/views tests/events examples/control_room examples/live_list; do
+    for program in tests/header tests/views tests/uplink tests/events examples/control_room examples/live_list examples/driver; do
         "$@" $strict -O2 -Iinclude $program.c -x none "$archive" -o "$tmp/$(basename $program)" || return 1
     done
-    for program in header views; do "$tmp/$program" > "$tmp/shown" && tail -n 1 "$tmp/shown" | grep '^[1-9][0-9]* passed, 0 failed$' || { cat "$tmp/shown"; return 1; }; done
-    events && sample && live_list
+    for program in header views uplink; do "$tmp/$program" > "$tmp/shown" && tail -n 1 "$tmp/shown" | grep '^[1-9][0-9]* passed, 0 failed$' || { cat "$tmp/shown"; return 1; }; done
+    events && sample && live_list && driver
 }
 
 # from_python: the module over the shared library of this archive, held to the header and known answers, and the example in it.
@@ -293,24 +323,29 @@ for folder; do
     *) holds "$archive is no archive for x86-64 or this machine" false; continue ;;
     esac
     holds "$name: symbols" symbols
-    for program in header views stack events; do holds "$name: tests/$program.c" build $program tests/$program.c; done
-    for program in control_room live_list; do holds "$name: examples/$program.c" build $program examples/$program.c; done
+    for program in header views uplink stack events; do holds "$name: tests/$program.c" build $program tests/$program.c; done
+    for program in control_room live_list driver; do holds "$name: examples/$program.c" build $program examples/$program.c; done
     counted "$name: tests/header.c" $run "$tmp/header"
     counted "$name: tests/views.c" $run "$tmp/views"
+    counted "$name: tests/uplink.c" $run "$tmp/uplink"
     holds "$name: the events of vectors/" events
     holds "$name: too few events are refused" no_events
     holds "$name: the sample" sample
     holds "$name: wrong lines" wrong_lines
     holds "$name: the live list" live_list
+    holds "$name: the driver's set" driver
+    holds "$name: wrong lines of the driver's set" driver_wrong_lines
     counted "$name: tests/stack.c" $run "$tmp/stack"
     echo "$name: $(grep deepest "$tmp/counted")"
     [ -z "$run" ] || continue
     run='valgrind -q --error-exitcode=9 --leak-check=full'
     holds "$name: valgrind on tests/header.c" $run "$tmp/header"
     holds "$name: valgrind on tests/views.c" $run "$tmp/views"
+    holds "$name: valgrind on tests/uplink.c" $run "$tmp/uplink"
     holds "$name: valgrind on the sample" sample
     holds "$name: valgrind on wrong lines" wrong_lines
     holds "$name: valgrind on the live list" live_list
+    holds "$name: valgrind on the driver's set" driver
     run=
     holds "$name: gcc" by gcc -std=c99
     holds "$name: clang" by clang -std=c99

@@ -54,7 +54,7 @@ brings() {
 wanted() {
     local version=$1
     printf './usr/%s\n' include/asternhaken.h lib/libasternhaken.a lib/libasternhaken.so "lib/libasternhaken.so.${version%%.*}" "lib/libasternhaken.so.$version" lib/pkgconfig/asternhaken.pc \
-        share/asternhaken/{asternhaken.py,control_room.c,control_room.py,live_list.c,sample.txt} share/man/man3/asternhaken.3 | sort
+        share/asternhaken/{asternhaken.py,control_room.c,control_room.py,driver.c,driver.txt,live_list.c,sample.txt} share/man/man3/asternhaken.3 | sort
 }
 # A packager's folder is not named in what is installed, and nothing waits to be filled in.
 filled_in() { ! grep -rlF -e "$top" -e '@VERSION@' -e '@PREFIX@' "$top/package"; }
@@ -119,11 +119,11 @@ renders() {
     MANWIDTH=80 man --warnings=w -l "$1" > "$top/shown" 2> "$top/warned" && [ ! -s "$top/warned" ] || { cat "$top/warned"; return 1; }
     ! awk 'length > 80' "$top/shown" | grep . && grep -q "^Asternhaken $version " "$top/shown"
 }
-# names_all PAGE: every function, those that the header itself has too, and every refusal, told number, number of following and number of a page of the header stands in it.
+# names_all PAGE: every function, those that the header itself has too, and every refusal, told number, number of following and of the uplink and number of a page of the header stands in it.
 names_all() {
     local name
-    { cat "$top/declared"; sed -n -E 's/^(ASTERNHAKEN_MUST_USE )?static inline uint32_t (asternhaken_[a-z0-9_]*)\(.*/\2/p' include/asternhaken.h; awk '/^enum asternhaken_(refusal|told|follow|identity|channel_first|paging_cause) / { on = 1 } /^}/ { on = 0 } on && /=/ { print $1 }' include/asternhaken.h; } > "$top/names"
-    [ "$(wc -l < "$top/names")" -ge 114 ] || return 1
+    { cat "$top/declared"; sed -n -E 's/^(ASTERNHAKEN_MUST_USE )?static inline uint32_t (asternhaken_[a-z0-9_]*)\(.*/\2/p' include/asternhaken.h; awk '/^enum asternhaken_(refusal|told|follow|uplink|identity|channel_first|paging_cause) / { on = 1 } /^}/ { on = 0 } on && /=/ { print $1 }' include/asternhaken.h; } > "$top/names"
+    [ "$(wc -l < "$top/names")" -ge 131 ] || return 1
     while read -r name; do grep -qE "(^|[^A-Za-z_])$name([^A-Za-z_]|\$)" "$1" || { echo "$name is not there"; return 1; }; done < "$top/names"
 }
 a_wrong_page() { { cat "$page"; echo '.BX wrong'; } > "$top/wrong.3" && renders "$top/wrong.3"; }

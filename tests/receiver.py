@@ -4,7 +4,7 @@ import sys
 import unittest
 
 import asternhaken
-from asternhaken import Held, Paged, PchEntry, Receiver, Refused, key
+from asternhaken import Held, Paged, PchEntry, Receiver, Refused, Uplink, UplinkAnswer, key
 
 HEADER = open(sys.argv.pop(1)).read()
 YARD, DISPATCHER = key(4711, False), key(4711, True)
@@ -75,14 +75,14 @@ class TheHeader(unittest.TestCase):
         self.assertEqual(len(asternhaken.PchEntry._fields), defined("PCH_NUMBERS"))
 
     def test_constants(self):
-        for enum, least in (("refusal", 14), ("told", 9), ("follow", 4), ("on", 3), ("half", 2), ("identity", 5), ("channel_first", 4), ("paging_cause", 2)):
+        for enum, least in (("refusal", 14), ("told", 9), ("follow", 4), ("uplink", 5), ("on", 3), ("half", 2), ("identity", 5), ("channel_first", 4), ("paging_cause", 2)):
             rows = constants(enum)
             self.assertGreaterEqual(len(rows), least)
             for name, number in rows.items():
                 self.assertEqual(getattr(asternhaken, name), number)
 
     def test_numbers(self):
-        for name in ("STATE_LENGTH", "KEYS", "LAST_GROUP_KEY", "T3206", "T3208", "T3210"):
+        for name in ("STATE_LENGTH", "KEYS", "LAST_GROUP_KEY", "T3206", "T3208", "T3210", "UPLINK_LENGTH", "UPLINK_FREE"):
             self.assertEqual(getattr(asternhaken, name), defined(name))
         self.assertEqual(asternhaken._NEVER, defined("NEVER"))
 
@@ -91,7 +91,7 @@ class TheHeader(unittest.TestCase):
 
     def test_words(self):
         for enum, word, sentence in (("refusal", asternhaken.refusal_word, asternhaken.refusal_sentence), ("told", asternhaken.told_word, asternhaken.told_sentence),
-                                     ("follow", asternhaken.follow_word, asternhaken.follow_sentence)):
+                                     ("follow", asternhaken.follow_word, asternhaken.follow_sentence), ("uplink", asternhaken.uplink_word, asternhaken.uplink_sentence)):
             n = len(constants(enum))
             for say in (word, sentence):
                 self.assertEqual(len({say(i) for i in range(n + 1)}), n + 1)
@@ -307,6 +307,49 @@ class TheReceiver(unittest.TestCase):
         self.assertEqual(other.nch(1960, SECOND).entries[0].told, asternhaken.TOLD_JOINED)
         self.assertEqual(self.receiver.nch(1960, SECOND).entries[0].told, asternhaken.TOLD_HALF_STORED)
         self.assertEqual(len(other.state), asternhaken.STATE_LENGTH)
+
+
+class TheUplink(unittest.TestCase):
+    def setUp(self):
+        self.uplink = Uplink(tick=1000, t3128=100)
+
+    def refused(self, number, call, *words):
+        before = self.uplink.state
+        with self.assertRaises(Refused) as caught:
+            call(*words)
+        self.assertEqual((caught.exception.number, caught.exception.bit), (number, 0))
+        self.assertEqual(self.uplink.state, before)
+
+    def test_requests(self):
+        answer = self.uplink.request(1000)
+        self.assertIsInstance(answer, UplinkAnswer)
+        self.assertEqual((answer, answer.ended_word, answer.told_word), ((asternhaken.UPLINK_NOTHING, asternhaken.UPLINK_WAITING), "nothing", "waiting"))
+        self.assertEqual(self.uplink.request(1050).told_word, "already waiting")
+        self.assertEqual(self.uplink.free(1099), (asternhaken.UPLINK_GRANTED, asternhaken.UPLINK_NOTHING))
+        self.assertEqual(self.uplink.request(1099 + asternhaken.UPLINK_FREE - 1), (asternhaken.UPLINK_NOTHING, asternhaken.UPLINK_GRANTED))
+        self.assertEqual(self.uplink.busy(1600), (0, 0))
+        self.assertEqual(self.uplink.request(1600).told, asternhaken.UPLINK_WAITING)
+        self.assertEqual(self.uplink.tick(1699), (0, 0))
+        self.assertEqual(self.uplink.request(1700), (asternhaken.UPLINK_REJECTED, asternhaken.UPLINK_WAITING))
+        self.assertEqual(self.uplink.free(1800), (asternhaken.UPLINK_REJECTED, asternhaken.UPLINK_NOTHING))
+        self.assertEqual(self.uplink.request(1800).told_word, "granted")
+
+    def test_refusals(self):
+        for happens in self.uplink.free, self.uplink.busy, self.uplink.request, self.uplink.tick:
+            self.refused(9, happens, 999)
+            self.assertRaises(ValueError, happens, 1 << 32)
+        for t3128 in 0, 60001, 65537:
+            self.refused(10, self.uplink.setup, 5, t3128)
+            self.refused(10, Uplink, 5, t3128)
+        self.assertRaises(ValueError, self.uplink.setup, 5, (1 << 32) + 5)
+        self.refused(13, Uplink.from_state, bytes(asternhaken.UPLINK_LENGTH + 1))
+        self.assertIsNone(self.uplink.setup(5, 60000))
+
+    def test_states(self):
+        self.uplink.request(1000)
+        other = Uplink.from_state(self.uplink.state)
+        self.assertEqual(self.uplink.tick(1100).ended_word, "rejected")
+        self.assertEqual(other.free(1099).ended_word, "granted")
 
 
 def bearer(octets):

@@ -65,6 +65,11 @@ static uint32_t talker_read(void) { return asternhaken_talker_read(2, numbers, 1
 static uint32_t talker_write(void) { return asternhaken_talker_write(numbers, 1, octets); }
 static uint32_t digits_read(void) { return asternhaken_digits_read(octets, 5, numbers, 12); }
 static uint32_t digits_write(void) { return asternhaken_digits_write(numbers, 12, octets, 5); }
+static uint32_t uplink_setup(void) { return asternhaken_uplink_setup(state, ASTERNHAKEN_UPLINK_LENGTH, tick, 100); }
+static uint32_t uplink_free(void) { return asternhaken_uplink_free(state, ASTERNHAKEN_UPLINK_LENGTH, tick); }
+static uint32_t uplink_busy(void) { return asternhaken_uplink_busy(state, ASTERNHAKEN_UPLINK_LENGTH, tick); }
+static uint32_t uplink_request(void) { return asternhaken_uplink_request(state, ASTERNHAKEN_UPLINK_LENGTH, tick); }
+static uint32_t uplink_tick(void) { return asternhaken_uplink_tick(state, ASTERNHAKEN_UPLINK_LENGTH, tick); }
 static uint32_t version(void) { return asternhaken_version() != ASTERNHAKEN_VERSION_NUMBER; }
 static uint32_t refusal_word(void) { return !asternhaken_refusal_word(99); }
 static uint32_t refusal_sentence(void) { return !asternhaken_refusal_sentence(13); }
@@ -75,6 +80,8 @@ static uint32_t follow_sentence(void) { return !asternhaken_follow_sentence(3); 
 static uint32_t identity_word(void) { return !asternhaken_identity_word(99); }
 static uint32_t channel_first_word(void) { return !asternhaken_channel_first_word(3); }
 static uint32_t paging_cause_word(void) { return !asternhaken_paging_cause_word(1); }
+static uint32_t uplink_word(void) { return !asternhaken_uplink_word(99); }
+static uint32_t uplink_sentence(void) { return !asternhaken_uplink_sentence(4); }
 
 /* ---- Measuring ---- */
 
@@ -210,6 +217,21 @@ static void receiver(void)
     measure(read_part, 0, "read");
 }
 
+/* Its own octets, at the beginning of the state's. */
+static void uplink(void)
+{
+    measure(uplink_setup, 0, "uplink_setup");
+    measure(uplink_request, ASTERNHAKEN_UPLINK_WAITING << 16, "uplink_request, waiting");
+    measure(uplink_busy, 0, "uplink_busy");
+    measure(uplink_free, ASTERNHAKEN_UPLINK_GRANTED << 8, "uplink_free, granted");
+    tick += ASTERNHAKEN_UPLINK_FREE;
+    measure(uplink_request, ASTERNHAKEN_UPLINK_WAITING << 16, "uplink_request, waiting again");
+    tick += 100;
+    measure(uplink_tick, ASTERNHAKEN_UPLINK_REJECTED << 8, "uplink_tick, rejected");
+    tick--;
+    measure(uplink_tick, ASTERNHAKEN_REFUSED_CLOCK, "uplink_tick, refused");
+}
+
 static void messages(void)
 {
     lend("dbebc1ffffb8f9e2c02b475fedcba98777aefb2b");
@@ -268,6 +290,8 @@ static void words(void)
     measure(identity_word, 0, "identity_word");
     measure(channel_first_word, 0, "channel_first_word");
     measure(paging_cause_word, 0, "paging_cause_word");
+    measure(uplink_word, 0, "uplink_word");
+    measure(uplink_sentence, 0, "uplink_sentence");
 }
 
 int main(void)
@@ -275,6 +299,7 @@ int main(void)
     stack = (unsigned char *)malloc(STACK);
     if (!stack) return 2;
     receiver();
+    uplink();
     messages();
     elements();
     words();

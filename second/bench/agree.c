@@ -9,7 +9,7 @@
 
 enum { PARTS = 46, EXPIRED = 0, DROPPED = 1, COUNT = 2, KEY_OF = 3, TOLD = 4, FOLLOWS = 35, PAGED = 37, ENTRIES = 9, FACCH_NUMBERS = 30 };
 
-unsigned long refusals_seen[16], told_seen[9], follow_seen[4], paged_seen, writer_refusals_seen[16];
+unsigned long refusals_seen[16], told_seen[9], follow_seen[4], paged_seen, writer_refusals_seen[16], uplink_seen[5];
 
 static uint64_t part(const struct side *s, const uint8_t *state, uint32_t entry, uint32_t number)
 {
@@ -237,5 +237,58 @@ unsigned sequences_alike(const struct side *const *sides, unsigned n_sides, uint
     for (unsigned k = 0; k < n_sides; k++)
         free(states[k]);
     free(before);
+    return i;
+}
+
+/* Most steps are short, some come to what lasts 480 ms or T3128, few are refused. */
+static uint32_t uplink_step(struct dice *d, uint32_t t3128)
+{
+    switch (below(d, 10)) {
+    case 0: return 479 + below(d, 3);
+    case 1: return t3128 - 1 + below(d, 3);
+    case 2: return one_in(d, 4) ? (uint32_t)roll(d) : 0x7FFFFFFF;
+    default: return below(d, 60);
+    }
+}
+
+static int uplink_alike(const struct side *const *sides, uint8_t *const *states, unsigned n_sides, struct dice *d, unsigned events)
+{
+    uint32_t tick = (uint32_t)roll(d), t3128 = 1 + below(d, 1000);
+    for (unsigned k = 0; k < n_sides; k++)
+        if (sides[k]->uplink_setup(states[k], sides[k]->uplink_length, tick, t3128) != 0)
+            return differ("setup of the uplink", "refusal", sides[k], 1, sides[k], 0);
+    for (unsigned i = 0; i < events; i++) {
+        uint32_t now = tick + uplink_step(d, t3128), result = 0;
+        unsigned signal = below(d, UPLINK_EVENTS + 1) % UPLINK_EVENTS;
+        for (unsigned k = 0; k < n_sides; k++) {
+            uint32_t other = sides[k]->uplink[signal](states[k], sides[k]->uplink_length, now);
+            if (k == 0)
+                result = other;
+            if (other != result)
+                return differ("uplink", "a result", sides[0], result, sides[k], other);
+        }
+        if (result & 255)
+            continue;
+        tick = now;
+        uplink_seen[(result >> 8 & 255) % 5]++;
+        uplink_seen[(result >> 16 & 255) % 5]++;
+    }
+    return 1;
+}
+
+unsigned uplinks_alike(const struct side *const *sides, unsigned n_sides, uint64_t seed, unsigned sequences, unsigned events)
+{
+    struct dice d = { seed };
+    uint8_t *states[MOST_SIDES];
+    unsigned i;
+    for (unsigned k = 0; k < n_sides; k++)
+        states[k] = aligned_alloc(64, 64);
+    for (i = 0; i < sequences; i++)
+        if (!uplink_alike(sides, states, n_sides, &d, events)) {
+            printf("in random sequence %u of the uplink\n", i);
+            break;
+        }
+    for (unsigned k = 0; k < n_sides; k++)
+        free(states[k]);
     return i;
 }

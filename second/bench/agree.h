@@ -19,6 +19,12 @@ int same_writing(const struct side *const *sides, unsigned n_sides, const uint64
 unsigned messages_alike(const struct side *const *sides, unsigned n_sides, uint64_t seed, unsigned messages);
 unsigned sequences_alike(const struct side *const *sides, unsigned n_sides, uint64_t seed, unsigned sequences, unsigned events);
 
+/* Random events through every uplink, each result compared. */
+unsigned uplinks_alike(const struct side *const *sides, unsigned n_sides, uint64_t seed, unsigned sequences, unsigned events);
+
+/* How often each number of the uplink came up in these, ended or told. */
+extern unsigned long uplink_seen[5];
+
 /* How often each refusal and each told number came up in the random sequences, and beside 2 and 3 whether the call can be followed. */
 extern unsigned long refusals_seen[16], told_seen[9], follow_seen[4];
 

@@ -29,7 +29,7 @@
 extern const struct side *const library;
 
 enum { KEYS = 50, FOREIGN = 123456, FIRST_TICK = 1000, TIMER = 60000, RUN = 2000, COUNTED = 10, LIMIT = 10 };
-enum kind { TICK, BIT_22, NCH, FACCH, PCH, WRITE_FACCH, READ_NCH, READ_FACCH };
+enum kind { TICK, BIT_22, NCH, FACCH, PCH, WRITE_FACCH, UPLINK_WAITS, UPLINK_TURNS, READ_NCH, READ_FACCH };
 enum { FACCH_NUMBERS = 30 };
 
 /* A row of the table: a receiver that holds so many halves, and one or two messages handed in by turns. What is written is a message that was read. */
@@ -94,6 +94,8 @@ static void make_rows(void)
         add("PCH, a half stored and joined in turn", PCH, held[i].halves, 0, pch_first_half(key), pch_second_half(key));
     add("writing FACCH: a first half", WRITE_FACCH, 0, 0, facch_first_half(key), facch_first_half(key));
     add("writing FACCH: a page", WRITE_FACCH, 0, 0, facch_page(), facch_page());
+    add("uplink, a tick while a request waits", UPLINK_WAITS, 0, 0, none, none);
+    add("uplink, free, request, busy and request by turns", UPLINK_TURNS, 0, 0, none, none);
     n_event_rows = n_rows;
     add("NCH: a clear call", READ_NCH, 0, 0, clear_call(key), clear_call(key));
     add("NCH: a first half", READ_NCH, 0, 0, first_half(key), first_half(key));
@@ -104,9 +106,22 @@ static void make_rows(void)
     add("FACCH: a page", READ_FACCH, 0, 0, facch_page(), facch_page());
 }
 
+/* The uplink has a state of its own. */
+static int is_uplink(const struct row *r) { return r->kind == UPLINK_WAITS || r->kind == UPLINK_TURNS; }
+
+static uint32_t uplink_event(const struct side *s, uint8_t *state, const struct row *r, unsigned i)
+{
+    static const unsigned turns[4] = { UPLINK_FREE, UPLINK_REQUEST, UPLINK_BUSY, UPLINK_REQUEST };
+    return s->uplink[r->kind == UPLINK_WAITS ? UPLINK_TICK : turns[i % 4]](state, s->uplink_length, FIRST_TICK + i);
+}
+
 /* A receiver of fifty keys that holds the row's halves: the first places of both channels, or places spread over all. */
 static int fill(const struct side *s, uint8_t *state, const struct row *r)
 {
+    if (is_uplink(r)) {
+        memset(state, 0, s->state_length);
+        return s->uplink_setup(state, s->uplink_length, FIRST_TICK, TIMER) == 0 && s->uplink[UPLINK_REQUEST](state, s->uplink_length, FIRST_TICK) == 3 << 16;
+    }
     if (s->setup(state, s->state_length, keys, KEYS, sets, KEYS, FIRST_TICK, TIMER, TIMER, TIMER) != 0)
         return 0;
     for (unsigned i = 0; i < r->halves; i++) {
@@ -159,6 +174,11 @@ static void run(const struct runner *w, const struct row *r, unsigned n)
     case WRITE_FACCH:
         for (unsigned i = 0; i < n; i++)
             s->facch_write(r->record, FACCH_NUMBERS, written, sizeof written);
+        break;
+    case UPLINK_WAITS:
+    case UPLINK_TURNS:
+        for (unsigned i = 0; i < n; i++)
+            uplink_event(s, working, r, i);
         break;
     case READ_NCH:
         for (unsigned i = 0; i < n; i++)
@@ -219,6 +239,12 @@ static void check_rows(const struct side *const *sides, unsigned n_sides)
                 good = same_writing(sides, n_sides, r->record, sizeof written) && sides[0]->facch_write(r->record, FACCH_NUMBERS, written, sizeof written) == 0;
                 continue;
             }
+            if (is_uplink(r)) {
+                uint32_t due = r->kind == UPLINK_WAITS ? 0 : (const uint32_t[4]){ 1 << 8, 1 << 16, 0, 3 << 16 }[j % 4];
+                for (unsigned k = 0; k < n_sides; k++)
+                    good = good && uplink_event(sides[k], states[k], r, j) == due;
+                continue;
+            }
             for (unsigned k = 0; k < n_sides; k++) {
                 const struct side *s = sides[k];
                 uint32_t refusal = r->kind == TICK ? s->tick(states[k], s->state_length, FIRST_TICK + j)
@@ -247,9 +273,10 @@ static int answers_agree(uint64_t seed, unsigned messages, unsigned sequences)
     check_rows(sides, n_sides);
     check(messages_alike(sides, n_sides, seed, messages) == messages, "random messages");
     check(sequences_alike(sides, n_sides, seed + 1, sequences, 40) == sequences, "random event sequences");
+    check(uplinks_alike(sides, n_sides, seed + 2, sequences, 40) == sequences, "random event sequences of the uplink");
     if (failed)
         return 0;
-    printf("The answers agree: all rows, %u random messages, %u random sequences of 40 events (seed %" PRIu64 ").\n", messages, sequences, seed);
+    printf("The answers agree: all rows, %u random messages, %u random sequences of 40 events, as many of the uplink (seed %" PRIu64 ").\n", messages, sequences, seed);
     printf("Refusals met in the sequences:");
     for (unsigned i = 0, n = 0; i < 16; i++)
         if (refusals_seen[i])
@@ -263,6 +290,7 @@ static int answers_agree(uint64_t seed, unsigned messages, unsigned sequences)
         if (writer_refusals_seen[i])
             printf("%s %u: %lu", n++ ? "," : "", i, writer_refusals_seen[i]);
     printf(".\n");
+    printf("Requests for the uplink: granted %lu, rejected %lu, waiting %lu, already waiting %lu.\n", uplink_seen[1], uplink_seen[2], uplink_seen[3], uplink_seen[4]);
     return 1;
 }
 
@@ -297,7 +325,7 @@ static void prepare(void)
         for (unsigned k = 0; k < RUNNERS; k++) {
             struct runner w = runner_of(i, k);
             for (unsigned j = 0; w.name && j < i && !filled[i][k]; j++)
-                if (rows[j].halves == rows[i].halves && rows[j].spread == rows[i].spread)
+                if (rows[j].halves == rows[i].halves && rows[j].spread == rows[i].spread && is_uplink(&rows[j]) == is_uplink(&rows[i]))
                     filled[i][k] = filled[j][k];
             if (w.name && !filled[i][k]) {
                 filled[i][k] = aligned_alloc(64, 1 << 15);

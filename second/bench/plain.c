@@ -1215,10 +1215,64 @@ static uint32_t read_part(const uint8_t *state, size_t state_length, uint32_t en
     return ACCEPTED;
 }
 
+/* ---- The uplink: two moments on a clock that does not wrap, 0 where the uplink is not free and where nobody waits ---- */
+
+enum { GRANTED = 1, REJECTED = 2, WAITING = 3, ALREADY_WAITING = 4, FREE_FOR = 480 };
+
+struct uplink {
+    uint64_t now, free_until, wait_until;
+    uint32_t tick, t3128;
+};
+
+static uint32_t uplink_setup(uint8_t *state, size_t state_length, uint32_t tick, uint32_t t3128)
+{
+    struct uplink *u = (struct uplink *)(void *)state;
+    if (state_length != sizeof *u)
+        return STATE_LENGTH;
+    if (t3128 < 1 || t3128 > LONGEST)
+        return SETUP;
+    *u = (struct uplink){ 0, 0, 0, tick, t3128 };
+    return ACCEPTED;
+}
+
+static inline uint32_t uplink_event(uint8_t *state, size_t state_length, uint32_t tick, int signal)
+{
+    struct uplink *u = (struct uplink *)(void *)state;
+    if (state_length != sizeof *u)
+        return STATE_LENGTH;
+    uint32_t step = tick - u->tick, ended = 0, told = 0;
+    if (step >= 0x80000000u)
+        return CLOCK;
+    u->tick = tick;
+    u->now += step;
+    if (u->wait_until && u->now >= u->wait_until)
+        u->wait_until = 0, ended = REJECTED;
+    if (signal == UPLINK_FREE) {
+        if (u->wait_until)
+            u->wait_until = 0, ended = GRANTED;
+        u->free_until = u->now + FREE_FOR;
+    } else if (signal == UPLINK_BUSY) {
+        u->free_until = 0;
+    } else if (signal == UPLINK_REQUEST) {
+        if (u->wait_until)
+            told = ALREADY_WAITING;
+        else if (u->now < u->free_until)
+            told = GRANTED;
+        else
+            u->wait_until = u->now + u->t3128, told = WAITING;
+    }
+    return ended << 8 | told << 16;
+}
+
+static uint32_t uplink_free(uint8_t *state, size_t state_length, uint32_t tick) { return uplink_event(state, state_length, tick, UPLINK_FREE); }
+static uint32_t uplink_busy(uint8_t *state, size_t state_length, uint32_t tick) { return uplink_event(state, state_length, tick, UPLINK_BUSY); }
+static uint32_t uplink_request(uint8_t *state, size_t state_length, uint32_t tick) { return uplink_event(state, state_length, tick, UPLINK_REQUEST); }
+static uint32_t uplink_tick(uint8_t *state, size_t state_length, uint32_t tick) { return uplink_event(state, state_length, tick, UPLINK_TICK); }
+
 #define STRING_(x) #x
 #define STRING(x) STRING_(x)
 const struct side PLAIN = {
     STRING(PLAIN), sizeof(struct receiver), setup, event_nch, event_facch, event_pch, event_joined, event_reselected, event_handed_over, event_reconfigured, event_left_idle, event_bit_22, event_tick,
-    read_part, read_nch_numbers, read_facch_numbers, write_facch
+    read_part, read_nch_numbers, read_facch_numbers, write_facch, sizeof(struct uplink), uplink_setup, { uplink_free, uplink_busy, uplink_request, uplink_tick }
 };
 const struct readers JOIN(PLAIN, _readers) = { read_nch, read_facch, nch_numbers, facch_numbers };

@@ -43,6 +43,8 @@ struct plain_facch {
     uint8_t paging, release_6, counted, cell_global_count, b22_count, rand_given, release_7, uplink_access, emergency, cause_given, cause, used;
 };
 
+enum { UPLINK_FREE, UPLINK_BUSY, UPLINK_REQUEST, UPLINK_TICK, UPLINK_EVENTS };
+
 /* One implementation of the interface of asternhaken.h, so that the benchmark runs the same lines for all of them. */
 struct side {
     const char *name;
@@ -62,6 +64,9 @@ struct side {
     uint32_t (*nch_numbers)(const uint8_t *octets, size_t n, uint64_t *numbers, size_t n_numbers);
     uint32_t (*facch_numbers)(const uint8_t *octets, size_t n, uint64_t *numbers, size_t n_numbers);
     uint32_t (*facch_write)(const uint64_t *numbers, size_t n_numbers, uint8_t *octets, size_t n);
+    size_t uplink_length;
+    uint32_t (*uplink_setup)(uint8_t *uplink, size_t uplink_length, uint32_t tick, uint32_t t3128);
+    uint32_t (*uplink[UPLINK_EVENTS])(uint8_t *uplink, size_t uplink_length, uint32_t tick); /* free, busy, request, tick */
 };
 
 /* The readers alone, into the records above. */

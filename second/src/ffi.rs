@@ -56,6 +56,11 @@ pub mod archive {
         fn asternhaken_digits_read(octets: *const u8, n: usize, numbers: *mut u64, n_numbers: usize);
         fn asternhaken_digits_write(numbers: *const u64, n_numbers: usize, octets: *mut u8, n: usize);
         fn asternhaken_find(keys: *const u32, n_keys: usize, key: u32, place: *mut u64, looks: *mut u64);
+        fn asternhaken_uplink_setup(uplink: *mut u8, uplink_length: usize, tick: u32, t3128: u32);
+        fn asternhaken_uplink_free(uplink: *mut u8, uplink_length: usize, tick: u32);
+        fn asternhaken_uplink_busy(uplink: *mut u8, uplink_length: usize, tick: u32);
+        fn asternhaken_uplink_request(uplink: *mut u8, uplink_length: usize, tick: u32);
+        fn asternhaken_uplink_tick(uplink: *mut u8, uplink_length: usize, tick: u32);
     }
 }
 
@@ -390,5 +395,38 @@ impl State {
 
     pub fn check_guards(&self) {
         self.lent.check_guards();
+    }
+}
+
+/// The uplink's functions, on a lent state of its own.
+impl State {
+    pub fn uplink_setup(&mut self, tick: u32, t3128: u32) -> u32 {
+        self.call(archive::asternhaken_uplink_setup as *const (), &[tick, t3128], &[], |uplink, n| unsafe {
+            archive::asternhaken_uplink_setup(uplink, n, tick, t3128)
+        })
+    }
+
+    pub fn uplink_free(&mut self, tick: u32) -> u32 {
+        self.call(archive::asternhaken_uplink_free as *const (), &[tick], &[], |uplink, n| unsafe {
+            archive::asternhaken_uplink_free(uplink, n, tick)
+        })
+    }
+
+    pub fn uplink_busy(&mut self, tick: u32) -> u32 {
+        self.call(archive::asternhaken_uplink_busy as *const (), &[tick], &[], |uplink, n| unsafe {
+            archive::asternhaken_uplink_busy(uplink, n, tick)
+        })
+    }
+
+    pub fn uplink_request(&mut self, tick: u32) -> u32 {
+        self.call(archive::asternhaken_uplink_request as *const (), &[tick], &[], |uplink, n| unsafe {
+            archive::asternhaken_uplink_request(uplink, n, tick)
+        })
+    }
+
+    pub fn uplink_tick(&mut self, tick: u32) -> u32 {
+        self.call(archive::asternhaken_uplink_tick as *const (), &[tick], &[], |uplink, n| unsafe {
+            archive::asternhaken_uplink_tick(uplink, n, tick)
+        })
     }
 }

@@ -9,11 +9,11 @@
 //! at first is left open too: of two in the middle the later one, as docs/STATE.md says. Nothing of this is linked into the library. The files:
 //!
 //! - bits, call, nch, facch, pch, gcc, numbers: readers and writers; receiver, state: the receiver and the octets of its lent state;
-//!   one: the receiver of one call on one channel, which knows of nothing else;
+//!   one: the receiver of one call on one channel, which knows of nothing else; uplink: §9, with a second reading of it by the history alone;
 //! - ffi: the archive's functions, with guards around everything that is lent; pair: both sides over one state;
 //! - listed, rows, scenes: the listed inputs, the vector files, and hand-written scenes for each sentence on the store and on what is told;
 //! - draft, messages, elements, steps: messages laid out from the grammar, and random messages, records, elements and event sequences;
-//!   cover: what these must have met; record: the calls of the archive, written down.
+//!   cover: what these must have met; uplink_steps: all of that for the uplink; record: the calls of the archive, written down.
 //!
 //! To run it, with libasternhaken.a in ../target/lib (on a processor other than x86-64 in ../target/native), or where ASTERNHAKEN_LIB says,
 //! and the vectors in ../vectors, or where ASTERNHAKEN_VECTORS says:
@@ -57,6 +57,8 @@ mod scenes;
 mod state;
 mod steps;
 mod tally;
+mod uplink;
+mod uplink_steps;
 
 use rng::Rng;
 use std::time::Instant;
@@ -139,12 +141,14 @@ fn main() {
     if !arguments.random {
         parts.run(&mut tally, "listed inputs", listed::listed);
         parts.run(&mut tally, "scenes", scenes::run);
+        parts.run(&mut tally, "scenes of the uplink", uplink_steps::scenes);
         parts.run(&mut tally, "vector files", listed::vectors);
     }
     // Each part has random numbers of its own, so that a change to one does not change the others; and each comes in rounds, so that
     // a difference in any of them is seen early.
     let rng = |part: u64| Rng::new(arguments.seed.wrapping_mul(8).wrapping_add(part));
-    let mut rngs = [rng(1), rng(2), rng(3)];
+    let mut rngs = [rng(1), rng(2), rng(3), rng(4)];
+    let mut uplink_cover = uplink_steps::Cover::default();
     let elements = arguments.messages / 5;
     for round in 0..ROUNDS {
         let done = |all: u64, rounds: u32| if rounds == 0 { 0 } else { all >> (ROUNDS - rounds) };
@@ -152,6 +156,9 @@ fn main() {
         parts.run(&mut tally, "messages and records", |tally| messages::run(tally, &mut rngs[0], share(arguments.messages - elements)));
         parts.run(&mut tally, "elements", |tally| elements::run(tally, &mut rngs[1], share(elements)));
         parts.run(&mut tally, "event steps", |tally| steps::run(tally, &mut rngs[2], share(arguments.steps)));
+        parts.run(&mut tally, "event steps of the uplink", |tally| {
+            uplink_steps::run(tally, &mut uplink_cover, &mut rngs[3], share(arguments.steps));
+        });
     }
     parts.run(&mut tally, "elements, gone through", elements::fixed);
     parts.run(&mut tally, "fields of records", messages::fields);
@@ -160,6 +167,7 @@ fn main() {
         println!("{name:24} {comparisons:>9} comparisons {seconds:6.1} s");
     }
     println!("in all {:.1} s", start.elapsed().as_secs_f64());
+    tally.failed += uplink_cover.finish();
     if !tally.finish() {
         std::process::exit(1);
     }

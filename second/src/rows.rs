@@ -1,4 +1,4 @@
-//! The receiver's rows of vectors/vNN.txt, the readers', and the FACCH writer's: answers that others worked out, held against both sides.
+//! The receiver's rows of vectors/vNN.txt, the readers', the FACCH writer's and the uplink's: answers that others worked out, held against both sides.
 //! vectors/README.md has the protocol.
 //! tests/drive.sh holds every row of the file against the library; here the second program must give the same.
 
@@ -10,10 +10,12 @@ use crate::receiver::{find, Event, CHANNELS};
 use crate::state::{FIRST_RECORD_PART, RECORD_NUMBERS, STATE_LENGTH};
 use crate::steps::lookup;
 use crate::tally::{hex, Tally};
+use crate::uplink_steps::Rows;
 use crate::{facch, nch};
 
-/// Fewer receiver rows than this are not the whole file.
+/// Fewer receiver rows than this, or fewer of the uplink, are not the whole file.
 const LEAST_ROWS: usize = 1_000;
+const LEAST_UPLINK_ROWS: usize = 300;
 
 /// The header's parts of a record in the protocol's order, up to the description, and behind it.
 const BEFORE: [usize; 7] = [9, 5, 10, 11, 29, 30, 12];
@@ -158,6 +160,7 @@ pub fn run(tally: &mut Tally) {
     let text = files.first().map(|path| std::fs::read_to_string(path).unwrap()).unwrap_or_default();
     let mut lines = text.lines().filter(|line| line.starts_with("> ") || line.starts_with("< "));
     let mut pair = Pair::of(&[0; STATE_LENGTH], 2);
+    let mut uplink = Rows::default();
     let mut done = 0;
     while let (Some(command), Some(expected)) = (lines.next(), lines.next()) {
         let mut expected = expected[2..].to_string();
@@ -221,6 +224,10 @@ pub fn run(tally: &mut Tally) {
                 let line = |place: Option<usize>| place.map_or("-".to_string(), |place| place.to_string());
                 (line(Some(place as usize).filter(|&place| place < keys.len())), line(second))
             }
+            "usetup" | "uev" => {
+                uplink.done += 1;
+                uplink.row(tally, &words)
+            }
             _ => continue,
         };
         done += 1;
@@ -228,5 +235,7 @@ pub fn run(tally: &mut Tally) {
             tally.check(line == expected, || format!("  {command}\n  the file  {expected}\n  {side:9} {line}"));
         }
     }
-    tally.check(done >= LEAST_ROWS, || format!("  only {done} receiver rows in {files:?}"));
+    let receivers = done - uplink.done;
+    tally.check(receivers >= LEAST_ROWS, || format!("  only {receivers} receiver rows in {files:?}"));
+    tally.check(uplink.done >= LEAST_UPLINK_ROWS, || format!("  only {} rows of the uplink in {files:?}", uplink.done));
 }

@@ -14,7 +14,6 @@ use crate::TIMERS;
 use crate::octets::u32_at;
 use crate::octets::u64_at;
 use receiver::PLACES;
-use receiver::store;
 
 // The places in whole groups of twenty-four: three numbers of eight kinds, and eight of each channel.
 const MANY: usize = PLACES / 24 * 24;
@@ -56,7 +55,7 @@ fn late(b: &[u8], tick: u32, timer: u32, i: usize) -> bool
     ensures { λ r. ⌜ r ≡ ranOutOf tick (timerNo (now (b .entry)) i) (slotNo (now (b .entry)) i) ⌝ }
 {
     let held = b[KINDS + i] != 0;
-    let old = timer <= store::elapsed(tick, u32_at(b, SINCES + 4 * i));
+    let old = timer <= clock::elapsed(tick, u32_at(b, SINCES + 4 * i));
     held & old
 }
 

@@ -58,7 +58,7 @@ pub fn left_at(b: &[u8], i: usize) -> u32
         u32_at(b, TIMERS + 8),
         i,
     );
-    let age = store::elapsed(u32_at(b, TICK), u32_at(b, SINCES + 4 * i));
+    let age = clock::elapsed(u32_at(b, TICK), u32_at(b, SINCES + 4 * i));
     if timer <= age {
         return 0;
     }

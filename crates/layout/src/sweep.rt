@@ -61,7 +61,7 @@ fn sweep_place(
     if b[KINDS + i] == 0 {
         return Lost { expired, dropped };
     }
-    if timer <= store::elapsed(tick, u32_at(b, SINCES + 4 * i)) {
+    if timer <= clock::elapsed(tick, u32_at(b, SINCES + 4 * i)) {
         empty(b, i);
         return Lost {
             expired: expired + 1,

@@ -41,7 +41,7 @@ fn early(b: &[u8], time: u32) -> u32
     if b.len() != layout::LENGTH {
         return 13;
     }
-    if store::is_late(time, tick_of(b)) {
+    if clock::is_late(time, tick_of(b)) {
         return 9;
     }
     0

@@ -81,7 +81,7 @@ fn show_step(row: &[u8], last: u32, now: u32) -> Line {
     if a.refusal.number != 0 {
         return refused(row, a.refusal.number);
     }
-    let step = receiver::store::elapsed(now, last);
+    let step = clock::elapsed(now, last);
     Line::new().word(row).number(b": step ", step as u64)
 }
 

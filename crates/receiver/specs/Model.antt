@@ -1,7 +1,7 @@
--- The receiver's parts: clock, places, what drops a half, and what a half meets (document 01, "Setup, clock and store", "What each notified call is told"). Assumes nothing.
+-- The receiver's parts: places, what drops a half, and what a half meets (document 01, "Setup, clock and store", "What each notified call is told"). Assumes nothing.
 use mathlib.Core.List.{List, [], _∷_}
 use mathlib.Core.Bool.{Bool, true, false, not}
-use Prim.Native.Nat.{ℕ, suc, _+_, _-_, _*_, _%_, _^_}
+use Prim.Native.Nat.{ℕ, suc, _+_, _*_}
 use lib.ListN.{length, replicate, take}
 use lib.Dec.{leb, eqb}
 use Rattle.bits.specs.Field.{both, pick}
@@ -23,6 +23,8 @@ use Rattle.receiver.specs.declared.Started.{Started}
 use Rattle.pch.specs.Entry.{lastKey as highestKey}
 use Rattle.receiver.specs.Count.{noCount, noBit, setsRight}
 use Rattle.receiver.specs.Halving.{halving, rises}
+pub use Rattle.clock.specs.Clock.{wrapSub, lateStep}
+unfoldable pub use Rattle.clock.specs.Clock.{late}
 use Rattle.receiver.specs.Channels.{keyCount, places, sideOf, indexIn, byNumber, asks, leads, Channel, onNch, onFacch, onPch}
 
 -- ## Nothing yet
@@ -61,18 +63,6 @@ noNln = 4
 
 abbrev pub noCell : Cell
 noCell = record { nln = noNln; count = noCount; bit = noBit }
-
--- ## The clock: a 32-bit millisecond counter that wraps
-
-abbrev pub wrapSub : ℕ → ℕ → ℕ
-wrapSub a b = (a + 2 ^ 32 - b) % 2 ^ 32
-
--- a step of 2^31 or more is refused
-abbrev pub lateStep : ℕ
-lateStep = 2147483648
-
-unfoldable pub late : ℕ → ℕ → Bool
-late now last = leb lateStep (wrapSub now last)
 
 -- ## Keys and places
 

@@ -312,7 +312,7 @@ pub fn move_cell(cell: Cell, m: Move) -> Cell
 fn move_on(r: Receiver, tick: u32, m: Move) -> Answer
     ensures { λ a. ⌜ a ≡ stepOf r (moved tick m) ⌝ }
 {
-    if store::is_late(tick, r.tick) {
+    if clock::is_late(tick, r.tick) {
         return refused(r, csn1::ground(9));
     }
     let cell = r.cell;
@@ -326,7 +326,7 @@ impl Receiver {
     pub fn nch(self, tick: u32, octets: &[u8]) -> Answer
         ensures { λ a. ⌜ a ≡ stepOf self (nch tick (now (octets .entry))) ⌝ }
     {
-        if store::is_late(tick, self.tick) {
+        if clock::is_late(tick, self.tick) {
             return refused(self, csn1::ground(9));
         }
         let m = nch::read(octets);
@@ -353,7 +353,7 @@ impl Receiver {
     pub fn facch(self, tick: u32, octets: &[u8]) -> Answer
         ensures { λ a. ⌜ a ≡ stepOf self (facch tick (now (octets .entry))) ⌝ }
     {
-        if store::is_late(tick, self.tick) {
+        if clock::is_late(tick, self.tick) {
             return refused(self, csn1::ground(9));
         }
         let m = facch::read(octets);
@@ -381,7 +381,7 @@ impl Receiver {
     pub fn pch(self, tick: u32, numbers: &[u64]) -> Answer
         ensures { λ a. ⌜ a ≡ stepOf self (pch tick (now (numbers .entry))) ⌝ }
     {
-        if store::is_late(tick, self.tick) {
+        if clock::is_late(tick, self.tick) {
             return refused(self, csn1::ground(9));
         }
         let m = pch::read(numbers);
@@ -408,7 +408,7 @@ impl Receiver {
     pub fn joined(self, tick: u32, key: u32) -> Answer
         ensures { λ a. ⌜ a ≡ stepOf self (joined tick key) ⌝ }
     {
-        if store::is_late(tick, self.tick) {
+        if clock::is_late(tick, self.tick) {
             return refused(self, csn1::ground(9));
         }
         if LAST_KEY < key {
@@ -452,7 +452,7 @@ impl Receiver {
     pub fn bit_22(self, tick: u32, bit: u32) -> Answer
         ensures { λ a. ⌜ a ≡ stepOf self (bit22 tick bit) ⌝ }
     {
-        if store::is_late(tick, self.tick) {
+        if clock::is_late(tick, self.tick) {
             return refused(self, csn1::ground(9));
         }
         if 1 < bit {
@@ -466,7 +466,7 @@ impl Receiver {
     pub fn tick(self, now: u32) -> Answer
         ensures { λ a. ⌜ a ≡ stepOf self (tick now) ⌝ }
     {
-        if store::is_late(now, self.tick) {
+        if clock::is_late(now, self.tick) {
             return refused(self, csn1::ground(9));
         }
         let cell = self.cell;

@@ -1,6 +1,6 @@
-// The clock, and the one sweep over all places that drops what ran out and what an event takes.
+// The one sweep over all places that drops what ran out and what an event takes.
 ghost use mathlib.Core.Path.{_≡_};
-ghost use Rattle.receiver.specs.Model.{wrapSub, late, keep, takes, spares, ranOutOf, sweptSlots, expiredOf, droppedOf, withSlots};
+ghost use Rattle.receiver.specs.Model.{keep, takes, spares, ranOutOf, sweptSlots, expiredOf, droppedOf, withSlots};
 ghost use Rattle.receiver.specs.Channels.{byNumber, sideOf};
 ghost use Rattle.receiver.specs.Inner.{fateOf};
 use crate::PLACES;
@@ -10,23 +10,6 @@ use crate::Setup;
 use crate::Slot;
 use crate::channels;
 use crate::meeting;
-
-// The milliseconds from one tick to another, on a counter that wraps.
-pub fn elapsed(now: u32, last: u32) -> u32
-    ensures { λ r. ⌜ r ≡ wrapSub now last ⌝ }
-{
-    std::num::wrapping_sub_u32(now, last)
-}
-
-// A step of 2^31 or more is refused.
-pub const LATE_STEP: u32 = 2147483648;
-
-// Whether a tick is refused.
-pub fn is_late(now: u32, last: u32) -> bool
-    ensures { λ r. ⌜ r ≡ late now last ⌝ }
-{
-    LATE_STEP <= elapsed(now, last)
-}
 
 // The rule that drops nothing.
 pub fn keep() -> Rule
@@ -70,7 +53,7 @@ fn ran_out(now: u32, timer: u32, s: Slot) -> bool
     if s.half == 0 {
         return false;
     }
-    timer <= elapsed(now, s.since)
+    timer <= clock::elapsed(now, s.since)
 }
 
 // What becomes of a place: it stays as it is, its half ran out, or the rule takes its half.

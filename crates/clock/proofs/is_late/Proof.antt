@@ -1,8 +1,8 @@
--- `receiver::store::is_late` meets its contract. Assumes nothing.
-use Rattle.receiver.specs.Model.{late}
+-- `clock::is_late` meets its contract. Assumes nothing.
+use Rattle.clock.specs.Clock.{late}
 use borrow.Author.Needs.{needs}
-use Rattle.receiver.proofs.store.is_late.Statement.{statement}
-use Rattle.receiver.proofs.store.is_late.Tie as tie
+use Rattle.clock.proofs.is_late.Statement.{statement}
+use Rattle.clock.proofs.is_late.Tie as tie
 
 elapsed-requires : tie.Need-elapsed-requires
 elapsed-requires c κs = search needs

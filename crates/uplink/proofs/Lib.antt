@@ -1,0 +1,5 @@
+pub mod Tests
+pub mod Sums
+pub mod Fates
+pub mod Splits
+pub mod Promises

@@ -1,0 +1,5 @@
+pub mod Octets
+pub mod Calls
+pub mod Runs
+pub mod Given
+pub mod Promises
