@@ -1,15 +1,15 @@
 #!/usr/bin/env bash
 # Tries the comparison itself: each error of seeded-errors.txt is put into a copy of the second program, which is then built and compared
 # with the archive in a short run of random inputs alone; the hand-written scenes and the vectors are left out. Every error must show up as
-# a difference, and one that keeps the random inputs from something as that being met too seldom. An error that a short run does not meet
-# must show up in a run with as many events as the comparison itself has. The copy without an error must show nothing. The last line is
-# `N passed, M failed`.
+# a difference, where it names a comparison in that one, and one that keeps the random inputs from something as that being met too seldom. An
+# error that a short run does not meet must show up in a run with as many events as the comparison itself has. The copy without an error must
+# show nothing. The last line is `N passed, M failed`.
 #
 #   seeded-errors.sh               all of it
 #   seeded-errors.sh --list FILE   only that the list is long enough, of FILE
 set -u
 # How many errors must be listed, of either kind: those that give a wrong answer, and those that are met too seldom.
-least_wrong=395 least_seldom=23
+least_wrong=409 least_seldom=26
 here=$(cd "$(dirname "$0")" && pwd)
 case $(uname -m) in x86_64) lib=$here/../target/lib ;; *) lib=$here/../target/native ;; esac
 # What the environment names is meant from this folder, as build.rs means it.
@@ -54,7 +54,7 @@ end_pair
 
 # Too few errors, or one under two names, fail before anything is built.
 wrong=0 seldom=0
-for show in "${shows[@]}"; do case $show in DIFFERENCE) wrong=$((wrong + 1)) ;; *) seldom=$((seldom + 1)) ;; esac; done
+for show in "${shows[@]}"; do case $show in DIFFERENCE | 'more subscriptions'*) wrong=$((wrong + 1)) ;; *) seldom=$((seldom + 1)) ;; esac; done
 twice=$(printf '%s\n' "${names[@]}" | sort | uniq -d)
 if [ "$wrong" -lt $least_wrong ] || [ "$seldom" -lt $least_seldom ] || [ -n "$twice" ]; then
     echo "FAILED: $wrong errors with a wrong answer are listed, $seldom that are met too seldom; there must be $least_wrong and $least_seldom"

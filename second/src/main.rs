@@ -13,7 +13,8 @@
 //! - ffi: the archive's functions, with guards around everything that is lent; pair: both sides over one state;
 //! - listed, rows, scenes: the listed inputs, the vector files, and hand-written scenes for each sentence on the store and on what is told;
 //! - draft, messages, elements, steps: messages laid out from the grammar, and random messages, records, elements and event sequences;
-//!   cover: what these must have met; uplink_steps: all of that for the uplink; record: the calls of the archive, written down.
+//!   more: pairs of setups, the second with more subscriptions (§10); cover: what these must have met; uplink_steps: all of that for the
+//!   uplink; record: the calls of the archive, written down.
 //!
 //! To run it, with libasternhaken.a in ../target/lib (on a processor other than x86-64 in ../target/native), or where ASTERNHAKEN_LIB says,
 //! and the vectors in ../vectors, or where ASTERNHAKEN_VECTORS says:
@@ -44,6 +45,7 @@ mod ffi;
 mod gcc;
 mod listed;
 mod messages;
+mod more;
 mod nch;
 mod numbers;
 mod one;
@@ -144,9 +146,11 @@ fn main() {
         parts.run(&mut tally, "scenes of the uplink", uplink_steps::scenes);
         parts.run(&mut tally, "vector files", listed::vectors);
     }
-    // Each part has random numbers of its own, so that a change to one does not change the others; and each comes in rounds, so that
+    // Each part has random numbers of its own, so that a change to one does not change the others; and the long ones come in rounds, so that
     // a difference in any of them is seen early.
     let rng = |part: u64| Rng::new(arguments.seed.wrapping_mul(8).wrapping_add(part));
+    let mut more = more::More::default();
+    parts.run(&mut tally, "more subscriptions", |tally| more.run(tally, &mut rng(5), arguments.steps / 5));
     let mut rngs = [rng(1), rng(2), rng(3), rng(4)];
     let mut uplink_cover = uplink_steps::Cover::default();
     let elements = arguments.messages / 5;
@@ -167,6 +171,7 @@ fn main() {
         println!("{name:24} {comparisons:>9} comparisons {seconds:6.1} s");
     }
     println!("in all {:.1} s", start.elapsed().as_secs_f64());
+    more.finish(&mut tally);
     tally.failed += uplink_cover.finish();
     if !tally.finish() {
         std::process::exit(1);

@@ -28,7 +28,7 @@ pub fn run(tally: &mut Tally, rng: &mut Rng, count: u64) {
 }
 
 /// A few references of which both services turn up; one at the upper end, where the key is the last.
-fn small_pool(rng: &mut Rng) -> Pool {
+pub fn small_pool(rng: &mut Rng) -> Pool {
     let count = 1 + rng.below(3);
     let mut references: Vec<u64> = (0..count).map(|_| rng.below(100_000_000)).collect();
     if rng.one_in(4) {
@@ -38,7 +38,7 @@ fn small_pool(rng: &mut Rng) -> Pool {
 }
 
 /// Keys of the pool, in rising order; sometimes filled up to as many as there may be.
-fn keys(rng: &mut Rng, pool: &Pool) -> Vec<u32> {
+pub fn keys(rng: &mut Rng, pool: &Pool) -> Vec<u32> {
     let mut keys: Vec<u32> = Vec::new();
     for reference in &pool.references {
         for service in 0..2 {
@@ -101,7 +101,7 @@ pub fn lookup(tally: &mut Tally, keys: &[u32], key: u32) -> (u32, u64, u64) {
 }
 
 /// Group keys for each: mostly the one that the pool's calls have, alone or with others; sometimes all but it, none, or any.
-fn sets(rng: &mut Rng, keys: &[u32]) -> Vec<u32> {
+pub fn sets(rng: &mut Rng, keys: &[u32]) -> Vec<u32> {
     let mut set = || {
         let any = rng.next() as u32 & 0xFFFE;
         rng.pick(&[1 << 3, 1 << 3, 3 << 3, 0xFFFE, 0xFFFE & !(1 << 3), 1 << 4, 0, any, any])
@@ -109,9 +109,9 @@ fn sets(rng: &mut Rng, keys: &[u32]) -> Vec<u32> {
     keys.iter().map(|_| set()).collect()
 }
 
-const TIMES: [u32; 9] = [1, 2, 3, 10, 100, 5_000, 10_000, 59_999, 60_000];
+pub const TIMES: [u32; 9] = [1, 2, 3, 10, 100, 5_000, 10_000, 59_999, 60_000];
 
-fn first_tick(rng: &mut Rng) -> u32 {
+pub fn first_tick(rng: &mut Rng) -> u32 {
     match rng.below(4) {
         0 => u32::MAX - rng.below(200) as u32,
         1 => (1 << 31) - rng.below(200) as u32,
@@ -203,14 +203,14 @@ fn events(tally: &mut Tally, rng: &mut Rng, pair: &mut Pair, pool: &Pool, count:
             story = tale(rng, &pair.mirror.receiver, pool);
             story.reverse();
         }
-        let event = story.pop().unwrap_or_else(|| event(rng, pair, pool));
+        let event = story.pop().unwrap_or_else(|| event(rng, &pair.mirror.receiver, pool));
         let tick = tick(rng, &pair.mirror.receiver);
         pair.event(tally, tick, &event);
     }
 }
 
 /// The next tick: usually soon, often at the moment when a half runs out, sometimes refused.
-fn tick(rng: &mut Rng, receiver: &Receiver) -> u32 {
+pub fn tick(rng: &mut Rng, receiver: &Receiver) -> u32 {
     let last = receiver.tick;
     let halves: Vec<(&Place, &Half)> = receiver.halves.iter().collect();
     match rng.below(40) {
@@ -238,8 +238,7 @@ fn tick(rng: &mut Rng, receiver: &Receiver) -> u32 {
     }
 }
 
-fn event(rng: &mut Rng, pair: &Pair, pool: &Pool) -> Event {
-    let receiver = &pair.mirror.receiver;
+pub fn event(rng: &mut Rng, receiver: &Receiver, pool: &Pool) -> Event {
     if !receiver.halves.is_empty() && rng.one_in(4) {
         return meeting(rng, receiver);
     }
@@ -550,7 +549,7 @@ fn from_any_octets(tally: &mut Tally, rng: &mut Rng) -> u64 {
     let (tick, first) = match rng.below(3) {
         0 => (receiver.tick, Event::Facch(one_piece(rng, receiver, &pool).octets())),
         1 if !receiver.halves.is_empty() => (receiver.tick, meeting(rng, receiver)),
-        _ => (tick(rng, receiver), event(rng, &pair, &pool)),
+        _ => (tick(rng, receiver), event(rng, receiver, &pool)),
     };
     pair.event(tally, tick, &first);
     events(tally, rng, &mut pair, &pool, count);
@@ -624,7 +623,7 @@ fn wrong_lengths(tally: &mut Tally, rng: &mut Rng) -> u64 {
     let mut state = ffi::State::new(&octets, rng.next() as usize);
     let pool = small_pool(rng);
     let pair = Pair::of(&[0; STATE_LENGTH], 0);
-    let event = event(rng, &pair, &pool);
+    let event = event(rng, &pair.mirror.receiver, &pool);
     let tick = rng.next() as u32;
     let refusal = feed(&mut state, tick, &event);
     tally.count_refusal(refusal);

@@ -10,6 +10,7 @@ pub mod LowCounts
 pub mod Cells
 pub mod Totals
 pub mod Calls
+pub mod Subscriptions
 pub mod Replies
 pub mod Pages
 pub mod Joining

@@ -12,12 +12,14 @@ use Rattle.receiver.specs.Entries.{facchEntries}
 use Rattle.receiver.specs.Step.{allAfter, facch, refusalOf, ruleOf, stepOf}
 use Rattle.isolation.specs.One.{Half, Known, One, Said, sees, seen, spared, passed, knownThen, stepSaid, runEach, oneAfter, fresh}
 use Rattle.isolation.specs.History.{Moment, untilEntry, pastOf}
-use Rattle.isolation.specs.Calls.{timerOf, notOurs, setUnder, lastTick, callAfter}
+use Rattle.isolation.specs.Calls.{timerOf, subscribed, notOurs, setUnder, Reply, lastTick, callAfter}
 use Rattle.isolation.specs.Promises.{No-call-disturbs-another, No-call-disturbs-another-at-any-event}
 use Rattle.isolation.specs.Promises.{An-entry-joins-exactly-where-the-opposite-half-is-held, What-is-held-came-and-stayed, An-entry-joins-exactly-where-the-opposite-half-came-and-stayed, A-refused-event-changes-nothing}
 use Rattle.isolation.specs.Promises.{saidAt, heardAt, A-call-joins-exactly-when, A-reply-and-a-receiver-are-an-answer, The-answer-is-the-calls}
 use Rattle.isolation.specs.Promises.{The-number-is-on-its-ground, The-wrapped-difference-is-the-sum, Every-lost-half-is-counted-once, Expiries-and-drops-are-counted-apart}
 use Rattle.isolation.specs.Promises.{The-kept-count-is-that-of-the-history, A-set-changes-nothing-for-another-call, A-page-touches-no-half}
+use Rattle.isolation.specs.Promises.{replyTo, entryNo, More-subscriptions-same-answers, More-subscriptions-leave-the-rest-alone}
+use Rattle.isolation.specs.Subscriptions.{blanked}
 use Rattle.isolation.proofs.Dropping.{expired-all, dropped-all, lost-all}
 use Rattle.receiver.proofs.Cases.{by-test}
 use Rattle.isolation.proofs.Joining.{young-aged, young-spared, joins-only, joins-then}
@@ -26,6 +28,7 @@ use Rattle.isolation.proofs.History.{came, stayed, one-after, held-afte
 use Rattle.isolation.proofs.Isolation.{isolated, answers-flat, says-flat, viewed, cell-viewed}
 use Rattle.isolation.proofs.Calls.{state, said-is, long, not-refused}
 use Rattle.isolation.proofs.Replies.{reply}
+use Rattle.isolation.proofs.Subscriptions.{same-reply, unheard, in-words}
 use Rattle.isolation.proofs.Beginning.{started, starts, started-good, started-set, started-cell, started-view}
 use Rattle.isolation.proofs.Kept.{count-among, bit-among}
 
@@ -148,3 +151,15 @@ a-page-touches-no-half r t s p z =
     by-test (eqb (refusalOf r (facch t s) .number) 0)
     (λ q. rw (q, p) (refl, refl, refl))
     (λ q. absurd (eqb-false (refusalOf r (facch t s) .number) 0 q (rw q at z)))
+
+pub more-subscriptions-same-answers : More-subscriptions-same-answers
+more-subscriptions-same-answers s keys sets more others t y z w es ts e k =
+    ap (blanked keys more) (the-answer-is-the-calls s keys sets t y es ts e k)
+    ∙ same-reply keys sets more others w s es e
+    ∙ sym (ap (blanked keys more) (the-answer-is-the-calls s more others t z es ts e k))
+
+pub more-subscriptions-leave-the-rest-alone : More-subscriptions-leave-the-rest-alone
+more-subscriptions-leave-the-rest-alone s keys sets more others t y z w es ts e k =
+    let q = the-answer-is-the-calls s more others t z es ts e k in
+    in-words keys more (replyTo s keys sets es e) (replyTo s more others es e) (more-subscriptions-same-answers s keys sets more others t y z w es ts e k)
+    (λ j p. ap (λ (a : Reply). entryNo a j .number) q ∙ unheard s es e more others j (sym (ap (λ (a : Reply). subscribed more (entryNo a j .key)) q) ∙ p))

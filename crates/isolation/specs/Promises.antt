@@ -25,11 +25,12 @@ use Rattle.receiver.specs.Model.{noRecord, emptySlot, wrapSub, keyOf, keysOf, i
 use Rattle.receiver.specs.declared.Cell.{Cell}
 use Rattle.receiver.specs.Count.{holds}
 use Rattle.receiver.specs.Entries.{pagedOf}
-use Rattle.receiver.specs.Step.{Event, Happening, heardNch, heardFacch, heardPch, joins, moves, bitIs, passes, facch, refusalOf, ruleOf, stepOf}
+use Rattle.receiver.specs.Step.{noTold, Event, Happening, heardNch, heardFacch, heardPch, joins, moves, bitIs, passes, facch, refusalOf, ruleOf, stepOf}
 use Rattle.isolation.specs.One.{kindOn, Which, theFirst, theSecond, Half, One, Said, Seen, seen, sees, sightOf, heldAfter, spared, passed, stepSaid, saying, knownThen, runOne, runEach, oneAfter, fresh, hears}
-use Rattle.isolation.specs.Calls.{timerOf, notOurs, setUnder, lastTick, knownOn, Reply, replyBy, channelIn}
+use Rattle.isolation.specs.Calls.{timerOf, subscribed, notOurs, setUnder, lastTick, knownOn, Reply, replyBy, channelIn}
 use Rattle.isolation.specs.History.{Moment, untilEntry, pastOf, Opposite, Came-and-stayed}
 use Rattle.isolation.specs.Kept.{since, lastBit, keptCount}
+use Rattle.isolation.specs.Subscriptions.{Within, blanked}
 
 -- ## 1. Isolation
 
@@ -448,3 +449,47 @@ A-page-touches-no-half =
     → readFacch s .«record» .paging ≡ true
     → stepOf r (facch t s) .refusal .number ≡ 0
     → (stepOf r (facch t s) .receiver .slots ≡ sweptSlots r t keep) × (stepOf r (facch t s) .count ≡ 0) × (stepOf r (facch t s) .paged ≡ pagedOf (readFacch s .«record»))
+
+-- ## 12. More subscriptions (document 02, §10)
+
+-- Two accepted setups alike but for their keys, those of the first all in the second with the same group keys: after the same events both answer the next one alike, the
+-- counts of lost halves and what is told under the new keys aside. Read from the second to the first it says what it is to take subscriptions away.
+abbrev pub More-subscriptions-same-answers : Type 0
+More-subscriptions-same-answers =
+    (s : Setup) (keys groups more others : List ℕ)
+    → s .tick < 4294967296
+    → startedOf s keys groups .refusal .number ≡ 0
+    → startedOf s more others .refusal .number ≡ 0
+    → Within keys groups more others
+    → (es : List Event)
+    → Ticks es
+    → (e : Event)
+    → e .tick < 4294967296
+    → blanked keys more (replyTo s keys groups es e) ≡ blanked keys more (replyTo s more others es e)
+
+-- the j-th entry of an answer
+abbrev pub entryNo : Reply → ℕ → Told
+entryNo a j = getD (a .entries) j noTold
+
+-- What two answers have in common, in document 02's words: the number and the bit of a refusal; how many entries there are, and their keys in order; under a key of the first
+-- setup what is told, with record, follow and count; under a key of neither the number 0; and who is paged.
+pub record Same-answers (keys more : List ℕ) (a b : Reply) : Type 0 where
+  pub refused : a .refusal ≡ b .refusal
+  pub counted : a .count ≡ b .count
+  pub keyed : (j : ℕ) → entryNo a j .key ≡ entryNo b j .key
+  pub told : (j : ℕ) → subscribed keys (entryNo a j .key) ≡ true → entryNo a j ≡ entryNo b j
+  pub unheard : (j : ℕ) → subscribed more (entryNo a j .key) ≡ false → (entryNo a j .number ≡ 0) × (entryNo a j ≡ entryNo b j)
+  pub paging : a .paged ≡ b .paged
+
+abbrev pub More-subscriptions-leave-the-rest-alone : Type 0
+More-subscriptions-leave-the-rest-alone =
+    (s : Setup) (keys groups more others : List ℕ)
+    → s .tick < 4294967296
+    → startedOf s keys groups .refusal .number ≡ 0
+    → startedOf s more others .refusal .number ≡ 0
+    → Within keys groups more others
+    → (es : List Event)
+    → Ticks es
+    → (e : Event)
+    → e .tick < 4294967296
+    → Same-answers keys more (replyTo s keys groups es e) (replyTo s more others es e)

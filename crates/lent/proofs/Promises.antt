@@ -21,11 +21,13 @@ use Rattle.receiver.proofs.Cases.{by-test}
 use Rattle.receiver.proofs.Refusals.{refusal-sound}
 use Rattle.isolation.proofs.Grounds.{refused-as}
 use Rattle.isolation.proofs.Isolation.{says-flat}
+use Rattle.isolation.proofs.Subscriptions.{same-reply}
 use Rattle.isolation.proofs.Promises.{no-call-disturbs-another-at-any-event, the-answer-is-the-calls}
 use Rattle.layout.specs.Layout.{stateLength, decodeOf, lastOf}
 use Rattle.lent.specs.Events.{Fed, Returned, eventCode, answered}
 use Rattle.lent.specs.Promises.{Run, heard, readUnder, readEach, leftAfter, shown, No-call-disturbs-another-in-octets, No-call-disturbs-another-at-any-event-in-octets}
 use Rattle.lent.specs.Promises.{The-answer-is-the-calls-in-octets, A-refused-event-leaves-the-octets, The-length-stays, Fed-determines, A-result-tells-number-and-bit}
+use Rattle.lent.specs.Promises.{blankedLast, More-subscriptions-same-answers-in-octets}
 use Rattle.layout.proofs.Setting.{set-started, set-length}
 use Rattle.lent.proofs.Feeding.{refused-step, length-after, refused-stays}
 
@@ -130,3 +132,14 @@ unfolding eventCode
 a-result-tells-number-and-bit l e whole =
     let s = refusal-sound (decodeOf l) e in
     rw (eq-eqb (length l) stateLength whole) ((s .number, s .bit))
+
+pub more-subscriptions-same-answers-in-octets : More-subscriptions-same-answers-in-octets
+more-subscriptions-same-answers-in-octets s keys sets more others t w l left m right set reset es run again ts u v e k a b f g =
+    let x = the-answer-is-the-calls-in-octets l s keys sets left set t es run ts u e k a f in
+    let y = the-answer-is-the-calls-in-octets m s more others right reset t es again ts v e k b g in
+    let q = same-reply keys sets more others w s es e in
+    let c : a .code ≡ b .code = x .0 ∙ ap (λ (r : Reply). codeOf (r .refusal)) q ∙ sym (y .0) in (
+      c,
+      λ n.
+          ap (blankedLast keys more) (x .1 n) ∙ ap shown q ∙ sym (ap (blankedLast keys more) (y .1 (sym c ∙ n))),
+    )

@@ -1,6 +1,6 @@
--- What is promised of the lent octets: events chain, no call disturbs another (demand 3), and each answer is the calls'. Assumes nothing.
+-- What is promised of the lent octets: events chain, no call disturbs another (demand 3), each answer is the calls', and more subscriptions leave it. Assumes nothing.
 use mathlib.Core.Path.{_≡_}
-use mathlib.Core.List.{List, [], _∷_, _++_}
+use mathlib.Core.List.{List, [], _∷_, _++_, map}
 use Prim.Native.Nat.{ℕ, _/_, _%_, _<_}
 use lib.ListN.{length, take}
 use lib.Dec.{eqb}
@@ -12,6 +12,7 @@ use Rattle.receiver.specs.Channels.{Channel}
 use Rattle.receiver.specs.Step.{Event, refusalOf}
 use Rattle.isolation.specs.One.{hears, Said, runOne, runEach, seen, fresh}
 use Rattle.isolation.specs.Calls.{timerOf, setUnder, channelIn, Reply, replyBy}
+use Rattle.isolation.specs.Subscriptions.{Within, blankNew}
 use Rattle.isolation.specs.Promises.{under, Ticks}
 use Rattle.layout.specs.Layout.{stateLength, decodeOf, Last, lastOf}
 use Rattle.layout.specs.Setup.{SetUp}
@@ -124,3 +125,30 @@ A-result-tells-number-and-bit =
     (l : List ℕ) (e : Event)
     → length l ≡ stateLength
     → (eventCode l e % 256 ≡ refusalOf (decodeOf l) e .number) × (eventCode l e / 256 ≡ refusalOf (decodeOf l) e .bit)
+
+-- ## 7. More subscriptions (document 02, §10)
+
+-- what is read of an answer, without the counts of lost halves and without what is told under the new keys
+abbrev pub blankedLast : List ℕ → List ℕ → Last → Last
+blankedLast keys more a = record { expired = 0; dropped = 0; count = a .count; entries = map (blankNew keys more) (a .entries); paged = a .paged }
+
+-- For any octets that two accepted setups filled, alike but for their keys, those of the first all in the second with the same group keys, and after a run of the same events on
+-- each: the next call returns the same number and bit on both, and where that is 0, what is read then is alike but for the counts of lost halves and the new keys.
+abbrev pub More-subscriptions-same-answers-in-octets : Type 0
+More-subscriptions-same-answers-in-octets =
+    (s : Setup) (keys groups more others : List ℕ)
+    → s .tick < 4294967296
+    → Within keys groups more others
+    → (l left m right : List ℕ)
+    → SetUp l s keys groups left 0
+    → SetUp m s more others right 0
+    → (es : List Event) (run again : List Returned)
+    → Ticks es
+    → Run left es run
+    → Run right es again
+    → (e : Event)
+    → e .tick < 4294967296
+    → (a b : Returned)
+    → Fed (leftAfter left run) e (a .octets) (a .code)
+    → Fed (leftAfter right again) e (b .octets) (b .code)
+    → (a .code ≡ b .code) × (a .code ≡ 0 → blankedLast keys more (lastOf (a .octets)) ≡ blankedLast keys more (lastOf (b .octets)))
