@@ -3,6 +3,7 @@
 # make test      the gate: layout, audit, tests, and every proof from nothing; its last line is 'N passed, M failed'
 # make lib       the C library: target/lib/libasternhaken.a
 # make drive     target/drive: the C library by lines, a command to a line, as vectors/README.md says
+# make replay    proves and builds target/bin/replay: a recorded day on standard input, its answers on standard output (docs/CAPTURE.md)
 # make install   header, archive, shared library, pkg-config file, man page and Python module, into PREFIX (/usr/local); DESTDIR, if there is one, goes before it
 # make uninstall takes away what make install of this version brought, from the same PREFIX and DESTDIR
 MAKEFLAGS += --no-print-directory
@@ -27,7 +28,7 @@ one_by_one = @case ' $(MAKEFLAGS)' in *' -j'*) echo 'make -j changes nothing her
 
 .NOTPARALLEL:
 .DELETE_ON_ERROR:
-.PHONY: help test demo lib drive install uninstall
+.PHONY: help test demo lib drive replay install uninstall
 
 help:
 	@sed -n 's/^# make/make/p' Makefile
@@ -64,6 +65,10 @@ demo: $(archive)
 
 drive: $(archive)
 	$(call compile,tests/drive.c,target/drive)
+
+replay:
+	$(one_by_one)
+	@mkdir -p target && tools/progress target/$@.log 0 rt check $@ >&2
 
 # What is installed, each by its place in PREFIX: what install brings, uninstall takes away, and a folder only where it is ours alone.
 so := lib/libasternhaken.so

@@ -2,14 +2,15 @@
 # Tries the comparison itself: each error of seeded-errors.txt is put into a copy of the second program, which is then built and compared
 # with the archive in a short run of random inputs alone; the hand-written scenes and the vectors are left out. Every error must show up as
 # a difference, where it names a comparison in that one, and one that keeps the random inputs from something as that being met too seldom. An
-# error that a short run does not meet must show up in a run with as many events as the comparison itself has. The copy without an error must
+# error that a short run does not meet must show up in a run with as many events as the comparison itself has. An error of src/capture.rs must
+# show up on random captures, beside the replay program, target/bin/replay or what ASTERNHAKEN_REPLAY says. The copy without an error must
 # show nothing. The last line is `N passed, M failed`.
 #
 #   seeded-errors.sh               all of it
 #   seeded-errors.sh --list FILE   only that the list is long enough, of FILE
 set -u
 # How many errors must be listed, of either kind: those that give a wrong answer, and those that are met too seldom.
-least_wrong=409 least_seldom=26
+least_wrong=438 least_seldom=26
 here=$(cd "$(dirname "$0")" && pwd)
 case $(uname -m) in x86_64) lib=$here/../target/lib ;; *) lib=$here/../target/native ;; esac
 # What the environment names is meant from this folder, as build.rs means it.
@@ -18,8 +19,10 @@ case $lib in /*) ;; *) lib=$here/$lib ;; esac
 export ASTERNHAKEN_LIB=$lib
 workers=${WORKERS:-$(nproc)}
 if [ "$workers" -gt 8 ]; then workers=8; fi
+replay=${ASTERNHAKEN_REPLAY:-$("$here/../tools/program" replay)}
 runs=(--random --messages 20000 --steps 12000)
 long_runs=(--random --messages 20000 --steps 100000)
+replays=(captures --replay "$replay" --count 1000)
 work=$here/target/seeded-errors
 list=$here/seeded-errors.txt
 if [ "${1:-}" = --list ]; then list=$2; fi
@@ -80,10 +83,13 @@ apply() {
     printf '%s\n' "$text" >"$file"
 }
 
-# Builds and runs the copy $1, with its output in $1/output.
+# Builds and runs the copy $1, with its output in $1/output; file $2 has the error.
 compare() {
     (cd "$1" && CARGO_TARGET_DIR=$1/target cargo build --offline --quiet --profile seeded) >"$1/output" 2>&1 || return 2
-    timeout 120 "$1/target/seeded/compare" --stop "${runs[@]}" >"$1/output" 2>&1
+    case $2 in
+        src/capture.rs) timeout 120 "$1/target/seeded/compare" "${replays[@]}" --stop >"$1/output" 2>&1 ;;
+        *) timeout 120 "$1/target/seeded/compare" --stop "${runs[@]}" >"$1/output" 2>&1 ;;
+    esac
 }
 # Runs what was built once more, for longer.
 compare_longer() { timeout 600 "$1/target/seeded/compare" --stop "${long_runs[@]}" >"$1/output" 2>&1; }
@@ -95,7 +101,7 @@ take_errors() {
     mkdir -p "$copy"
     cp "$here/Cargo.toml" "$here/build.rs" "$copy/"
     rm -rf "$copy/src" && cp -r "$here/src" "$copy/src"
-    if ! compare "$copy"; then
+    if ! compare "$copy" src/receiver.rs || ! compare "$copy" src/capture.rs; then
         cp "$copy/output" "$work/clean.output"
         echo "FAILED: no error, and yet a difference or no build" >"$work/000.result"
         return
@@ -105,7 +111,7 @@ take_errors() {
         cp "$here"/src/*.rs "$copy/src/"
         if ! apply "$i" "$copy"; then verdict="FAILED: does not apply"
         else
-            compare "$copy" && compare_longer "$copy"
+            compare "$copy" "${files[$i]}" && compare_longer "$copy"
             case $? in
                 1) if grep -qE "^ *${shows[$i]}" "$copy/output"; then verdict=passed; else verdict="FAILED: not found"; fi ;;
                 2) verdict="FAILED: does not build"; cp "$copy/output" "$work/build-$i.output" ;;

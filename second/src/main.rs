@@ -14,7 +14,8 @@
 //! - listed, rows, scenes: the listed inputs, the vector files, and hand-written scenes for each sentence on the store and on what is told;
 //! - draft, messages, elements, steps: messages laid out from the grammar, and random messages, records, elements and event sequences;
 //!   more: pairs of setups, the second with more subscriptions (§10); cover: what these must have met; uplink_steps: all of that for the
-//!   uplink; record: the calls of the archive, written down.
+//!   uplink; record: the calls of the archive, written down;
+//! - capture: a recorded day, and what replaying it answers; captures: random ones, and the program that replays held against this one.
 //!
 //! To run it, with libasternhaken.a in ../target/lib (on a processor other than x86-64 in ../target/native), or where ASTERNHAKEN_LIB says,
 //! and the vectors in ../vectors, or where ASTERNHAKEN_VECTORS says:
@@ -33,10 +34,15 @@
 //! channel, and what is held of it, with the one-call receiver. The run fails where a refusal or a told number was met fewer than a hundred times, or where the event steps,
 //! or the messages, met something too seldom that cover.rs lists. The last line is `N passed, M failed`.
 //!
+//! Where the first word is `captures`, `capture` or `replay`, this is about recorded days (document 02, §5) and the archive is not asked:
+//! captures.rs has the words. `compare captures --replay ../target/bin/replay` is the comparison.
+//!
 //! seeded-errors.sh tries the comparison itself: it puts errors into copies of this program, and each must be found.
 
 mod bits;
 mod call;
+mod capture;
+mod captures;
 mod cover;
 mod draft;
 mod elements;
@@ -126,6 +132,9 @@ impl Parts {
 }
 
 fn main() {
+    if let Some(status) = captures::main() {
+        std::process::exit(status);
+    }
     let arguments = match arguments() {
         Ok(arguments) => arguments,
         Err(error) => {

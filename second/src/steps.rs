@@ -382,7 +382,7 @@ fn doubtful_pch(rng: &mut Rng, mut n: Vec<u64>) -> Vec<u64> {
 }
 
 /// A message with a half that meets one that is held: mostly the opposite half, mostly with a reference that agrees.
-fn meeting(rng: &mut Rng, receiver: &Receiver) -> Event {
+pub fn meeting(rng: &mut Rng, receiver: &Receiver) -> Event {
     let which = rng.below(receiver.halves.len() as u64) as usize;
     let ((subscription, channel), held) = receiver.halves.iter().nth(which).unwrap();
     let key = receiver.key_at(*subscription) % 200_000_000;
@@ -499,7 +499,7 @@ fn new_count(rng: &mut Rng, receiver: &Receiver, pool: &Pool) -> Vec<Event> {
 }
 
 /// An event that takes a half away which is held, each cause as often as another.
-fn losing(rng: &mut Rng, receiver: &Receiver) -> Event {
+pub fn losing(rng: &mut Rng, receiver: &Receiver) -> Event {
     let which = rng.below(receiver.halves.len() as u64) as usize;
     let (subscription, channel) = receiver.halves.keys().nth(which).unwrap();
     let other = receiver.key_at(*subscription) ^ 1;

@@ -20,8 +20,9 @@ pub struct Line {
 }
 
 // Puts a word from a place on, all of it or nothing where it does not fit, and answers the place behind it.
-fn put(octets: &mut [u8], at: usize, word: &[u8]) -> usize
-    ensures { λ r. ⌜ record { octets = now (octets .exit); at = r } ≡ added (now (word .entry)) (record { octets = now (octets .entry); at = at }) ⌝ }
+pub fn put(octets: &mut [u8], at: usize, word: &[u8]) -> usize
+    ensures { λ r. ⌜ (r ≡ added (now (word .entry)) (record { octets = now (octets .entry); at = at }) .at)
+        × (now (octets .exit) ≡ added (now (word .entry)) (record { octets = now (octets .entry); at = at }) .octets) ⌝ }
 {
     if octets.len() < at {
         return FULL;
@@ -35,6 +36,16 @@ fn put(octets: &mut [u8], at: usize, word: &[u8]) -> usize
         i += 1;
     }
     at + word.len()
+}
+
+// Puts a number from a place on in decimal digits, likewise.
+pub fn put_decimal(octets: &mut [u8], at: usize, n: u64) -> usize
+    ensures { λ r. ⌜ (r ≡ added (decimal n) (record { octets = now (octets .entry); at = at }) .at)
+        × (now (octets .exit) ≡ added (decimal n) (record { octets = now (octets .entry); at = at }) .octets) ⌝ }
+{
+    let mut digits = [0u8; 20];
+    let k = io::decimal(n, &mut digits);
+    put(octets, at, &digits[..k])
 }
 
 // Hands the first octets to a file: no contract can say what it gets. Of a line that is full it gets a question mark.

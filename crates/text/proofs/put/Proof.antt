@@ -6,7 +6,7 @@ use borrow.Author.Needs.{needs}
 use Prim.Native.Nat.{_+_, _-_, _≤_}
 use lib.ListN.{length, getD, set, length-set}
 use lib.Seq.{paste, paste-zero, paste-suc}
-use Rattle.text.proofs.Lines.{line, added-not, added-all}
+use Rattle.text.proofs.Lines.{line, added-not, added-all, parted}
 use Rattle.text.proofs.put.Statement.{statement}
 use Rattle.text.proofs.put.Tie as tie
 
@@ -17,13 +17,17 @@ abbrev μ-loop : tie.MeasureT-loop
 μ-loop octets₀ at word i₀ octets i = length word - i
 
 returns : tie.Need-returns Inv-loop μ-loop
-returns c = added-not _ _ _ (omega arith)
+returns c =
+    let a = c .before .args in
+    parted (added-not (a .octets .now) (a .word .now) (a .at) (omega arith))
 
 sub-if2 : tie.Need-sub-if2 Inv-loop μ-loop
 sub-if2 c = search needs
 
 returns-2 : tie.Need-returns-2 Inv-loop μ-loop
-returns-2 c = added-not _ _ _ (omega arith)
+returns-2 c =
+    let a = c .before .before .args in
+    parted (added-not (a .octets .now) (a .word .now) (a .at) (omega arith))
 
 loop-holds : tie.Need-loop-holds Inv-loop μ-loop
 loop-holds c = (search needs, search needs, paste-zero (c .before .before .args .octets .now) (c .before .before .args .at) (c .before .before .args .word .now))
@@ -61,7 +65,8 @@ returns-3 c =
     let a = c .before .before .before .before .args in
     let l = c .before .loop in
     let e : l .i ≡ length (a .word .now) = omega arith in
-    ap (λ k. line (l .octets) (a .at + k)) (sym e) ∙ ap (λ t. line t (a .at + l .i)) (l .inv .2) ∙ added-all (a .octets .now) (a .word .now) (a .at) (l .i) (omega arith) e
+    parted
+    (ap (λ k. line (l .octets) (a .at + k)) (sym e) ∙ ap (λ t. line t (a .at + l .i)) (l .inv .2) ∙ added-all (a .octets .now) (a .word .now) (a .at) (l .i) (omega arith) e)
 
 pub put-spec : {M : Type 1} → statement M
 put-spec =
