@@ -13,5 +13,6 @@ pub mod Runs
 pub mod Wholes
 pub mod Printing
 pub mod Framing
+pub mod Calling
 pub mod Order
 pub mod Promises

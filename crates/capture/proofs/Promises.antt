@@ -17,6 +17,8 @@ use Rattle.capture.specs.Promises.{However-it-is-cut-the-replay-is-the-s
 use Rattle.capture.specs.Calls.{takenBy}
 use Rattle.capture.specs.Promises.{The-answers-are-the-receivers, The-text-determines-the-answers}
 use Rattle.capture.specs.Promises.{No-key-is-less-than-one-before-it, Each-key-is-there-as-often-as-in-the-setup}
+use Rattle.capture.specs.Promises.{However-feed-is-called-the-replay-is-the-same}
+use Rattle.capture.proofs.Calling.{took-all, wrote-all, left-all}
 use Rattle.capture.proofs.Order.{ordered-sorted, at-order, times-sorted}
 use Rattle.capture.proofs.Runs.{calls-text, calls-after}
 use Rattle.capture.proofs.Wholes.{holds-none, run-text}
@@ -29,6 +31,10 @@ however-it-is-cut-the-replay-is-the-same kept state h calls =
     let m : Machine = machineOf begun kept state in
     let s : List ℕ = takenBy m calls in
     rw (calls-text m calls, calls-after m calls) (ap (λ (t : List ℕ). header ++ t) (run-text s (length s) [] m (holds-none kept h) refl (omega arith)))
+
+pub however-feed-is-called-the-replay-is-the-same : However-feed-is-called-the-replay-is-the-same
+however-feed-is-called-the-replay-is-the-same kept state h calls run u =
+    rw (wrote-all begun kept state calls run u, left-all begun kept state calls run u, took-all begun kept state calls run u) (however-it-is-cut-the-replay-is-the-same kept state h calls)
 
 pub a-call-with-room-takes-something : A-call-with-room-takes-something
 unfolding fedBy

@@ -27,7 +27,7 @@ use Rattle.capture.specs.Replay.{timesLength, setupIn, isSetup, keysOf, 
 abbrev pub keptLength : ℕ
 keptLength = headLength + (timesLength + 4 * keyCount + 1)
 
--- how many fields came, with the present one; where the run stands; how many octets of the present field came; the octets kept of it; the lent state
+-- the number of the present field; where the run stands; how many octets of the present field came; the octets kept of it; the lent state
 pub record Machine : Type 0 where
   pub number : ℕ
   pub stage : Stage

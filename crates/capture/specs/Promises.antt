@@ -14,7 +14,7 @@ use Rattle.text.specs.declared.Line.{Line}
 use Rattle.capture.specs.declared.Fed.{Fed}
 use Rattle.capture.specs.Capture.{Field, fieldOctets}
 use Rattle.capture.specs.Replay.{eventIn, keysCount, keyIn, keysOf, accepts, startIn, Said, saidOnly, saidBy, header, lineText, nextNumber, replayOf}
-use Rattle.capture.specs.Calls.{Call, heldBehind, takenBy, writtenBy}
+use Rattle.capture.specs.Calls.{Call, heldBehind, takenBy, writtenBy, Returned, Ran, octetsIn, textIn, leftIn}
 use Rattle.capture.specs.Machine.{keptLength, Machine, machineOf, mostText, fedBy, ending, begun, Replayed}
 
 -- ## 1. However a capture is cut
@@ -26,6 +26,15 @@ However-it-is-cut-the-replay-is-the-same =
     → length kept ≡ keptLength
     → (calls : List Call)
     → header ++ (writtenBy (machineOf begun kept state) calls ++ ending (heldBehind (machineOf begun kept state) calls)) ≡ replayOf (takenBy (machineOf begun kept state) calls)
+
+-- The same of the calls of `feed` themselves, each of which met its statement.
+abbrev pub However-feed-is-called-the-replay-is-the-same : Type 0
+However-feed-is-called-the-replay-is-the-same =
+    (kept state : List ℕ)
+    → length kept ≡ keptLength
+    → (calls : List Call) (run : List Returned)
+    → Ran begun kept state calls run
+    → header ++ (textIn calls run ++ ending (leftIn (machineOf begun kept state) run)) ≡ replayOf (octetsIn calls run)
 
 -- A call takes octets of its piece from the front, and one at least where there are any and the line has room for the text of a field.
 abbrev pub A-call-with-room-takes-something : Type 0
