@@ -4,6 +4,7 @@
 # make lib       the C library: target/lib/libasternhaken.a
 # make drive     target/drive: the C library by lines, a command to a line, as vectors/README.md says
 # make replay    proves and builds target/bin/replay: a recorded day on standard input, its answers on standard output (docs/CAPTURE.md)
+# make mend      proves and builds target/bin/mend: a recorded day without the fields that replay refuses, and a list of them on standard error
 # make install   header, archive, shared library, pkg-config file, man page and Python module, into PREFIX (/usr/local); DESTDIR, if there is one, goes before it
 # make uninstall takes away what make install of this version brought, from the same PREFIX and DESTDIR
 MAKEFLAGS += --no-print-directory
@@ -28,7 +29,7 @@ one_by_one = @case ' $(MAKEFLAGS)' in *' -j'*) echo 'make -j changes nothing her
 
 .NOTPARALLEL:
 .DELETE_ON_ERROR:
-.PHONY: help test demo lib drive replay install uninstall
+.PHONY: help test demo lib drive replay mend install uninstall
 
 help:
 	@sed -n 's/^# make/make/p' Makefile
@@ -66,7 +67,7 @@ demo: $(archive)
 drive: $(archive)
 	$(call compile,tests/drive.c,target/drive)
 
-replay:
+replay mend:
 	$(one_by_one)
 	@mkdir -p target && tools/progress target/$@.log 0 rt check $@ >&2
 

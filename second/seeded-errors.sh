@@ -2,15 +2,15 @@
 # Tries the comparison itself: each error of seeded-errors.txt is put into a copy of the second program, which is then built and compared
 # with the archive in a short run of random inputs alone; the hand-written scenes and the vectors are left out. Every error must show up as
 # a difference, where it names a comparison in that one, and one that keeps the random inputs from something as that being met too seldom. An
-# error that a short run does not meet must show up in a run with as many events as the comparison itself has. An error of src/capture.rs must
-# show up on random captures, beside the replay program, target/bin/replay or what ASTERNHAKEN_REPLAY says. The copy without an error must
-# show nothing. The last line is `N passed, M failed`.
+# error that a short run does not meet must show up in a run with as many events as the comparison itself has. An error of src/capture.rs or
+# src/captures.rs must show up on random captures, beside the programs replay and mend, in target/bin or what ASTERNHAKEN_REPLAY and ASTERNHAKEN_MEND say. The copy
+# without an error must show nothing. The last line is `N passed, M failed`.
 #
 #   seeded-errors.sh               all of it
 #   seeded-errors.sh --list FILE   only that the list is long enough, of FILE
 set -u
 # How many errors must be listed, of either kind: those that give a wrong answer, and those that are met too seldom.
-least_wrong=438 least_seldom=26
+least_wrong=452 least_seldom=29
 here=$(cd "$(dirname "$0")" && pwd)
 case $(uname -m) in x86_64) lib=$here/../target/lib ;; *) lib=$here/../target/native ;; esac
 # What the environment names is meant from this folder, as build.rs means it.
@@ -20,9 +20,10 @@ export ASTERNHAKEN_LIB=$lib
 workers=${WORKERS:-$(nproc)}
 if [ "$workers" -gt 8 ]; then workers=8; fi
 replay=${ASTERNHAKEN_REPLAY:-$("$here/../tools/program" replay)}
+mend=${ASTERNHAKEN_MEND:-$("$here/../tools/program" mend)}
 runs=(--random --messages 20000 --steps 12000)
 long_runs=(--random --messages 20000 --steps 100000)
-replays=(captures --replay "$replay" --count 1000)
+replays=(captures --replay "$replay" --mend "$mend" --count 1000)
 work=$here/target/seeded-errors
 list=$here/seeded-errors.txt
 if [ "${1:-}" = --list ]; then list=$2; fi
@@ -83,11 +84,11 @@ apply() {
     printf '%s\n' "$text" >"$file"
 }
 
-# Builds and runs the copy $1, with its output in $1/output; file $2 has the error.
+# Builds and runs the copy $1, with its output in $1/output; file $2 has the error. (A run on captures starts thousands of programs, on another processor than x86-64 each in an emulator.)
 compare() {
     (cd "$1" && CARGO_TARGET_DIR=$1/target cargo build --offline --quiet --profile seeded) >"$1/output" 2>&1 || return 2
     case $2 in
-        src/capture.rs) timeout 120 "$1/target/seeded/compare" "${replays[@]}" --stop >"$1/output" 2>&1 ;;
+        src/capture.rs | src/captures.rs) timeout 900 "$1/target/seeded/compare" "${replays[@]}" --stop >"$1/output" 2>&1 ;;
         *) timeout 120 "$1/target/seeded/compare" --stop "${runs[@]}" >"$1/output" 2>&1 ;;
     esac
 }

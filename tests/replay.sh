@@ -99,7 +99,7 @@ refused 'a run that meets too little' 'met too seldom$' $compare captures --repl
 
 # ---- Speed and memory ----
 
-counted 'speed and memory' env ASTERNHAKEN_REPLAY="$replay" second/bench/run-replay.sh --quick
+counted 'speed and memory' env ASTERNHAKEN_REPLAY="$replay" second/bench/run-captures.sh replay --quick
 
 # ---- Programs that are wrong ----
 
@@ -138,6 +138,6 @@ cat > "$tmp/holds" << END
 python3 -c 'import subprocess, sys; subprocess.run("$replay".split(), input=sys.stdin.buffer.read())'
 END
 chmod +x "$tmp/holds"
-refused 'the whole capture in memory' 'the memory grows' env ASTERNHAKEN_REPLAY="$tmp/holds" second/bench/run-replay.sh --quick
+refused 'the whole capture in memory' 'the memory grows' env ASTERNHAKEN_REPLAY="$tmp/holds" second/bench/run-captures.sh replay --quick
 echo "$passed passed, $failed failed"
 [ "$failed" = 0 ]

@@ -5,7 +5,8 @@
 # and the comparison before it was with a stand-in. On x86-64 both are the same archive, and no emulator is needed; EMULATOR=qemu-x86_64 takes one all the same.
 set -uo pipefail
 cd "$(dirname "${BASH_SOURCE[0]}")/.." || exit 1
-make lib || exit 1
+# the programs too, for the errors that are looked for on captures
+make lib replay mend || exit 1
 passed=0 failed=0
 # count NAME COMMAND..: shows what the command writes, and takes its last line, 'N passed, M failed'.
 count() {

@@ -24,7 +24,7 @@ static void become(const char *input, const char *program)
     for (char *word = strtok(line, " "); word && n < WORDS; word = strtok(NULL, " "))
         words[n++] = word;
     int from = open(input, O_RDONLY), to = open("/dev/null", O_WRONLY);
-    if (from < 0 || to < 0 || dup2(from, 0) < 0 || dup2(to, 1) < 0)
+    if (from < 0 || to < 0 || dup2(from, 0) < 0 || dup2(to, 1) < 0 || dup2(to, 2) < 0)
         _exit(126);
     close(from);
     close(to);

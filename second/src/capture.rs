@@ -1,4 +1,4 @@
-//! A recorded day (document 02, §5): the fields of a capture, and what replaying it answers to each of them.
+//! A recorded day (document 02, §5 and §12): the fields of a capture, what replaying it answers to each of them, and what mending leaves.
 //!
 //! A field is a tag of one octet, a length of two, top octet first, and so many octets of contents. This program has the whole capture at
 //! hand and looks where each field begins and ends; nothing here is read in pieces.
@@ -125,4 +125,16 @@ pub fn text(lines: &[Line]) -> String {
         }
     }
     text
+}
+
+/// What the mending program copies, and what it lists: number, offset and refusal of each field that is left out.
+pub fn mend(capture: &[u8]) -> (Vec<u8>, String) {
+    let (mut copy, mut list) = (Vec::new(), String::new());
+    for (number, line) in (1u64..).zip(&replay(capture)) {
+        match line.refusal {
+            0 => copy.extend(&capture[line.start..line.end]),
+            refusal => list += &format!("{number} {} {refusal}\n", line.start),
+        }
+    }
+    (copy, list)
 }

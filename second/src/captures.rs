@@ -1,11 +1,14 @@
 //! Captures at random, and the proved programs held against this one on each of them, octet by octet.
 //!
-//!     compare captures --replay PROGRAM [--count N] [--seed S] [--stop]     the comparison; the last line is `N passed, M failed`
-//!     compare capture [--seed S] [--number N] > FILE                        the Nth of these captures alone
-//!     compare replay < FILE                                                 what this program answers
+//!     compare captures --replay PROGRAM [--mend PROGRAM] [--count N] [--seed S] [--stop]
+//!                                                        the comparison, with either or both; the last line is `N passed, M failed`
+//!     compare capture [--seed S] [--number N] > FILE     the Nth of these captures alone
+//!     compare replay < FILE                              what this program answers
+//!     compare mend < FILE                                what this program copies, and what it lists
 //!
-//! PROGRAM may have words behind it, and an emulator before it. It must answer on standard output, say nothing on standard error and end
-//! with status 0. The run fails where something was met too seldom that LEAST lists.
+//! PROGRAM may have words behind it, and an emulator before it. It must answer on standard output, say nothing on standard error, if it is not
+//! to mend, and end with status 0. What a program has mended it is given to mend again. The run fails where something was met too seldom that
+//! LEAST lists.
 
 use crate::capture::*;
 use crate::draft::{octets_of_bits, Pool};
@@ -243,19 +246,19 @@ impl Draft {
     }
 }
 
-/// The nth capture of a seed.
-pub fn make(seed: u64, nth: u64) -> Vec<u8> {
+/// The nth capture of a seed, and what was done to it.
+pub fn make(seed: u64, nth: u64) -> (Vec<u8>, &'static str) {
     let rng = &mut Rng::new(seed.wrapping_mul(1 << 32).wrapping_add(nth << 2));
     let pool = steps::small_pool(rng);
     match rng.below(40) {
         0 => {
             let length = rng.below(12) as usize;
-            return rng.octets(length);
+            return (rng.octets(length), UNSPOILT);
         }
         1 => {
             let mut octets = field(SETUP_TAG, &good_setup(rng, &pool).0);
             octets.truncate(rng.below(6) as usize);
-            return octets;
+            return (octets, CUT);
         }
         2..=6 => {
             let octets = first_faults(rng, &pool);
@@ -275,7 +278,7 @@ pub fn make(seed: u64, nth: u64) -> Vec<u8> {
         }
     }
     if clean {
-        draft.octets
+        (draft.octets, UNSPOILT)
     } else {
         spoilt(rng, draft.octets)
     }
@@ -301,17 +304,29 @@ fn first_faults(rng: &mut Rng, pool: &Pool) -> Vec<u8> {
     octets
 }
 
+/// What was done to a capture.
+const UNSPOILT: &str = "a capture as it was made";
+const CUT: &str = "a capture that is cut";
+const LENGTHENED: &str = "a capture with octets behind it";
+const FLIPPED: &str = "a capture with bits flipped";
+const PUT_IN: &str = "a capture with octets put in";
+const TAKEN_OUT: &str = "a capture with octets taken out";
+
 /// Often cut, sometimes with a bit that is another, or with octets more, or less, somewhere.
-fn spoilt(rng: &mut Rng, mut octets: Vec<u8>) -> Vec<u8> {
+fn spoilt(rng: &mut Rng, mut octets: Vec<u8>) -> (Vec<u8>, &'static str) {
     let somewhere = |rng: &mut Rng, octets: &[u8]| rng.below(octets.len() as u64 + 1) as usize;
-    match rng.below(16) {
-        0..=3 => octets.truncate(somewhere(rng, &octets)),
+    let how = match rng.below(16) {
+        0..=3 => {
+            octets.truncate(somewhere(rng, &octets));
+            CUT
+        }
         // A field behind the last, of which only a part of the head is there, or all but the last octet.
         4 | 5 => {
             let head = [rng.pick(&[0, 1, 2, 3, 7, 8]), rng.pick(&[0, 0, 1, 255]), rng.pick(&[1, 4, 24, 27, 255])];
             let more = field(head[0], &rng.octets(number(&head[1..]) as usize));
             let length = if rng.one_in(3) { more.len() - 1 } else { 1 + rng.below(3) as usize };
             octets.extend(&more[..length]);
+            LENGTHENED
         }
         6 | 7 => {
             for _ in 0..1 + rng.below(3) {
@@ -320,23 +335,32 @@ fn spoilt(rng: &mut Rng, mut octets: Vec<u8>) -> Vec<u8> {
                     *octet ^= 1 << rng.below(8);
                 }
             }
+            FLIPPED
         }
         8 => {
             let (at, length) = (somewhere(rng, &octets), 1 + rng.below(8) as usize);
             octets.splice(at..at, rng.octets(length));
+            PUT_IN
         }
         9 => {
             let at = somewhere(rng, &octets);
             let end = octets.len().min(at + 1 + rng.below(8) as usize);
             octets.drain(at..end);
+            TAKEN_OUT
         }
-        _ => {}
-    }
-    octets
+        _ => UNSPOILT,
+    };
+    (octets, how)
 }
 
 /// What is met, and how often at least in 1,000 captures: a good third of what four seeds give.
-const LEAST: [(&str, u64); 85] = [
+const LEAST: [(&str, u64); 92] = [
+    (UNSPOILT, 170),
+    (CUT, 63),
+    (FLIPPED, 30),
+    (LENGTHENED, 30),
+    (PUT_IN, 14),
+    (TAKEN_OUT, 14),
     ("a clean capture", 77),
     ("a drop, tag 1", 410),
     ("a drop, tag 2", 360),
@@ -345,6 +369,7 @@ const LEAST: [(&str, u64); 85] = [
     ("a drop, tag 5", 53),
     ("a drop, tag 6", 55),
     ("a drop, tag 7", 34),
+    ("a field left out above offset 65,535", 240),
     ("a field number of four digits", 2),
     ("a field of 65,535 octets", 5),
     ("a paging message that is accepted", 380),
@@ -473,8 +498,8 @@ fn name(capture: &[u8], place: usize, line: &Line) -> String {
     }
 }
 
-/// What was met in a capture, by its lines.
-fn meet(met: &mut BTreeMap<String, u64>, capture: &[u8], lines: &[Line]) {
+/// What was met in a capture, by what was done to it and by its lines.
+fn meet(met: &mut BTreeMap<String, u64>, (capture, how): (&[u8], &str), lines: &[Line]) {
     let mut count = |there: bool, what: &str| {
         if there {
             *met.entry(what.to_string()).or_default() += 1;
@@ -482,6 +507,7 @@ fn meet(met: &mut BTreeMap<String, u64>, capture: &[u8], lines: &[Line]) {
     };
     count(lines.len() > 1 && lines.iter().all(|line| line.refusal == 0), "a clean capture");
     count(capture.is_empty(), "no octets");
+    count(true, how);
     count(lines.len() > 999, "a field number of four digits");
     for (place, line) in lines.iter().enumerate() {
         let (accepted, length) = (line.refusal == 0, line.end - line.start);
@@ -489,6 +515,7 @@ fn meet(met: &mut BTreeMap<String, u64>, capture: &[u8], lines: &[Line]) {
         count(true, &name(capture, place, line));
         count(place == 0 && line.refusal == NO_SETUP && line.end < capture.len(), "fields behind a 17 that ends the run");
         count(line.refusal != TORN && length == HEAD + LONGEST, "a field of 65,535 octets");
+        count(!accepted && line.start > LONGEST, "a field left out above offset 65,535");
         count(line.refusal >= NO_EVENT && behind, &format!("an event behind a {} that is skipped", line.refusal));
         if accepted && line.tag == SETUP_TAG {
             let keys = keys_of(&capture[line.start + HEAD..line.end]);
@@ -582,16 +609,30 @@ impl Comparison {
     }
 }
 
+/// Replaying a mended capture refuses nothing, and tells and drops what replaying the capture did, in the same order. Where the first setup was
+/// not accepted nothing is left.
+fn keeps(before: &[Line], after: &[Line]) -> bool {
+    let told = |line: &Line| (line.tag, line.dropped, line.told.clone());
+    after.iter().all(|line| line.refusal == 0) && before.iter().filter(|line| line.refusal == 0).map(told).eq(after.iter().map(told))
+}
+
 fn compare(arguments: &Arguments) -> bool {
     let mut all = Comparison { seed: arguments.seed, stop: arguments.stop, passed: 0, failed: 0, met: BTreeMap::new() };
     println!("seed {}, {} captures", arguments.seed, arguments.count);
     for nth in 0..arguments.count {
-        let capture = make(arguments.seed, nth);
+        let (capture, how) = make(arguments.seed, nth);
         let lines = replay(&capture);
         if let Some(program) = &arguments.replay {
             all.same("replay", nth, &capture, &run(program, &capture), (text(&lines).as_bytes(), b""));
         }
-        meet(&mut all.met, &capture, &lines);
+        if let Some(program) = &arguments.mend {
+            let (copy, list) = mend(&capture);
+            let mended = run(program, &capture);
+            all.same("mend", nth, &capture, &mended, (&copy, list.as_bytes()));
+            all.same("mend, once more", nth, &capture, &run(program, &mended.0), (&copy, b""));
+            all.check(keeps(&lines, &replay(&copy)), nth, &capture, || "  what is told and dropped after mending".to_string());
+        }
+        meet(&mut all.met, (&capture, how), &lines);
     }
     all.finish(arguments.count)
 }
@@ -602,11 +643,12 @@ struct Arguments {
     count: u64,
     stop: bool,
     replay: Option<String>,
+    mend: Option<String>,
 }
 
 fn arguments(mut words: impl Iterator<Item = String>) -> Option<Arguments> {
     let seed = std::env::var("SEED").ok().and_then(|seed| seed.parse().ok()).unwrap_or(44_018);
-    let mut arguments = Arguments { seed, number: 0, count: 1_000, stop: false, replay: None };
+    let mut arguments = Arguments { seed, number: 0, count: 1_000, stop: false, replay: None, mend: None };
     while let Some(word) = words.next() {
         match &word[..] {
             "--stop" => arguments.stop = true,
@@ -614,6 +656,7 @@ fn arguments(mut words: impl Iterator<Item = String>) -> Option<Arguments> {
             "--number" => arguments.number = words.next()?.parse().ok()?,
             "--count" => arguments.count = words.next()?.parse().ok()?,
             "--replay" => arguments.replay = Some(words.next()?),
+            "--mend" => arguments.mend = Some(words.next()?),
             _ => return None,
         }
     }
@@ -624,18 +667,27 @@ fn arguments(mut words: impl Iterator<Item = String>) -> Option<Arguments> {
 /// something differs, 2 where the words make no sense.
 pub fn main() -> Option<i32> {
     let mut words = std::env::args().skip(1);
-    let word = words.next().filter(|word| matches!(&word[..], "replay" | "capture" | "captures"))?;
-    let Some(arguments) = arguments(words).filter(|given| word != "captures" || given.replay.is_some()) else {
-        eprintln!("usage: compare replay | compare capture [--seed S] [--number N] | compare captures --replay PROGRAM [--count N] [--seed S] [--stop]");
+    let word = words.next().filter(|word| matches!(&word[..], "replay" | "mend" | "capture" | "captures"))?;
+    let enough = |given: &Arguments| word != "captures" || given.replay.is_some() || given.mend.is_some();
+    let Some(arguments) = arguments(words).filter(enough) else {
+        eprintln!("usage: compare replay | compare mend | compare capture [--seed S] [--number N]");
+        eprintln!("       compare captures [--replay PROGRAM] [--mend PROGRAM] [--count N] [--seed S] [--stop]");
         return Some(2);
     };
-    let mut capture = Vec::new();
-    match &word[..] {
-        "captures" => return Some(i32::from(!compare(&arguments))),
-        "capture" => capture = make(arguments.seed, arguments.number),
-        _ => _ = std::io::stdin().read_to_end(&mut capture).expect("a capture"),
+    if word == "captures" {
+        return Some(i32::from(!compare(&arguments)));
     }
-    let written = if word == "replay" { text(&replay(&capture)).into_bytes() } else { capture };
+    let (mut capture, _) = make(arguments.seed, arguments.number);
+    if word != "capture" {
+        capture.clear();
+        std::io::stdin().read_to_end(&mut capture).expect("a capture");
+    }
+    let (written, said) = match &word[..] {
+        "replay" => (text(&replay(&capture)).into_bytes(), String::new()),
+        "mend" => mend(&capture),
+        _ => (capture, String::new()),
+    };
     std::io::stdout().write_all(&written).expect("standard output");
+    eprint!("{said}");
     Some(0)
 }

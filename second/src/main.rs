@@ -15,7 +15,7 @@
 //! - draft, messages, elements, steps: messages laid out from the grammar, and random messages, records, elements and event sequences;
 //!   more: pairs of setups, the second with more subscriptions (§10); cover: what these must have met; uplink_steps: all of that for the
 //!   uplink; record: the calls of the archive, written down;
-//! - capture: a recorded day, and what replaying it answers; captures: random ones, and the program that replays held against this one.
+//! - capture: a recorded day, what replaying it answers and what mending leaves of it; captures: random ones, and the programs held against this.
 //!
 //! To run it, with libasternhaken.a in ../target/lib (on a processor other than x86-64 in ../target/native), or where ASTERNHAKEN_LIB says,
 //! and the vectors in ../vectors, or where ASTERNHAKEN_VECTORS says:
@@ -34,8 +34,8 @@
 //! channel, and what is held of it, with the one-call receiver. The run fails where a refusal or a told number was met fewer than a hundred times, or where the event steps,
 //! or the messages, met something too seldom that cover.rs lists. The last line is `N passed, M failed`.
 //!
-//! Where the first word is `captures`, `capture` or `replay`, this is about recorded days (document 02, §5) and the archive is not asked:
-//! captures.rs has the words. `compare captures --replay ../target/bin/replay` is the comparison.
+//! Where the first word is `captures`, `capture`, `replay` or `mend`, this is about recorded days (document 02, §5 and §12) and the archive is
+//! not asked: captures.rs has the words. `compare captures --replay ../target/bin/replay --mend ../target/bin/mend` is the comparison.
 //!
 //! seeded-errors.sh tries the comparison itself: it puts errors into copies of this program, and each must be found.
 

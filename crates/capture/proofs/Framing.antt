@@ -47,11 +47,11 @@ module _ (f : Field) (s : List ℕ) where
 
 -- ## Fields in a row
 
-wholes : List Field → List Part
+unfoldable pub wholes : List Field → List Part
 wholes [] = []
 wholes (f ∷ fs) = whole f ∷ wholes fs
 
-all-parts : (fs : List Field) (k : ℕ) → length (captureOf fs) ≤ k → partsFrom k (captureOf fs) ≡ wholes fs
+pub all-parts : (fs : List Field) (k : ℕ) → length (captureOf fs) ≤ k → partsFrom k (captureOf fs) ≡ wholes fs
 unfolding captureOf wholes partsFrom
 all-parts [] zero h = refl
 all-parts [] (suc k) h = refl

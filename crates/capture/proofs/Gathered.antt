@@ -69,7 +69,7 @@ unfolding gathering
 gather-some kept got [] h = absurd (omega arith)
 gather-some kept got (o ∷ s) h = by-test (isLast (set kept got o) got) (λ e. rw e (omega arith)) (λ e. rw e (omega arith))
 
-first-of : (a b : Bool) → both a b ≡ true → a ≡ true
+pub first-of : (a b : Bool) → both a b ≡ true → a ≡ true
 first-of true b e = refl
 first-of false b e = e
 

@@ -7,6 +7,7 @@ pub mod Sorting
 pub mod Numbers
 pub mod Telling
 pub mod Stepping
+pub mod Mendings
 pub mod Listed
 pub mod Shortened
 pub mod Runs

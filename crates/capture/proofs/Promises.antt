@@ -8,13 +8,17 @@ use lib.ListN.{length}
 use Rattle.receiver.proofs.Cases.{by-test}
 use Rattle.capture.specs.declared.Phase.{Phase}
 use Rattle.capture.specs.declared.Phase.the-variants.{Before, Running, Over}
+use Rattle.capture.specs.declared.Replay.{Replay}
 use Rattle.capture.specs.declared.Fed.{Fed}
+use Rattle.capture.specs.declared.Mended.{Mended}
 use Rattle.capture.specs.Capture.{partsOf}
 use Rattle.layout.specs.Octets.{tabulate}
 use Rattle.capture.specs.Replay.{keysCount, keyIn, sorted, keysOf, Stage, before, running, over, header, replayOf}
 use Rattle.capture.specs.Machine.{Machine, stageIn, machineOf, mostText, hasRoom, tookOne, withText, Taken, fedBy, begun}
 use Rattle.capture.specs.Promises.{However-it-is-cut-the-replay-is-the-same, A-call-with-room-takes-something, A-call-takes-no-more-than-it-is-offered, Replayed-determines}
 use Rattle.capture.specs.Calls.{takenBy}
+use Rattle.capture.specs.Mending.{mendingOf, mendedOne, withField, haveRoom, MendTaken, mendedBy, linesOf}
+use Rattle.capture.specs.Promises.{A-mending-call-with-room-takes-something, A-mending-call-takes-no-more-than-it-is-offered, MendFed-determines}
 use Rattle.capture.specs.Promises.{The-answers-are-the-receivers, The-text-determines-the-answers}
 use Rattle.capture.specs.Promises.{No-key-is-less-than-one-before-it, Each-key-is-there-as-often-as-in-the-setup}
 use Rattle.capture.specs.Promises.{However-feed-is-called-the-replay-is-the-same}
@@ -91,3 +95,44 @@ no-key-is-less-than-one-before-it c i j h k = at-order (sorted (tabulate (keyIn 
 pub each-key-is-there-as-often-as-in-the-setup : Each-key-is-there-as-often-as-in-the-setup
 unfolding keysOf
 each-key-is-there-as-often-as-in-the-setup c key = times-sorted key (tabulate (keyIn c) 0 (keysCount c))
+
+pub a-mending-call-with-room-takes-something : A-mending-call-with-room-takes-something
+unfolding mendedBy
+a-mending-call-with-room-takes-something m [] l h r = absurd (omega arith)
+a-mending-call-with-room-takes-something m (o ∷ s) l h r = rw r (omega arith)
+
+pub a-mending-call-takes-no-more-than-it-is-offered : A-mending-call-takes-no-more-than-it-is-offered
+unfolding mendedBy
+a-mending-call-takes-no-more-than-it-is-offered m [] l = omega arith
+a-mending-call-takes-no-more-than-it-is-offered m (o ∷ s) l =
+    by-test (haveRoom l) (λ p. rw p (omega (arith, a-mending-call-takes-no-more-than-it-is-offered (mendedOne m o) s (withField m o l)))) (λ p. rw p (omega arith))
+
+-- what `feed` answers, from what is taken
+answerOf : MendTaken → Mended
+answerOf t =
+    let r : Machine = t .mending .machine in
+    record {
+      mend = record { replay = record { number = r .number; phase = phaseOf (r .stage); got = r .got }; offset = t .mending .offset };
+      taken = t .taken;
+      copied = t .lines .copy .at;
+      listed = t .lines .list .at;
+    }
+
+answer-is : (f : Mended) (kept state copy list : List ℕ) → answerOf (record { mending = mendingOf (f .mend) kept state; taken = f .taken; lines = linesOf copy list f }) ≡ f
+unfolding answerOf
+answer-is f kept state copy list =
+    let r : Replay = f .mend .replay in
+    ap
+    (λ (p : Phase).
+    record { mend = record { replay = record { number = r .number; phase = p; got = r .got }; offset = f .mend .offset }; taken = f .taken; copied = f .copied; listed = f .listed })
+    (phase-is (r .phase) state)
+
+pub mendfed-determines : MendFed-determines
+mendfed-determines m s l f g kept kept′ state state′ copy copy′ list list′ x y =
+    let e = x .taken ∙ sym (y .taken) in (
+      sym (answer-is f kept state copy list) ∙ ap answerOf e ∙ answer-is g kept′ state′ copy′ list′,
+      ap (λ (t : MendTaken). t .mending .machine .kept) e,
+      ap (λ (t : MendTaken). t .mending .machine .state) e,
+      ap (λ (t : MendTaken). t .lines .copy .octets) e,
+      ap (λ (t : MendTaken). t .lines .list .octets) e,
+    )

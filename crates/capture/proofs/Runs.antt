@@ -126,7 +126,7 @@ fed-as m (o ∷ s) l h =
     by-test (hasRoom l) (λ p. rw p (fed-room m o s l h p (fedBy (tookOne m o) s (withText m o l)) (fed-as (tookOne m o) s (withText m o l) (room-with m o l h p))))
     (λ p. rw p (none-fed m (o ∷ s) l h))
 
-written-is : (t o : List ℕ) (at : ℕ) → at + length t ≤ length o → written (line o at) (added t (line o at)) ≡ t
+pub written-is : (t o : List ℕ) (at : ℕ) → at + length t ≤ length o → written (line o at) (added t (line o at)) ≡ t
 unfolding added
 written-is t o at h =
     let e : (take at o ++ t) ++ drop (at + length t) o ≡ take at o ++ (t ++ drop (at + length t) o) = append-assoc (take at o) t (drop (at + length t) o) in

@@ -149,7 +149,38 @@ module _ (tag : ℕ) (c : List ℕ) (long : most < length c) where
       by-test (eqb tag 0) (λ p. (rw p, rw p)) (λ p. (rw p (said-event r .0), rw p (ap running (said-event r .1))))
   long-same over = (refl, refl)
 
+  -- nor is one accepted at any stage
+  not-heard : (r : Receiver) → saidTo r tag (eventBy tag c) .refusal ≡ 0 → ⊥
+  unfolding ground
+  not-heard r =
+      let g : tickLength ≤ length c = omega arith in
+      let b : 205 < length (drop tickLength c) = rw length-drop (omega arith) in
+      by-test (eqb tag 1)
+      (λ p. rw (event-1 tag c g (eqb-true tag 1 p), nch-refused r (tickIn c) (drop tickLength c) (λ q. omega arith)) (not-so r (tickIn c)))
+      (λ p.
+      let n1 = eqb-false tag 1 p in
+      by-test (eqb tag 2)
+      (λ p. rw (event-2 tag c g n1 (eqb-true tag 2 p), facch-refused r (tickIn c) (drop tickLength c) (omega arith)) (not-so r (tickIn c)))
+      (λ p.
+      let n2 = eqb-false tag 2 p in
+      by-test (eqb tag 3)
+      (λ p. rw (event-not-3 tag c g n1 n2 (eqb-true tag 3 p) (λ q. omega arith)) (λ e. omega arith))
+      (λ p. rw (event-long tag c g n1 n2 (eqb-false tag 3 p) (λ q. omega arith)) (λ e. omega arith))))
+    where
+      not-so : (r : Receiver) (t : ℕ) → lengthRefused r t .number ≡ 0 → ⊥
+      not-so r t = by-test (late t (r .tick)) (λ p. rw p (λ e. omega arith)) (λ p. rw p (λ e. omega arith))
+
+  not-accepted : (st : Stage) → saidOf (whole (record { tag = tag; contents = c })) st .refusal ≡ 0 → ⊥
+  not-accepted before = rw long-refused (λ e. omega arith)
+  not-accepted (running r) = by-test (eqb tag 0) (λ p. rw p (λ e. omega arith)) (λ p. rw p (not-heard r))
+  not-accepted over = λ e. omega arith
+
 -- ## Any field
+
+-- a field that is accepted is kept whole
+pub accepted-short : (tag : ℕ) (c : List ℕ) (st : Stage) → saidOf (whole (record { tag = tag; contents = c })) st .refusal ≡ 0 → length c ≤ most
+accepted-short tag c st e =
+    by-test (leb (length c) most) (λ p. leb-true (length c) most p) (λ p. absurd (not-accepted tag c (leb-false (length c) most p) st e))
 
 pub same-short : (tag : ℕ) (c : List ℕ) (st : Stage) → (saidOf (whole (record { tag = tag; contents = take most c })) st ≡ saidOf (whole (record { tag = tag; contents = c })) st)
     × (stageAfter (whole (record { tag = tag; contents = take most c })) st ≡ stageAfter (whole (record { tag = tag; contents = c })) st)

@@ -186,9 +186,9 @@ over-none got b e = rw e (never (ltb 0 got))
     never true = refl
     never false = refl
 
+pub positive : (n : ℕ) → (n ≡ 0 → ⊥) → 0 < n
+positive zero h = absurd (h refl)
+positive (suc n) h = omega arith
+
 pub begun-torn : (got : ℕ) (b : Bool) → (got ≡ 0 → ⊥) → b ≡ false → both (ltb 0 got) (not b) ≡ true
 begun-torn got b n e = rw (e, lt-ltb 0 got (positive got n))
-  where
-    positive : (n : ℕ) → (n ≡ 0 → ⊥) → 0 < n
-    positive zero h = absurd (h refl)
-    positive (suc n) h = omega arith

@@ -55,14 +55,14 @@ module _ (kept : List ℕ) (got : ℕ) (p : List ℕ) (h : Holds kept got p) (o 
 
 -- the first octets are there
 module _ (kept : List ℕ) (got : ℕ) (p : List ℕ) (h : Holds kept got p) where
-  octet-same : (i : ℕ) → i < length p → i < keptLength → getD kept i 0 ≡ getD p i 0
+  pub octet-same : (i : ℕ) → i < length p → i < keptLength → getD kept i 0 ≡ getD p i 0
   octet-same i a b = sym (getD-take (length p) kept i 0 a) ∙ ap (λ (l : List ℕ). getD l i 0) (h .same) ∙ getD-take keptLength p i 0 b
 
   head-same : headLength ≤ length p → lengthIn kept ≡ lengthIn p
   head-same a = rw (octet-same 1 (omega arith) (omega arith), octet-same 2 (omega arith) (omega arith))
 
 -- the octet that ends a field makes it whole
-last-whole : (kept : List ℕ) (got : ℕ) (q : List ℕ) → Holds kept (suc got) q → isLast kept got ≡ isWhole q
+pub last-whole : (kept : List ℕ) (got : ℕ) (q : List ℕ) → Holds kept (suc got) q → isLast kept got ≡ isWhole q
 last-whole kept got q h =
     rw (h .counted)
     (by-test (leb headLength (length q)) (λ e. rw (e, head-same kept (suc got) q h (leb-true headLength (length q) e))) (λ e. rw e))
@@ -88,7 +88,7 @@ module _ (p : List ℕ) (o : ℕ) (not-yet : isWhole p ≡ false) (now : isWhole
   q-length : length q ≡ length p + 1
   q-length = length-append p (o ∷ [])
 
-  headed : headLength ≤ length q
+  pub headed : headLength ≤ length q
   headed = leb-true headLength (length q) (first (leb headLength (length q)) (leb (headLength + lengthIn q) (length q)) now)
 
   at-least : headLength + lengthIn q ≤ length q
@@ -108,7 +108,7 @@ module _ (p : List ℕ) (o : ℕ) (not-yet : isWhole p ≡ false) (now : isWhole
       early : leb headLength (length p) ≡ false → length q ≤ headLength + lengthIn q
       early e = omega (arith, leb-false headLength (length p) e, q-length)
 
-  exact : headLength + lengthIn q ≡ length q
+  pub exact : headLength + lengthIn q ≡ length q
   exact = omega (arith, at-least, at-most)
 
   contents-length : length (drop headLength q) ≡ lengthIn q
@@ -116,7 +116,7 @@ module _ (p : List ℕ) (o : ℕ) (not-yet : isWhole p ≡ false) (now : isWhole
 
   -- with what stands behind it
   module _ (s : List ℕ) where
-    same-head : lengthIn (q ++ s) ≡ lengthIn q
+    pub same-head : lengthIn (q ++ s) ≡ lengthIn q
     same-head = rw (List·getD-append q s 0 1 (omega (arith, headed)), List·getD-append q s 0 2 (omega (arith, headed)))
 
     pub whole-then : isWhole (q ++ s) ≡ true
@@ -142,7 +142,7 @@ module _ (p : List ℕ) (o : ℕ) (not-yet : isWhole p ≡ false) (now : isWhole
 
 -- ## Parts
 
-parts-none : (k : ℕ) → partsFrom k [] ≡ []
+pub parts-none : (k : ℕ) → partsFrom k [] ≡ []
 unfolding partsFrom
 parts-none zero = refl
 parts-none (suc k) = refl
@@ -152,7 +152,7 @@ unfolding partsFrom
 parts-whole k [] h e = absurd (omega arith)
 parts-whole k (t ∷ s) h e = rw e
 
-parts-torn : (k : ℕ) (q : List ℕ) → 0 < length q → isWhole q ≡ false → partsFrom (suc k) q ≡ torn (getD q 0 0) ∷ []
+pub parts-torn : (k : ℕ) (q : List ℕ) → 0 < length q → isWhole q ≡ false → partsFrom (suc k) q ≡ torn (getD q 0 0) ∷ []
 unfolding partsFrom
 parts-torn k [] h e = absurd (omega arith)
 parts-torn k (t ∷ s) h e = rw e
@@ -169,7 +169,7 @@ unfolding afterAll tookOne
 over-after m [] e = refl
 over-after m (o ∷ s) e = rw e (over-after m s e)
 
-no-ending : (a : Bool) → both a false ≡ false
+pub no-ending : (a : Bool) → both a false ≡ false
 no-ending true = refl
 no-ending false = refl
 
@@ -207,19 +207,19 @@ module _ (m : Machine) (p : List ℕ) (goes : isOver (m .stage) ≡ false) (h : 
 -- the octet that ends a field: its line, and the rest from there
 module _ (m : Machine) (p : List ℕ) (o : ℕ) (s : List ℕ) (k : ℕ) (goes : isOver (m .stage) ≡ false) (h : Holds (m .kept) (m .got) p) (not-yet : isWhole p ≡ false)
     (now : isWhole (p ++ (o ∷ [])) ≡ true) where
-  abbrev got-whole : Field
+  abbrev pub got-whole : Field
   got-whole = record { tag = getD (p ++ (o ∷ [])) 0 0; contents = drop headLength (p ++ (o ∷ [])) }
 
-  is-kept : fieldKept (keptWith m o) (m .got) ≡ record { tag = getD (p ++ (o ∷ [])) 0 0; contents = take most (drop headLength (p ++ (o ∷ []))) }
+  pub is-kept : fieldKept (keptWith m o) (m .got) ≡ record { tag = getD (p ++ (o ∷ [])) 0 0; contents = take most (drop headLength (p ++ (o ∷ []))) }
   is-kept = field-kept p o not-yet now (keptWith m o) (m .got) (holds-next (m .kept) (m .got) p h o)
 
-  said-whole : saidOf (whole (fieldKept (keptWith m o) (m .got))) (m .stage) ≡ saidOf (whole got-whole) (m .stage)
+  pub said-whole : saidOf (whole (fieldKept (keptWith m o) (m .got))) (m .stage) ≡ saidOf (whole got-whole) (m .stage)
   said-whole = ap (λ (f : Field). saidOf (whole f) (m .stage)) is-kept ∙ same-short (getD (p ++ (o ∷ [])) 0 0) (drop headLength (p ++ (o ∷ []))) (m .stage) .0
 
-  stage-whole : stageAfter (whole (fieldKept (keptWith m o) (m .got))) (m .stage) ≡ stageAfter (whole got-whole) (m .stage)
+  pub stage-whole : stageAfter (whole (fieldKept (keptWith m o) (m .got))) (m .stage) ≡ stageAfter (whole got-whole) (m .stage)
   stage-whole = ap (λ (f : Field). stageAfter (whole f) (m .stage)) is-kept ∙ same-short (getD (p ++ (o ∷ [])) 0 0) (drop headLength (p ++ (o ∷ []))) (m .stage) .1
 
-  parts-here : partsFrom (suc k) ((p ++ (o ∷ [])) ++ s) ≡ whole got-whole ∷ partsFrom k s
+  pub parts-here : partsFrom (suc k) ((p ++ (o ∷ [])) ++ s) ≡ whole got-whole ∷ partsFrom k s
   parts-here =
       parts-whole k ((p ++ (o ∷ [])) ++ s) (omega (arith, length-append (p ++ (o ∷ [])) s, length-append p (o ∷ []))) (whole-then p o not-yet now s)
       ∙ rw (field-then p o not-yet now s, behind-then p o not-yet now s)

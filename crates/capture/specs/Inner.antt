@@ -14,6 +14,8 @@ use Rattle.capture.specs.declared.answers.Answered.{Answered}
 use Rattle.capture.specs.Capture.{Field, whole}
 use Rattle.capture.specs.Replay.{Said, saidOnly, told, Stage, saidTo, saidOf, receiverAfter, stageAfter}
 use Rattle.capture.specs.declared.Fed.{Fed}
+use Rattle.capture.specs.declared.Mended.{Mended}
+use Rattle.capture.specs.Mending.{Mending, mendingOf, Lines, linesOf, moreMended, mendedBy}
 use Rattle.capture.specs.Machine.{Machine, machineOf, stageIn, octetsBy, stateAfter, isLast, more, fedBy}
 
 -- ## Octets gathered to a field
@@ -63,5 +65,10 @@ pub record Answers (f : Field) (st : Stage) (l : List ℕ) (a : Answered) (left 
 -- octets of a piece are taken, one at least, and the rest is to be taken from there
 pub record Stepped (m : Machine) (s : List ℕ) (l : Line) (f : Fed) (kept state out : List ℕ) : Type 0 where
   pub rest : fedBy m s l ≡ more (f .taken) (fedBy (machineOf (f .replay) kept state) (drop (f .taken) s) (record { octets = out; at = f .at }))
+  pub any : 0 < f .taken
+  pub within : f .taken ≤ length s
+
+pub record MendStepped (m : Mending) (s : List ℕ) (l : Lines) (f : Mended) (kept state copy list : List ℕ) : Type 0 where
+  pub rest : mendedBy m s l ≡ moreMended (f .taken) (mendedBy (mendingOf (f .mend) kept state) (drop (f .taken) s) (linesOf copy list f))
   pub any : 0 < f .taken
   pub within : f .taken ≤ length s

@@ -2,6 +2,8 @@
 pub mod Capture
 pub mod Replay
 pub mod Machine
+pub mod Mend
+pub mod Mending
 pub mod Calls
 pub mod Inner
 pub mod Promises

@@ -1,4 +1,4 @@
--- What is promised of replaying a capture (document 02, §5). proofs/Promises proves each. Assumes nothing.
+-- What is promised of replaying a capture (document 02, §5), and of a call of mending (§12). proofs/Promises proves each. Assumes nothing.
 use mathlib.Core.Path.{_≡_}
 use mathlib.Core.Bool.{true}
 use mathlib.Core.List.{List, [], _∷_, _++_}
@@ -12,8 +12,10 @@ use Rattle.receiver.specs.Step.{Event, stepOf}
 use Rattle.layout.specs.Octets.{tabulate}
 use Rattle.text.specs.declared.Line.{Line}
 use Rattle.capture.specs.declared.Fed.{Fed}
+use Rattle.capture.specs.declared.Mended.{Mended}
 use Rattle.capture.specs.Capture.{Field, fieldOctets}
 use Rattle.capture.specs.Replay.{eventIn, keysCount, keyIn, keysOf, accepts, startIn, Said, saidOnly, saidBy, header, lineText, nextNumber, replayOf}
+use Rattle.capture.specs.Mending.{Mending, Lines, haveRoom, mendedBy, MendFed}
 use Rattle.capture.specs.Calls.{Call, heldBehind, takenBy, writtenBy, Returned, Ran, octetsIn, textIn, leftIn}
 use Rattle.capture.specs.Machine.{keptLength, Machine, machineOf, mostText, fedBy, ending, begun, Replayed}
 
@@ -108,6 +110,23 @@ timesOf key (k ∷ ks) = pick (eqb k key) (suc (timesOf key ks)) (timesOf key ks
 
 abbrev pub Each-key-is-there-as-often-as-in-the-setup : Type 0
 Each-key-is-there-as-often-as-in-the-setup = (c : List ℕ) (key : ℕ) → timesOf key (keysOf c) ≡ timesOf key (tabulate (keyIn c) 0 (keysCount c))
+
+-- ## 5. A call of mending
+
+-- A call takes octets of its piece from the front, and one at least where there are any and both lines have room for a field.
+abbrev pub A-mending-call-with-room-takes-something : Type 0
+A-mending-call-with-room-takes-something = (m : Mending) (s : List ℕ) (l : Lines) → 0 < length s → haveRoom l ≡ true → 0 < mendedBy m s l .taken
+
+abbrev pub A-mending-call-takes-no-more-than-it-is-offered : Type 0
+A-mending-call-takes-no-more-than-it-is-offered = (m : Mending) (s : List ℕ) (l : Lines) → mendedBy m s l .taken ≤ length s
+
+-- Two results of `feed` on the same octets are the same.
+abbrev pub MendFed-determines : Type 0
+MendFed-determines =
+    (m : Mending) (s : List ℕ) (l : Lines) (f g : Mended) (kept kept′ state state′ copy copy′ list list′ : List ℕ)
+    → MendFed m s l f kept state copy list
+    → MendFed m s l g kept′ state′ copy′ list′
+    → (f ≡ g) × (kept ≡ kept′) × (state ≡ state′) × (copy ≡ copy′) × (list ≡ list′)
 
 -- ## Listed: the worked example of §5, and no octets at all
 

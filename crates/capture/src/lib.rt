@@ -4,6 +4,7 @@ use receiver::Setup;
 mod answers;
 mod fields;
 mod lines;
+pub mod mending;
 pub mod replaying;
 
 // The tag has one octet, the length two.
@@ -36,4 +37,18 @@ pub struct Fed {
     pub replay: Replay,
     pub taken: usize,
     pub at: usize,
+}
+
+// What is held between two octets of a capture that is mended: the same, and the offset of the present field's tag.
+pub struct Mend {
+    pub replay: Replay,
+    pub offset: u64,
+}
+
+// What became of a piece: what is held then, how many of its octets were taken, and the places behind what is copied and listed.
+pub struct Mended {
+    pub mend: Mend,
+    pub taken: usize,
+    pub copied: usize,
+    pub listed: usize,
 }

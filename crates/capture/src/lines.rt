@@ -9,6 +9,7 @@ ghost use Rattle.text.specs.Lines.{added};
 ghost use Rattle.text.specs.Digits.{decimal};
 ghost use Rattle.capture.specs.Replay.{told, entryText, entriesText, fieldText, lineText};
 ghost use Rattle.capture.specs.Machine.{mostText};
+ghost use Rattle.capture.specs.Mend.{leftText};
 ghost use Rattle.capture.specs.Inner.{shownBy};
 use layout::parts::part_of;
 use receiver::MOST_ENTRIES;
@@ -116,4 +117,14 @@ pub(crate) fn put_answer(
     let dropped = part_of(state, 0, EXPIRED) + part_of(state, 0, DROPPED);
     let at = put_field(out, at, number, tag, refusal, dropped);
     put_entries(out, at, state)
+}
+
+// The line of a field that is left out.
+pub(crate) fn put_left(out: &mut [u8], at: usize, number: u64, offset: u64, refusal: u32) -> usize
+    requires { ⌜ at + 3 * 21 ≤ length (now out) ⌝ }
+    ensures { λ r. ⌜ record { octets = now (out .exit); at = r } ≡ added (leftText number offset refusal) (record { octets = now (out .entry); at = at }) ⌝ }
+{
+    let at = put_number(out, at, number, b' ');
+    let at = put_number(out, at, offset, b' ');
+    put_number(out, at, refusal as u64, b'\n')
 }

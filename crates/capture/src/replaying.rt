@@ -23,7 +23,7 @@ use crate::lines::put_field;
 use text::FULL;
 
 // The input ends inside a field.
-const INPUT_ENDS: u32 = 18;
+pub(crate) const INPUT_ENDS: u32 = 18;
 
 // What is held before the first octet.
 pub fn begin() -> Replay
@@ -54,7 +54,7 @@ pub fn has_room(size: usize, at: usize) -> bool
     MOST <= size - at
 }
 
-fn is_over(phase: Phase) -> bool
+pub(crate) fn is_over(phase: Phase) -> bool
     ensures { λ r. ⌜ r ≡ isOver (stageIn phase []) ⌝ }
 {
     match phase {
@@ -65,7 +65,7 @@ fn is_over(phase: Phase) -> bool
 }
 
 // Where the octets kept of a field end that has one octet more than so many.
-fn end_of(have: usize) -> usize
+pub(crate) fn end_of(have: usize) -> usize
     ensures { λ r. ⌜ r ≡ min (suc have) keptLength ⌝ }
 {
     if KEPT - 1 <= have {

@@ -1,8 +1,8 @@
 -- A call of `feed` takes no more than it is offered. Assumes nothing.
-use mathlib.Core.Path.{_≡_, refl, ap, _∙_}
+use mathlib.Core.Path.{_≡_, ap, _∙_}
 use mathlib.Core.List.{List}
 use native.Mathlib.Omega.{arith}
-use Prim.Native.Nat.{ℕ, zero, suc, _≤_, _<_}
+use Prim.Native.Nat.{ℕ, _≤_}
 use lib.ListN.{length}
 use Rattle.receiver.proofs.Cases.{by-test}
 use Rattle.text.specs.declared.Line.{Line}
@@ -19,7 +19,3 @@ taken-within m s l f kept state out x =
     (λ p.
     let e : f .taken ≡ 0 = ap (λ (t : Taken). t .taken) (x .taken) ∙ rw p in
     omega arith)
-
-pub positive : (n : ℕ) → (n ≡ 0 → ⊥) → 0 < n
-positive zero h = absurd (h refl)
-positive (suc n) h = omega arith

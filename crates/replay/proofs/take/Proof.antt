@@ -7,7 +7,8 @@ use mathlib.Core.Path.{_≡_, refl, _∙_}
 use Prim.Native.Nat.{_-_, _≤_}
 use lib.ListN.{length, drop, length-drop}
 use Rattle.capture.proofs.Answering.{part-all}
-use Rattle.replay.proofs.Taking.{taken-within, positive}
+use Rattle.capture.proofs.Stepping.{positive}
+use Rattle.replay.proofs.Taking.{taken-within}
 
 abbrev Inv-loop : tie.InvT-loop
 Inv-loop kept₀ state₀ piece out₀ at held₀ end₀ i₀ kept state out held end i = (i ≤ length piece) × (length kept ≡ length kept₀) × (length state ≡ length state₀) × (length out ≡ length out₀)
