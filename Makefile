@@ -75,7 +75,7 @@ replay mend:
 so := lib/libasternhaken.so
 ours := share/asternhaken
 installed := include/asternhaken.h lib/libasternhaken.a $(so) $(so).$(major) $(so).$(version) lib/pkgconfig/asternhaken.pc share/man/man3/asternhaken.3 \
-    $(addprefix $(ours)/,asternhaken.py control_room.py control_room.c live_list.c driver.c sample.txt driver.txt)
+    $(addprefix $(ours)/,asternhaken.py control_room.py control_room.c live_list.c driver.c yard_set.c sample.txt driver.txt yard.txt)
 # A file with the version and the place of installation put in.
 filled = sed -e 's|@VERSION@|$(version)|g' -e 's|@PREFIX@|$(prefix)|g' $1 > '$(there)/$2' && chmod 644 '$(there)/$2'
 
@@ -91,7 +91,7 @@ install: $(archive)
 	@ln -sf libasternhaken.so.$(major) '$(there)/$(so)'
 	@$(call filled,c/asternhaken.pc.in,lib/pkgconfig/asternhaken.pc)
 	@$(call filled,docs/asternhaken.3,share/man/man3/asternhaken.3)
-	@install -m 644 python/asternhaken.py examples/control_room.py examples/control_room.c examples/live_list.c examples/driver.c examples/sample.txt examples/driver.txt '$(there)/$(ours)'
+	@install -m 644 python/asternhaken.py examples/control_room.py examples/control_room.c examples/live_list.c examples/driver.c examples/yard_set.c examples/sample.txt examples/driver.txt examples/yard.txt '$(there)/$(ours)'
 	@echo 'Asternhaken $(version), of $(archive), is in $(there). Where that is searched for shared libraries, run ldconfig once.'
 
 # Python keeps its own form of the module beside it.

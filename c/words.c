@@ -17,12 +17,13 @@ static const struct row refusals[] = {
     [ASTERNHAKEN_REFUSED_EMERGENCY_MARKS] = { "emergency marks", "The NCH message has more emergency marks than calls with a channel description." },
     [ASTERNHAKEN_REFUSED_IDENTITY_LENGTH] = { "identity length", "The length of the mobile identity that is paged is not 1 to 9." },
     [ASTERNHAKEN_REFUSED_CLOCK] = { "clock", "The tick is before the last one, or 2^31 ms or more behind it; after such a pause, set up anew." },
-    [ASTERNHAKEN_REFUSED_SETUP] = { "setup", "The setup has over 50 keys, a key above 199,999,999, keys that do not strictly rise, a timer outside 1 to 60,000 ms (T3128 too), not one set of group keys for each key, or a group key number that is not 1 to 15." },
+    [ASTERNHAKEN_REFUSED_SETUP] = { "setup", "The setup has over 50 keys (of a yard set over 8, or an odd one), a key above 199,999,999, keys that do not strictly rise, a timer outside 1 to 60,000 ms (T3128 too), not one set of group keys for each key, or a group key number that is not 1 to 15." },
     [ASTERNHAKEN_REFUSED_FORM_SIZE] = { "form size", "The written form is over 160 bits, the buffer to write is not of its exact size, or that of a FACCH message is too small or not of 2 to 23 octets." },
     [ASTERNHAKEN_REFUSED_RANGE] = { "range", "A field is out of its range, an absent part or an unused place to be written is not zero, parts of a PCH entry do not fit each other, or bit 22 is above 1." },
     [ASTERNHAKEN_REFUSED_LENGTH] = { "length", "An element, an array to write, a PCH entry or a lent state has a wrong length, or a cause never ends." },
     [ASTERNHAKEN_REFUSED_RAN_OUT_6] = { "bits ran out in Release 6", "The bits of the message ran out inside Release 6." },
     [ASTERNHAKEN_REFUSED_RAN_OUT_7] = { "bits ran out in Release 7", "The bits of the message ran out inside Release 7." },
+    [ASTERNHAKEN_REFUSED_NOT_FOR_YARD] = { "not for a yard set", "A yard set listens to the NCH alone: it takes no FACCH or PCH event, no handover, no reconfiguration and no leaving of idle mode." },
 };
 
 static const struct row tellings[] = {

@@ -99,6 +99,10 @@ uint32_t asternhaken_version(void);
 #define ASTERNHAKEN_NEVER 4294967295u  /* ms: no half is held, and none will run out */
 #define ASTERNHAKEN_UPLINK_LENGTH 16   /* octets of the uplink's own lent state */
 #define ASTERNHAKEN_UPLINK_FREE 480    /* ms: the uplink is free for less than so long after a "free" */
+#define ASTERNHAKEN_YARD_LENGTH 10896  /* octets of the lent state of a yard set: a receiver's, and the places of its calls */
+#define ASTERNHAKEN_YARD_KEYS 8        /* subscriptions of a yard set at most */
+#define ASTERNHAKEN_YARD_SHOWN 30000   /* ms: how long a yard set shows a call that is not told complete again */
+#define ASTERNHAKEN_YARD_CALL_NUMBERS 35 /* numbers of a call that a yard set shows */
 
 /* A subscription's key: the reference (at most 99,999,999) times 2 plus the service flag, 1 for VGCS and 0 for VBS. */
 #define ASTERNHAKEN_KEY(reference, vgcs) ((uint32_t)(reference) * 2u + (uint32_t)(vgcs))
@@ -121,12 +125,13 @@ enum asternhaken_refusal {
     ASTERNHAKEN_REFUSED_EMERGENCY_MARKS = 7,   /* NCH: more emergency marks than described calls */
     ASTERNHAKEN_REFUSED_IDENTITY_LENGTH = 8,   /* FACCH: the length of the mobile identity that is paged is not 1 to 9 */
     ASTERNHAKEN_REFUSED_CLOCK = 9,             /* a clock step of 2^31 ms or more: after such a pause, set up anew */
-    ASTERNHAKEN_REFUSED_SETUP = 10,            /* over 50 keys, a key above 199,999,999, keys that do not strictly rise, a timer outside 1 to 60,000 (T3128 too), not one set of group keys for each key, a number in it that is not 1 to 15 */
+    ASTERNHAKEN_REFUSED_SETUP = 10,            /* over 50 keys (a yard set: over 8, or an odd one), a key above 199,999,999, keys that do not strictly rise, a timer outside 1 to 60,000 (T3128 too), not one set of group keys for each key, a number in it that is not 1 to 15 */
     ASTERNHAKEN_REFUSED_FORM_SIZE = 11,        /* a written form over 160 bits, or a write buffer not of the form's exact size; FACCH: a write buffer not of 2 to 23 octets, or too small for the form */
     ASTERNHAKEN_REFUSED_RANGE = 12,            /* a field out of its range; to write, anything but zero in an absent part or an unused place; PCH: parts that do not fit each other; a bit 22 above 1 */
     ASTERNHAKEN_REFUSED_LENGTH = 13,           /* an element, an array to write, a PCH entry or a lent state of a wrong length; a cause that never ends */
     ASTERNHAKEN_REFUSED_RAN_OUT_6 = 14,        /* the bits ran out inside Release 6 */
-    ASTERNHAKEN_REFUSED_RAN_OUT_7 = 15         /* the bits ran out inside Release 7 */
+    ASTERNHAKEN_REFUSED_RAN_OUT_7 = 15,        /* the bits ran out inside Release 7 */
+    ASTERNHAKEN_REFUSED_NOT_FOR_YARD = 19      /* a yard set takes no FACCH and PCH events, no handover, no reconfiguration and no leaving of idle mode; 16 to 18 are no refusals of these functions */
 };
 
 /* What an entry of a message is told. Only 1 to 3 carry a record, and only 2 and 3, the ciphered ones, say whether the call can be followed. */
@@ -329,6 +334,17 @@ struct asternhaken_held {
 };
 ASTERNHAKEN_SIZE_(asternhaken_held, ASTERNHAKEN_HELD_NUMBERS);
 
+/* A call that a yard set shows: the entry that it was last told complete with, and how long ago. */
+struct asternhaken_yard_call {
+    uint64_t key;  /* of its subscription: the reference times 2 */
+    uint64_t told; /* enum asternhaken_told, 1 to 3 */
+    struct asternhaken_record record;
+    uint64_t follow;     /* enum asternhaken_follow, as it was told then */
+    uint64_t kept_count; /* as it was told then: what happened to the cell's count since changes nothing here */
+    uint64_t age;        /* ms, from that message to the last accepted event: below ASTERNHAKEN_YARD_SHOWN */
+};
+ASTERNHAKEN_SIZE_(asternhaken_yard_call, ASTERNHAKEN_YARD_CALL_NUMBERS);
+
 /* ---- The receiver ---- */
 
 /* Makes the lent octets a receiver that holds nothing, whatever they held. The keys are lent in strictly rising order, so none twice. The place of a
@@ -444,6 +460,45 @@ ASTERNHAKEN_MUST_USE uint32_t asternhaken_uplink_busy(uint8_t *uplink, size_t up
 ASTERNHAKEN_MUST_USE uint32_t asternhaken_uplink_request(uint8_t *uplink, size_t uplink_length, uint32_t tick);
 /* Time passed. */
 ASTERNHAKEN_MUST_USE uint32_t asternhaken_uplink_tick(uint8_t *uplink, size_t uplink_length, uint32_t tick);
+
+/* ---- The yard set ----
+ *
+ * A listen-only set for shunters: a receiver, and above it one current call for each key. One lent state of ASTERNHAKEN_YARD_LENGTH octets is a yard set; its first ASTERNHAKEN_STATE_LENGTH octets are
+ * the receiver, so that asternhaken_answer_get, asternhaken_entry_get, asternhaken_held_get, asternhaken_is_set_up and the others that only read take (state, ASTERNHAKEN_STATE_LENGTH). An event is handed in here, and not to
+ * the receiver by itself, or the calls would not hear of it.
+ *
+ * A complete record (told 1 to 3) is the current call of its key, in the place of the one before. A call leaves where another cell was selected, where an NCH message has another NLN than the last of the
+ * cell (before its own entries come in; the first NLN of a cell is no change), and when ASTERNHAKEN_YARD_SHOWN ms have passed with no complete record for it, which every accepted event looks at first.
+ * A refused event changes nothing, the clock included. A state of another length is ASTERNHAKEN_REFUSED_LENGTH, before anything else. */
+
+/* As asternhaken_setup, and no call is shown; at most ASTERNHAKEN_YARD_KEYS keys, all of them of VBS, so even. */
+ASTERNHAKEN_MUST_USE uint32_t asternhaken_yard_setup(uint8_t *state, size_t state_length, const uint32_t *keys, size_t n_keys, const uint32_t *sets, size_t n_sets, uint32_t tick, uint32_t t3206, uint32_t t3208, uint32_t t3210);
+
+/* The events that a yard set takes, as the receiver's. Joined and the bit take no call away. */
+ASTERNHAKEN_MUST_USE uint32_t asternhaken_yard_nch(uint8_t *state, size_t state_length, uint32_t tick, const uint8_t *octets, size_t n);
+ASTERNHAKEN_MUST_USE uint32_t asternhaken_yard_joined(uint8_t *state, size_t state_length, uint32_t tick, uint32_t key);
+ASTERNHAKEN_MUST_USE uint32_t asternhaken_yard_reselected(uint8_t *state, size_t state_length, uint32_t tick);
+ASTERNHAKEN_MUST_USE uint32_t asternhaken_yard_bit_22(uint8_t *state, size_t state_length, uint32_t tick, uint32_t value);
+ASTERNHAKEN_MUST_USE uint32_t asternhaken_yard_tick(uint8_t *state, size_t state_length, uint32_t tick);
+
+/* The events that it does not take: each is ASTERNHAKEN_REFUSED_NOT_FOR_YARD, and nothing but the state's length is looked at. */
+ASTERNHAKEN_MUST_USE uint32_t asternhaken_yard_facch(const uint8_t *state, size_t state_length, uint32_t tick, const uint8_t *octets, size_t n);
+ASTERNHAKEN_MUST_USE uint32_t asternhaken_yard_pch(const uint8_t *state, size_t state_length, uint32_t tick, const uint64_t *entry, size_t n);
+ASTERNHAKEN_MUST_USE uint32_t asternhaken_yard_handed_over(const uint8_t *state, size_t state_length, uint32_t tick);
+ASTERNHAKEN_MUST_USE uint32_t asternhaken_yard_reconfigured(const uint8_t *state, size_t state_length, uint32_t tick);
+ASTERNHAKEN_MUST_USE uint32_t asternhaken_yard_left_idle(const uint8_t *state, size_t state_length, uint32_t tick);
+
+/* What is shown. A state of another length is ASTERNHAKEN_REFUSED_LENGTH, and every number is then 0; nothing else is refused. */
+
+/* How many calls are shown. */
+uint32_t asternhaken_yard_count(const uint8_t *state, size_t state_length, uint64_t *count);
+/* All numbers of one, as struct asternhaken_yard_call has them: as many as there are places, and zeros beyond them. i counts from 0, by rising keys; from the count on, all is 0. */
+uint32_t asternhaken_yard_call_numbers(const uint8_t *state, size_t state_length, uint32_t i, uint64_t *numbers, size_t n);
+
+static inline uint32_t asternhaken_yard_call_get(const uint8_t *state, size_t state_length, uint32_t i, struct asternhaken_yard_call *into)
+{
+    return asternhaken_yard_call_numbers(state, state_length, i, ASTERNHAKEN_AS_(uint64_t, into), ASTERNHAKEN_YARD_CALL_NUMBERS);
+}
 
 /* ---- The codecs, for test rigs ----
  *

@@ -33,8 +33,11 @@ The uplink. Uplink(tick, t3128) follows the uplink of one call, for a driver who
 driver wants to talk, and tick that time passed; each takes the tick and answers with an UplinkAnswer: in ended what became of the request that waited (UPLINK_NOTHING, UPLINK_GRANTED or
 UPLINK_REJECTED), in told what a new one is told (UPLINK_NOTHING, UPLINK_GRANTED, UPLINK_WAITING or UPLINK_ALREADY_WAITING).
 
-Saved states. receiver.state is a copy of the octets, and Receiver.from_state goes on from one; is_set_up says whether a setup of this version left it. An uplink has state and
-Uplink.from_state too.
+A yard set. YardSet(keys, tick, ..) is a set that only listens, for at most eight VBS keys: it takes nch, joined, reselected, bit_22 and tick as a receiver does and refuses the other events (19), and
+yard_set.shown is a tuple of its current calls by rising key, each an entry with its age in ms at the last accepted event.
+
+Saved states. receiver.state is a copy of the octets, and Receiver.from_state goes on from one; is_set_up says whether a setup of this version left it. A yard set
+has the same, and an uplink has state and Uplink.from_state too.
 
 Refusals. What the library refuses raises Refused, with the number, its word, and its sentence as text; nothing has changed then, the clock included. An
 exception, since an answer that is not there cannot then be taken for an empty one.
@@ -50,12 +53,15 @@ import os
 
 # ---- The library ----
 
-# Octets of the two states, and the parts of an answer in their order: the header's, which the tests hold equal.
+# Octets of the three states, and the parts of an answer in their order: the header's, which the tests hold equal.
 STATE_LENGTH = 10256
 UPLINK_LENGTH = 16
 UPLINK_FREE = 480
 KEYS = 50
 LAST_GROUP_KEY = 15
+YARD_LENGTH = 10896
+YARD_KEYS = 8
+YARD_SHOWN = 30000
 T3206 = 10000
 T3208 = 5000
 T3210 = 5000
@@ -70,6 +76,7 @@ PARTS = (
 # The refusal numbers.
 (ACCEPTED, REFUSED_MESSAGE_LENGTH, REFUSED_RAN_OUT, REFUSED_ALLOCATION_LENGTH, REFUSED_REFERENCE, REFUSED_HOPPING, REFUSED_RANDOM_ENTRIES, REFUSED_EMERGENCY_MARKS,
  REFUSED_IDENTITY_LENGTH, REFUSED_CLOCK, REFUSED_SETUP, REFUSED_FORM_SIZE, REFUSED_RANGE, REFUSED_LENGTH, REFUSED_RAN_OUT_6, REFUSED_RAN_OUT_7) = range(16)
+REFUSED_NOT_FOR_YARD = 19
 
 # The told numbers; 1 to 3 are complete and carry a record.
 (TOLD_NOT_OURS, TOLD_CLEAR, TOLD_ONE_PIECE, TOLD_JOINED, TOLD_HALF_STORED, TOLD_HALF_HELD, TOLD_NO_CHANNEL, TOLD_UNUSABLE, TOLD_SECOND_BEFORE_FIRST) = range(9)
@@ -103,13 +110,16 @@ def _load():
     library = ctypes.CDLL(named or (beside if os.path.exists(beside) else _SONAME))
     message = [_OCTETS, _SIZE, _U32, _OCTETS, _SIZE]
     plain = [_OCTETS, _SIZE, _U32]
-    for name, words in {
+    changes = {
         "setup": [_OCTETS, _SIZE, ctypes.POINTER(_U32), _SIZE, ctypes.POINTER(_U32), _SIZE, _U32, _U32, _U32, _U32],
         "nch": message, "facch": message, "pch": plain + [_NUMBERS, _SIZE], "joined": plain + [_U32],
         "reselected": plain, "handed_over": plain, "reconfigured": plain, "left_idle": plain, "bit_22": plain + [_U32], "tick": plain,
+    }
+    for name, words in {
+        **changes, **{"yard_" + name: words for name, words in changes.items()},
         "read": plain + [_U32, _NUMBERS], "entry_numbers": plain + [_NUMBERS, _SIZE], "paged_numbers": [_OCTETS, _SIZE, _NUMBERS, _SIZE],
         "held_count": [_OCTETS, _SIZE, _NUMBERS], "held_numbers": plain + [_NUMBERS, _SIZE], "next_expiry": [_OCTETS, _SIZE, _NUMBERS],
-        "is_set_up": [_OCTETS, _SIZE], "version": [],
+        "yard_count": [_OCTETS, _SIZE, _NUMBERS], "yard_call_numbers": plain + [_NUMBERS, _SIZE], "is_set_up": [_OCTETS, _SIZE], "version": [],
         "uplink_setup": plain + [_U32], "uplink_free": plain, "uplink_busy": plain, "uplink_request": plain, "uplink_tick": plain,
     }.items():
         function = getattr(library, "asternhaken_" + name)
@@ -245,9 +255,8 @@ class _Keyed:
         return self.key % 2 == 1
 
 
-class Entry(_Keyed, collections.namedtuple("Entry", "key told record follow kept_count")):
-    """What one entry of a message is told: its key, the told number, and the record where that is 1 to 3, else None; where it is 2 or 3, whether the call can be followed, and
-    beside FOLLOW_WITH_COUNT the count that is kept of the cell, else 0."""
+class _Told(_Keyed):
+    """What was told, and may be followed."""
 
     __slots__ = ()
 
@@ -266,6 +275,19 @@ class Entry(_Keyed, collections.namedtuple("Entry", "key told record follow kept
     @property
     def follow_sentence(self):
         return follow_sentence(self.follow)
+
+
+class Entry(_Told, collections.namedtuple("Entry", "key told record follow kept_count")):
+    """What one entry of a message is told: its key, the told number, and the record where that is 1 to 3, else None; where it is 2 or 3, whether the call can be followed, and
+    beside FOLLOW_WITH_COUNT the count that is kept of the cell, else 0."""
+
+    __slots__ = ()
+
+
+class YardCall(_Told, collections.namedtuple("YardCall", "key told record follow kept_count age")):
+    """A call that a yard set shows: the entry that it was last told complete with, and how many ms before the last accepted event."""
+
+    __slots__ = ()
 
 
 class Paged(collections.namedtuple("Paged", "identity channel_first emlpp_priority paging_cause")):
@@ -355,16 +377,21 @@ class _Lent:
 class Receiver(_Lent):
     """A receiver in a state of its own. Every method but answer and state raises Refused where the library refuses."""
 
+    # The length of the state, and what stands before the names of the functions that take a setup and events.
     _LENGTH = STATE_LENGTH
+    _PREFIX = "asternhaken_"
 
     def __init__(self, keys, tick, t3206=T3206, t3208=T3208, t3210=T3210, groups=None):
-        self._take(bytearray(STATE_LENGTH))
+        self._take(bytearray(self._LENGTH))
         self.setup(keys, tick, t3206, t3208, t3210, groups)
 
-    def _call(self, function, *words):
-        result = function(self._lent, STATE_LENGTH, *words)
+    def _call(self, function, *words, length=STATE_LENGTH):
+        result = function(self._lent, length, *words)
         if result:
             raise Refused(result)
+
+    def _change(self, name, *words):
+        self._call(getattr(_library, self._PREFIX + name), *words, length=self._LENGTH)
 
     @property
     def is_set_up(self):
@@ -378,67 +405,67 @@ class Receiver(_Lent):
         sets = [_set((groups or {}).get(k, ())) for k in keys]
         room = _U32 * max(1, len(keys))  # no pointer may be null
         timers = _u32(t3206, "T3206"), _u32(t3208, "T3208"), _u32(t3210, "T3210")
-        self._call(_library.asternhaken_setup, room(*keys), len(keys), room(*sets), len(sets), _u32(tick, "the tick"), *timers)
+        self._change("setup", room(*keys), len(keys), room(*sets), len(sets), _u32(tick, "the tick"), *timers)
 
-    def _event(self, function, tick, *words):
-        self._call(function, _u32(tick, "the tick"), *words)
+    def _event(self, name, tick, *words):
+        self._change(name, _u32(tick, "the tick"), *words)
         return self.answer
 
-    def _message(self, function, tick, octets):
+    def _message(self, name, tick, octets):
         octets = bytes(octets)
-        return self._event(function, tick, (ctypes.c_uint8 * max(1, len(octets)))(*octets), len(octets))
+        return self._event(name, tick, (ctypes.c_uint8 * max(1, len(octets)))(*octets), len(octets))
 
     def nch(self, tick, octets):
         """NT/N Rest Octets came."""
-        return self._message(_library.asternhaken_nch, tick, octets)
+        return self._message("nch", tick, octets)
 
     def facch(self, tick, octets):
         """A NOTIFICATION/FACCH came."""
-        return self._message(_library.asternhaken_facch, tick, octets)
+        return self._message("facch", tick, octets)
 
     def pch(self, tick, entry):
         """A notification came on the paging channel: a PchEntry, or its numbers in that order."""
         numbers = [_bits(int(number), "a number of the entry", 64) for number in entry]
-        return self._event(_library.asternhaken_pch, tick, (ctypes.c_uint64 * max(1, len(numbers)))(*numbers), len(numbers))
+        return self._event("pch", tick, (ctypes.c_uint64 * max(1, len(numbers)))(*numbers), len(numbers))
 
     def joined(self, tick, key):
         """The call of this key was joined."""
-        return self._event(_library.asternhaken_joined, tick, _u32(key, "the key"))
+        return self._event("joined", tick, _u32(key, "the key"))
 
     def reselected(self, tick):
         """Another cell was selected: its count and bit 22 are not known."""
-        return self._event(_library.asternhaken_reselected, tick)
+        return self._event("reselected", tick)
 
     def handed_over(self, tick):
         """The mobile was handed over to another cell: its count and bit 22 are not known."""
-        return self._event(_library.asternhaken_handed_over, tick)
+        return self._event("handed_over", tick)
 
     def reconfigured(self, tick):
-        return self._event(_library.asternhaken_reconfigured, tick)
+        return self._event("reconfigured", tick)
 
     def left_idle(self, tick):
         """Idle mode was left."""
-        return self._event(_library.asternhaken_left_idle, tick)
+        return self._event("left_idle", tick)
 
     def bit_22(self, tick, value):
         """Bit 22 of COUNT has this value now, 0 or 1: from 1 to 0 the count that is kept of the cell is raised by one, modulo 4."""
-        return self._event(_library.asternhaken_bit_22, tick, _u32(value, "bit 22"))
+        return self._event("bit_22", tick, _u32(value, "bit 22"))
 
     def tick(self, tick):
         """Time passed."""
-        return self._event(_library.asternhaken_tick, tick)
+        return self._event("tick", tick)
 
-    def _number(self, function, *words):
+    def _number(self, function, *words, length=STATE_LENGTH):
         """One number, which a function of the library writes behind these words."""
         value = ctypes.c_uint64()
-        self._call(function, *words, ctypes.byref(value))
+        self._call(function, *words, ctypes.byref(value), length=length)
         return value.value
 
-    def _numbers(self, function, i, leading, behind):
+    def _numbers(self, function, i, leading, behind, length=STATE_LENGTH):
         """The i-th of something: so many numbers that lead it, a record, and so many behind."""
         n = leading + len(Record._fields) + behind
         numbers = (ctypes.c_uint64 * n)()
-        self._call(function, i, numbers, n)
+        self._call(function, i, numbers, n, length=length)
         return numbers[:leading], Record(*numbers[leading:n - behind]), numbers[n - behind:]
 
     def _part(self, part):
@@ -516,3 +543,22 @@ class Uplink(_Lent):
     def tick(self, tick):
         """Time passed."""
         return self._event(_library.asternhaken_uplink_tick, tick)
+
+
+# ---- The yard set ----
+
+
+class YardSet(Receiver):
+    """A set that only listens: a receiver for at most eight VBS keys, and above it one current call for each. facch, pch, handed_over, reconfigured and left_idle are refused, 19."""
+
+    _LENGTH = YARD_LENGTH
+    _PREFIX = "asternhaken_yard_"
+
+    def _shown(self, i):
+        (key, told), record, behind = self._numbers(_library.asternhaken_yard_call_numbers, i, 2, 3, length=YARD_LENGTH)
+        return YardCall(key, told, record, *behind)
+
+    @property
+    def shown(self):
+        """The current calls, by rising key."""
+        return tuple(self._shown(i) for i in range(self._number(_library.asternhaken_yard_count, length=YARD_LENGTH)))

@@ -18,7 +18,8 @@ enum {
     SETUP, NCH, FACCH, PCH, JOINED, RESELECTED, HANDED_OVER, RECONFIGURED, LEFT_IDLE, BIT_22, TICK, READ, ENTRY_NUMBERS, HELD_NUMBERS, PAGED_NUMBERS, HELD_COUNT, NEXT_EXPIRY, IS_SET_UP,
     NCH_READ, NCH_WRITE, FACCH_READ, FACCH_WRITE, MESSAGE_TYPE_READ, MESSAGE_TYPE_WRITE, CALL_REFERENCE_READ, CALL_REFERENCE_WRITE, CALL_STATE_READ, CALL_STATE_WRITE,
     CAUSE_READ, CAUSE_WRITE, ORIGINATOR_READ, ORIGINATOR_WRITE, STATE_ATTRIBUTES_READ, STATE_ATTRIBUTES_WRITE, SMS_READ, SMS_WRITE, TALKER_READ, TALKER_WRITE,
-    DIGITS_READ, DIGITS_WRITE, FIND, UPLINK_SETUP, UPLINK_FREE, UPLINK_BUSY, UPLINK_REQUEST, UPLINK_TICK, FUNCTIONS
+    DIGITS_READ, DIGITS_WRITE, FIND, UPLINK_SETUP, UPLINK_FREE, UPLINK_BUSY, UPLINK_REQUEST, UPLINK_TICK,
+    YARD_SETUP, YARD_NCH, YARD_FACCH, YARD_PCH, YARD_JOINED, YARD_RESELECTED, YARD_HANDED_OVER, YARD_RECONFIGURED, YARD_LEFT_IDLE, YARD_BIT_22, YARD_TICK, YARD_CALL_NUMBERS, YARD_COUNT, FUNCTIONS
 };
 
 static const char *const names[FUNCTIONS] = {
@@ -27,7 +28,9 @@ static const char *const names[FUNCTIONS] = {
     "message_type_read", "message_type_write", "call_reference_read", "call_reference_write", "call_state_read", "call_state_write",
     "cause_read", "cause_write", "originator_read", "originator_write", "state_attributes_read", "state_attributes_write", "sms_read",
     "sms_write", "talker_read", "talker_write", "digits_read", "digits_write", "find",
-    "uplink_setup", "uplink_free", "uplink_busy", "uplink_request", "uplink_tick"
+    "uplink_setup", "uplink_free", "uplink_busy", "uplink_request", "uplink_tick",
+    "yard_setup", "yard_nch", "yard_facch", "yard_pch", "yard_joined", "yard_reselected", "yard_handed_over", "yard_reconfigured", "yard_left_idle", "yard_bit_22", "yard_tick",
+    "yard_call_numbers", "yard_count"
 };
 
 static unsigned long calls[FUNCTIONS], passed, failed;
@@ -131,8 +134,9 @@ static void state_call(unsigned function)
     state_is_untouched();
     struct lent octets = lend_record(small());
     const uint32_t *keys = (const uint32_t *)(const void *)octets.at; /* of a setup, with the sets behind them */
-    uint32_t tick = small(), a = function == SETUP || function == JOINED || function == BIT_22 ? small() : 0, b = 0, c = 0, n_keys = 0, refusal = 0;
-    if (function == SETUP) b = small(), c = small(), n_keys = small();
+    int is_setup = function == SETUP || function == YARD_SETUP, has_number = is_setup || function == JOINED || function == BIT_22 || function == YARD_JOINED || function == YARD_BIT_22;
+    uint32_t tick = small(), a = has_number ? small() : 0, b = 0, c = 0, n_keys = 0, refusal = 0;
+    if (is_setup) b = small(), c = small(), n_keys = small();
     switch (function) {
     case SETUP: refusal = asternhaken_setup(state.at, state.size, keys, n_keys, keys + n_keys, octets.size / 4 - n_keys, tick, a, b, c); break;
     case NCH: refusal = asternhaken_nch(state.at, state.size, tick, octets.at, octets.size); break;
@@ -144,7 +148,18 @@ static void state_call(unsigned function)
     case RECONFIGURED: refusal = asternhaken_reconfigured(state.at, state.size, tick); break;
     case LEFT_IDLE: refusal = asternhaken_left_idle(state.at, state.size, tick); break;
     case BIT_22: refusal = asternhaken_bit_22(state.at, state.size, tick, a); break;
-    default: refusal = asternhaken_tick(state.at, state.size, tick);
+    case TICK: refusal = asternhaken_tick(state.at, state.size, tick); break;
+    case YARD_SETUP: refusal = asternhaken_yard_setup(state.at, state.size, keys, n_keys, keys + n_keys, octets.size / 4 - n_keys, tick, a, b, c); break;
+    case YARD_NCH: refusal = asternhaken_yard_nch(state.at, state.size, tick, octets.at, octets.size); break;
+    case YARD_FACCH: refusal = asternhaken_yard_facch(state.at, state.size, tick, octets.at, octets.size); break;
+    case YARD_PCH: refusal = asternhaken_yard_pch(state.at, state.size, tick, (const uint64_t *)(const void *)octets.at, octets.size / 8); break;
+    case YARD_JOINED: refusal = asternhaken_yard_joined(state.at, state.size, tick, a); break;
+    case YARD_RESELECTED: refusal = asternhaken_yard_reselected(state.at, state.size, tick); break;
+    case YARD_HANDED_OVER: refusal = asternhaken_yard_handed_over(state.at, state.size, tick); break;
+    case YARD_RECONFIGURED: refusal = asternhaken_yard_reconfigured(state.at, state.size, tick); break;
+    case YARD_LEFT_IDLE: refusal = asternhaken_yard_left_idle(state.at, state.size, tick); break;
+    case YARD_BIT_22: refusal = asternhaken_yard_bit_22(state.at, state.size, tick, a); break;
+    default: refusal = asternhaken_yard_tick(state.at, state.size, tick);
     }
     compare(function, refusal, &state, untouched(&octets));
     memcpy(state.before, state.at, state.size);
@@ -172,8 +187,9 @@ static void uplink_call(unsigned function)
 /* What looks at the state: it fills numbers, or answers alone. */
 static void view_call(unsigned function)
 {
-    uint32_t a = function <= PAGED_NUMBERS ? small() : 0, b = function <= PAGED_NUMBERS ? small() : 0, refusal;
-    struct lent into = lend((function == IS_SET_UP ? 0 : function > READ && function <= PAGED_NUMBERS ? b : 1) * sizeof(uint64_t));
+    int is_asked = function <= PAGED_NUMBERS || function == YARD_CALL_NUMBERS;
+    uint32_t a = is_asked ? small() : 0, b = is_asked ? small() : 0, refusal;
+    struct lent into = lend((function == IS_SET_UP ? 0 : is_asked && function > READ ? b : 1) * sizeof(uint64_t));
     uint64_t *numbers = (uint64_t *)(void *)into.at;
     memset(into.at, 0x5a, into.size);
     switch (function) {
@@ -183,6 +199,8 @@ static void view_call(unsigned function)
     case PAGED_NUMBERS: refusal = asternhaken_paged_numbers(state.at, state.size, numbers, b); break;
     case HELD_COUNT: refusal = asternhaken_held_count(state.at, state.size, numbers); break;
     case NEXT_EXPIRY: refusal = asternhaken_next_expiry(state.at, state.size, numbers); break;
+    case YARD_CALL_NUMBERS: refusal = asternhaken_yard_call_numbers(state.at, state.size, a, numbers, b); break;
+    case YARD_COUNT: refusal = asternhaken_yard_count(state.at, state.size, numbers); break;
     default: refusal = asternhaken_is_set_up(state.at, state.size);
     }
     compare(function, refusal, &into, 1);
@@ -273,9 +291,9 @@ int main(int argc, char **argv)
     state = lend(0);
     while ((function = getchar()) != EOF) {
         if (function == STATE) state_is_untouched(), give_back(&state), state = lend_record(small());
-        else if (function < READ) state_call((unsigned)function);
-        else if (function < NCH_READ) view_call((unsigned)function);
-        else if (function >= UPLINK_SETUP && function < FUNCTIONS) uplink_call((unsigned)function);
+        else if (function < READ || (function >= YARD_SETUP && function <= YARD_TICK)) state_call((unsigned)function);
+        else if (function < NCH_READ || (function >= YARD_CALL_NUMBERS && function < FUNCTIONS)) view_call((unsigned)function);
+        else if (function >= UPLINK_SETUP && function <= UPLINK_TICK) uplink_call((unsigned)function);
         else codec_call((unsigned)function);
     }
     state_is_untouched();

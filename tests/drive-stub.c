@@ -11,8 +11,8 @@ static int seeded(const char *name)
     return wanted && !strcmp(wanted, name);
 }
 
-/* docs/STATE.md: the kinds of the places, and who is paged. */
-enum { KINDS = 424, PLACES = 150, PAGED = 9592, PAGED_OCTETS = 16 };
+/* docs/STATE.md: the last NLN, the kinds of the places, and who is paged; the calls of a yard set, with the number told of each. */
+enum { NLN = 16, KINDS = 424, PLACES = 150, PAGED = 9592, PAGED_OCTETS = 16, CALLS = ASTERNHAKEN_STATE_LENGTH, CALL_OCTETS = 80, TOLD = 16 };
 
 uint32_t __real_asternhaken_setup(uint8_t *state, size_t state_length, const uint32_t *keys, size_t n_keys, const uint32_t *sets, size_t n_sets, uint32_t tick, uint32_t t3206, uint32_t t3208, uint32_t t3210);
 uint32_t __wrap_asternhaken_setup(uint8_t *state, size_t state_length, const uint32_t *keys, size_t n_keys, const uint32_t *sets, size_t n_sets, uint32_t tick, uint32_t t3206, uint32_t t3208, uint32_t t3210)
@@ -70,6 +70,114 @@ uint32_t __wrap_asternhaken_bit_22(uint8_t *state, size_t state_length, uint32_t
     if (value > 1 && seeded("a bit above 1 is taken")) value = 1;
     uint32_t result = __real_asternhaken_bit_22(state, state_length, tick, value);
     if (result && seeded("a refused bit is kept")) state[18] = (uint8_t)value;
+    return result;
+}
+
+uint32_t __real_asternhaken_yard_setup(uint8_t *state, size_t state_length, const uint32_t *keys, size_t n_keys, const uint32_t *sets, size_t n_sets, uint32_t tick, uint32_t t3206, uint32_t t3208, uint32_t t3210);
+uint32_t __wrap_asternhaken_yard_setup(uint8_t *state, size_t state_length, const uint32_t *keys, size_t n_keys, const uint32_t *sets, size_t n_sets, uint32_t tick, uint32_t t3206, uint32_t t3208, uint32_t t3210)
+{
+    uint32_t even[ASTERNHAKEN_YARD_KEYS];
+    for (size_t i = 0; i < n_keys && i < ASTERNHAKEN_YARD_KEYS; i++) even[i] = keys[i] & ~(uint32_t)1;
+    if (n_keys > ASTERNHAKEN_YARD_KEYS && seeded("a ninth key is taken")) n_keys = n_sets = ASTERNHAKEN_YARD_KEYS;
+    if (n_keys <= ASTERNHAKEN_YARD_KEYS && seeded("an odd key is taken")) keys = even;
+    uint32_t result = __real_asternhaken_yard_setup(state, state_length, keys, n_keys, sets, n_sets, tick, t3206, t3208, t3210);
+    if (result && seeded("a refused setup of a yard set writes")) state[CALLS + 477] ^= 1;
+    return result;
+}
+
+/* The ticks of the calls are put so much back. */
+static void make_older(uint8_t *state, uint32_t ms)
+{
+    for (size_t i = 0; i < ASTERNHAKEN_YARD_KEYS; i++) {
+        uint8_t *since = state + CALLS + CALL_OCTETS * i;
+        uint32_t tick = since[0] | (uint32_t)since[1] << 8 | (uint32_t)since[2] << 16 | (uint32_t)since[3] << 24;
+        for (size_t j = 0; j < 4; j++) since[j] = (uint8_t)((tick - ms) >> 8 * j);
+    }
+}
+
+uint32_t __real_asternhaken_yard_tick(uint8_t *state, size_t state_length, uint32_t tick);
+uint32_t __wrap_asternhaken_yard_tick(uint8_t *state, size_t state_length, uint32_t tick)
+{
+    uint32_t early = seeded("a call is gone a millisecond early"), late = seeded("a call stays a millisecond longer");
+    if (early || late) make_older(state, early - late);
+    uint32_t result = __real_asternhaken_yard_tick(state, state_length, tick);
+    if (early || late) make_older(state, late - early);
+    return result;
+}
+
+uint32_t __real_asternhaken_yard_nch(uint8_t *state, size_t state_length, uint32_t tick, const uint8_t *octets, size_t n);
+uint32_t __wrap_asternhaken_yard_nch(uint8_t *state, size_t state_length, uint32_t tick, const uint8_t *octets, size_t n)
+{
+    uint8_t last = state[NLN], calls[CALL_OCTETS * ASTERNHAKEN_YARD_KEYS];
+    memcpy(calls, state + CALLS, sizeof calls);
+    if (seeded("another NLN takes no call away")) state[NLN] = 4;
+    uint32_t result = __real_asternhaken_yard_nch(state, state_length, tick, octets, n);
+    if (result && seeded("another NLN takes no call away")) state[NLN] = last;
+    if (!result && last != 4 && state[NLN] != last && seeded("another NLN takes its own calls away too")) memset(state + CALLS, 0, sizeof calls);
+    if (!result && last == 4 && state[NLN] != 4 && seeded("the first NLN takes the calls away")) memset(state + CALLS, 0, sizeof calls);
+    if (result && seeded("a refused message takes the calls away")) memset(state + CALLS, 0, sizeof calls);
+    if (!result && calls[TOLD] && state[CALLS + TOLD] && seeded("the older record wins")) memcpy(state + CALLS, calls, CALL_OCTETS);
+    return result;
+}
+
+uint32_t __real_asternhaken_yard_joined(uint8_t *state, size_t state_length, uint32_t tick, uint32_t key);
+uint32_t __wrap_asternhaken_yard_joined(uint8_t *state, size_t state_length, uint32_t tick, uint32_t key)
+{
+    uint32_t result = __real_asternhaken_yard_joined(state, state_length, tick, key);
+    if (!result && seeded("a call is lost where another is joined")) memset(state + CALLS, 0, CALL_OCTETS * ASTERNHAKEN_YARD_KEYS);
+    return result;
+}
+
+uint32_t __real_asternhaken_yard_reselected(uint8_t *state, size_t state_length, uint32_t tick);
+uint32_t __wrap_asternhaken_yard_reselected(uint8_t *state, size_t state_length, uint32_t tick)
+{
+    uint8_t calls[CALL_OCTETS * ASTERNHAKEN_YARD_KEYS], last = state[NLN];
+    memcpy(calls, state + CALLS, sizeof calls);
+    uint32_t result = __real_asternhaken_yard_reselected(state, state_length, tick);
+    if (!result && seeded("the calls outlive a reselection")) memcpy(state + CALLS, calls, sizeof calls);
+    if (!result && seeded("the NLN of the old cell is kept")) state[NLN] = last;
+    return result;
+}
+
+uint32_t __real_asternhaken_yard_handed_over(uint8_t *state, size_t state_length, uint32_t tick);
+uint32_t __wrap_asternhaken_yard_handed_over(uint8_t *state, size_t state_length, uint32_t tick)
+{
+    uint32_t now = state[0] | (uint32_t)state[1] << 8 | (uint32_t)state[2] << 16 | (uint32_t)state[3] << 24;
+    if (tick - now >= (uint32_t)1 << 31 && seeded("the clock is looked at before 19")) return ASTERNHAKEN_REFUSED_CLOCK;
+    if (seeded("a yard set is handed over")) return asternhaken_handed_over(state, ASTERNHAKEN_STATE_LENGTH, tick);
+    uint32_t result = __real_asternhaken_yard_handed_over(state, state_length, tick);
+    if (seeded("a handover moves the clock")) memcpy(state, &tick, sizeof tick);
+    return result;
+}
+
+uint32_t __real_asternhaken_yard_facch(uint8_t *state, size_t state_length, uint32_t tick, const uint8_t *octets, size_t n);
+uint32_t __wrap_asternhaken_yard_facch(uint8_t *state, size_t state_length, uint32_t tick, const uint8_t *octets, size_t n)
+{
+    if (seeded("a yard set reads the FACCH")) return asternhaken_facch(state, ASTERNHAKEN_STATE_LENGTH, tick, octets, n);
+    return __real_asternhaken_yard_facch(state, state_length, tick, octets, n);
+}
+
+uint32_t __real_asternhaken_yard_call_numbers(const uint8_t *state, size_t state_length, uint32_t i, uint64_t *numbers, size_t n);
+uint32_t __wrap_asternhaken_yard_call_numbers(const uint8_t *state, size_t state_length, uint32_t i, uint64_t *numbers, size_t n)
+{
+    uint32_t result = __real_asternhaken_yard_call_numbers(state, state_length, i, numbers, n);
+    if (seeded("showing a call writes the state")) ((uint8_t *)state)[CALLS] ^= 1;
+    if (seeded("a call is shown too long")) numbers[n] = 0;
+    if (!numbers[1]) return seeded("there is one more call") ? (numbers[0] = 1, result) : result;
+    if (numbers[32] == ASTERNHAKEN_FOLLOW_WITH_COUNT && seeded("the count of now is shown")) numbers[33] = state[17];
+    if (seeded("a part of a shown call is another")) numbers[3] ^= 1;
+    if (seeded("an age is that of a call that is gone")) numbers[34] = ASTERNHAKEN_YARD_SHOWN;
+    if (seeded("a call is shown as it is not told")) numbers[1] = ASTERNHAKEN_TOLD_HALF_STORED;
+    if (numbers[1] == ASTERNHAKEN_TOLD_CLEAR && seeded("a clear call is shown with no key")) numbers[32] = ASTERNHAKEN_FOLLOW_NO_KEY;
+    if (seeded("the calls are shown by falling key")) numbers[0] = UINT32_MAX - numbers[0];
+    return result;
+}
+
+uint32_t __real_asternhaken_yard_count(const uint8_t *state, size_t state_length, uint64_t *count);
+uint32_t __wrap_asternhaken_yard_count(const uint8_t *state, size_t state_length, uint64_t *count)
+{
+    uint32_t result = __real_asternhaken_yard_count(state, state_length, count);
+    if (*count && seeded("a call is not counted")) --*count;
     return result;
 }
 

@@ -562,24 +562,60 @@ static void wdispatcher(void)
     write_element(asternhaken_digits_write, numbers, n, size);
 }
 
-/* ---- The receiver ---- */
+/* ---- The receiver, and the yard set beside it, whose state begins with a receiver's ---- */
 
 enum { LENGTH = ASTERNHAKEN_STATE_LENGTH };
 
-static uint8_t *state;
+typedef uint32_t message_event(uint8_t *state, size_t state_length, uint32_t tick, const uint8_t *octets, size_t n);
+typedef uint32_t pch_event(uint8_t *state, size_t state_length, uint32_t tick, const uint64_t *entry, size_t n);
+typedef uint32_t number_event(uint8_t *state, size_t state_length, uint32_t tick, uint32_t number);
+typedef uint32_t plain_event(uint8_t *state, size_t state_length, uint32_t tick);
+
+/* What a command is for: its state, and the functions that take its setup and its events. */
+struct set {
+    uint8_t *state;
+    size_t length;
+    uint32_t (*setup)(uint8_t *state, size_t state_length, const uint32_t *keys, size_t n_keys, const uint32_t *sets, size_t n_sets, uint32_t tick, uint32_t t3206, uint32_t t3208, uint32_t t3210);
+    message_event *nch, *facch;
+    pch_event *pch;
+    number_event *joined, *bit_22;
+    plain_event *reselected, *handed_over, *reconfigured, *left_idle, *tick;
+};
+
+/* What a yard set does not take has a const state. */
+static uint32_t yard_facch(uint8_t *state, size_t state_length, uint32_t tick, const uint8_t *octets, size_t n) { return asternhaken_yard_facch(state, state_length, tick, octets, n); }
+static uint32_t yard_pch(uint8_t *state, size_t state_length, uint32_t tick, const uint64_t *entry, size_t n) { return asternhaken_yard_pch(state, state_length, tick, entry, n); }
+static uint32_t yard_handed_over(uint8_t *state, size_t state_length, uint32_t tick) { return asternhaken_yard_handed_over(state, state_length, tick); }
+static uint32_t yard_reconfigured(uint8_t *state, size_t state_length, uint32_t tick) { return asternhaken_yard_reconfigured(state, state_length, tick); }
+static uint32_t yard_left_idle(uint8_t *state, size_t state_length, uint32_t tick) { return asternhaken_yard_left_idle(state, state_length, tick); }
+
+static struct set receiver = {
+    NULL, LENGTH, asternhaken_setup, asternhaken_nch, asternhaken_facch, asternhaken_pch, asternhaken_joined, asternhaken_bit_22,
+    asternhaken_reselected, asternhaken_handed_over, asternhaken_reconfigured, asternhaken_left_idle, asternhaken_tick
+};
+static struct set yard_set = {
+    NULL, ASTERNHAKEN_YARD_LENGTH, asternhaken_yard_setup, asternhaken_yard_nch, yard_facch, yard_pch, asternhaken_yard_joined, asternhaken_yard_bit_22,
+    asternhaken_yard_reselected, yard_handed_over, yard_reconfigured, yard_left_idle, asternhaken_yard_tick
+};
+static const struct set *set = &receiver; /* of the command */
 static uint64_t *value;
 
-static void setup(void)
+static void set_up(void)
 {
     size_t n_keys, n_sets;
-    take(); /* VERSION */
     uint32_t tick = take_u32(), t3206 = take_u32(), t3208 = take_u32(), t3210 = take_u32();
     take_slash();
     uint32_t *keys = take_list("keys", &n_keys);
     take_slash();
     uint32_t *sets = take_list("sets", &n_sets);
     if (!understood()) return;
-    say_number(WATCHED(asternhaken_setup(state, LENGTH, keys, n_keys, sets, n_sets, tick, t3206, t3208, t3210), state, LEAVES));
+    say_number(WATCHED(set->setup(set->state, set->length, keys, n_keys, sets, n_sets, tick, t3206, t3208, t3210), set->state, LEAVES));
+}
+
+static void setup(void)
+{
+    take(); /* VERSION */
+    set_up();
 }
 
 /* Where a key stands. How many keys it was compared with is not in the line, but is at most 1 + log2 of their number, and 0 for none. */
@@ -605,7 +641,7 @@ static uint64_t part(uint32_t entry, uint32_t which)
 {
     if (which == CIPHERED) return part(entry, ASTERNHAKEN_PART_CIPHER_KEY_NUMBER) != 0;
     paint(value, sizeof *value);
-    if (WATCHED(asternhaken_read(state, LENGTH, entry, which, value), value, CLEARS) != ASTERNHAKEN_ACCEPTED) fault("asternhaken_read refuses", "state", 0);
+    if (WATCHED(asternhaken_read(set->state, LENGTH, entry, which, value), value, CLEARS) != ASTERNHAKEN_ACCEPTED) fault("asternhaken_read refuses", "state", 0);
     return *value;
 }
 
@@ -645,7 +681,7 @@ static void paged(void)
 {
     uint64_t *numbers = lend_numbers(ASTERNHAKEN_PAGED_NUMBERS);
     if (!understood()) return;
-    if (WATCHED(asternhaken_paged_numbers(state, LENGTH, numbers, ASTERNHAKEN_PAGED_NUMBERS), numbers, CLEARS) != ASTERNHAKEN_ACCEPTED) fault("asternhaken_paged_numbers refuses", "state", 0);
+    if (WATCHED(asternhaken_paged_numbers(set->state, LENGTH, numbers, ASTERNHAKEN_PAGED_NUMBERS), numbers, CLEARS) != ASTERNHAKEN_ACCEPTED) fault("asternhaken_paged_numbers refuses", "state", 0);
     for (uint32_t i = 0; i < ASTERNHAKEN_PAGED_NUMBERS; i++) {
         if (part(i, ASTERNHAKEN_PART_PAGED + i) != numbers[i]) fault("a part is unlike its number", "paged", i);
         if (!numbers[0] && numbers[i]) fault("nobody is paged, and a number is not zero", "paged", i);
@@ -664,23 +700,23 @@ static void say_answer(uint32_t result)
 }
 
 /* An event with a message. */
-static void message(uint32_t (*event)(uint8_t *state, size_t state_length, uint32_t tick, const uint8_t *octets, size_t n))
+static void message(message_event *event)
 {
     size_t n;
     uint32_t tick = take_u32();
     uint8_t *octets = take_octets(&n);
-    if (understood()) say_answer(WATCHED(event(state, LENGTH, tick, octets, n), state, LEAVES));
+    if (understood()) say_answer(WATCHED(event(set->state, set->length, tick, octets, n), set->state, LEAVES));
 }
 
 /* An event that is a tick alone. */
-static void plain(uint32_t (*event)(uint8_t *state, size_t state_length, uint32_t tick))
+static void plain(plain_event *event)
 {
     uint32_t tick = take_u32();
-    if (understood()) say_answer(WATCHED(event(state, LENGTH, tick), state, LEAVES));
+    if (understood()) say_answer(WATCHED(event(set->state, set->length, tick), set->state, LEAVES));
 }
 
-static void ev_nch(void) { message(asternhaken_nch); }
-static void ev_facch(void) { message(asternhaken_facch); }
+static void ev_nch(void) { message(set->nch); }
+static void ev_facch(void) { message(set->facch); }
 /* The description is taken as its short list flag says: what the library is not told, it would not look at. */
 static void ev_pch(void)
 {
@@ -690,26 +726,24 @@ static void ev_pch(void)
     uint64_t octets = take_allocation(entry[ASTERNHAKEN_PCH_ALLOCATION_OCTETS]), list = take_number(UINT64_MAX);
     entry[ASTERNHAKEN_PCH_FREQUENCIES] = entry[ASTERNHAKEN_PCH_SHORT_LIST] ? list : octets;
     for (size_t i = ASTERNHAKEN_PCH_RAND_GIVEN; i < ASTERNHAKEN_PCH_NUMBERS; i++) entry[i] = take_number(UINT64_MAX);
-    if (understood()) say_answer(WATCHED(asternhaken_pch(state, LENGTH, tick, entry, ASTERNHAKEN_PCH_NUMBERS), state, LEAVES));
+    if (understood()) say_answer(WATCHED(set->pch(set->state, set->length, tick, entry, ASTERNHAKEN_PCH_NUMBERS), set->state, LEAVES));
 }
 
-static void ev_idle(void) { plain(asternhaken_left_idle); }
-static void ev_reselected(void) { plain(asternhaken_reselected); }
-static void ev_handed_over(void) { plain(asternhaken_handed_over); }
-static void ev_reconfigured(void) { plain(asternhaken_reconfigured); }
-static void ev_tick(void) { plain(asternhaken_tick); }
+static void ev_idle(void) { plain(set->left_idle); }
+static void ev_reselected(void) { plain(set->reselected); }
+static void ev_handed_over(void) { plain(set->handed_over); }
+static void ev_reconfigured(void) { plain(set->reconfigured); }
+static void ev_tick(void) { plain(set->tick); }
 
-static void ev_joined(void)
+/* An event with a key or a bit. */
+static void with_number(number_event *event)
 {
-    uint32_t tick = take_u32(), key = take_u32();
-    if (understood()) say_answer(WATCHED(asternhaken_joined(state, LENGTH, tick, key), state, LEAVES));
+    uint32_t tick = take_u32(), number = take_u32();
+    if (understood()) say_answer(WATCHED(event(set->state, set->length, tick, number), set->state, LEAVES));
 }
 
-static void ev_bit(void)
-{
-    uint32_t tick = take_u32(), bit = take_u32();
-    if (understood()) say_answer(WATCHED(asternhaken_bit_22(state, LENGTH, tick, bit), state, LEAVES));
-}
+static void ev_joined(void) { with_number(set->joined); }
+static void ev_bit(void) { with_number(set->bit_22); }
 
 /* ---- The uplink, on a state of its own ---- */
 
@@ -790,6 +824,68 @@ static const struct command uplink_events[] = {
 
 static void uev(void) { run(uplink_events); }
 
+/* ---- The yard set ---- */
+
+static void ysetup(void)
+{
+    set = &yard_set;
+    set_up();
+}
+
+static void yev(void)
+{
+    set = &yard_set;
+    run(events);
+}
+
+/* All numbers of a call that is shown, which stand in the order of an entry's parts, with its age behind. */
+static const uint64_t *shown(uint32_t i, uint64_t *numbers)
+{
+    paint(numbers, ASTERNHAKEN_YARD_CALL_NUMBERS * sizeof *numbers);
+    if (WATCHED(asternhaken_yard_call_numbers(yard_set.state, yard_set.length, i, numbers, ASTERNHAKEN_YARD_CALL_NUMBERS), numbers, CLEARS) != ASTERNHAKEN_ACCEPTED)
+        fault("asternhaken_yard_call_numbers refuses", "yard", 0);
+    return numbers;
+}
+
+static uint64_t shown_part(const uint64_t *numbers, uint32_t which)
+{
+    if (which == CIPHERED) return shown_part(numbers, ASTERNHAKEN_PART_CIPHER_KEY_NUMBER) != 0;
+    return numbers[which - ASTERNHAKEN_PART_KEY];
+}
+
+/* A call is told complete, with nothing of following beside 1, and is younger than a call may be; its age is not in the line. */
+static void say_shown(const uint64_t *numbers, uint32_t i)
+{
+    uint64_t told = shown_part(numbers, ASTERNHAKEN_PART_TOLD), follow = shown_part(numbers, ASTERNHAKEN_PART_FOLLOW), kept_count = shown_part(numbers, ASTERNHAKEN_PART_KEPT_COUNT), record[RECORD_PARTS];
+    if (told < ASTERNHAKEN_TOLD_CLEAR || told > ASTERNHAKEN_TOLD_JOINED) fault("a call is shown that was not told complete", "call", i);
+    if (told == ASTERNHAKEN_TOLD_CLEAR && (follow || kept_count)) fault("a call that is not ciphered is said to be followed, or not", "call", i);
+    if (numbers[ASTERNHAKEN_YARD_CALL_NUMBERS - 1] >= ASTERNHAKEN_YARD_SHOWN) fault("a call is shown that ran out", "call", i);
+    say("|");
+    say_number(shown_part(numbers, ASTERNHAKEN_PART_KEY));
+    for (size_t j = 0; j < RECORD_PARTS; j++) record[j] = shown_part(numbers, record_parts[j]);
+    say_record(record, call_record);
+    say_number(follow);
+    say_number(kept_count);
+}
+
+/* The calls rise by their keys, and behind the last there is none. */
+static void yshown(void)
+{
+    uint64_t *numbers = lend_numbers(ASTERNHAKEN_YARD_CALL_NUMBERS), last = 0;
+    if (!understood()) return;
+    if (WATCHED(asternhaken_yard_count(yard_set.state, yard_set.length, value), value, CLEARS) != ASTERNHAKEN_ACCEPTED) fault("asternhaken_yard_count refuses", "yard", 0);
+    uint32_t count = (uint32_t)count_of(*value, ASTERNHAKEN_YARD_KEYS, "calls");
+    say_number(count);
+    for (uint32_t i = 0; i < count; i++) {
+        say_shown(shown(i, numbers), i);
+        if (i && numbers[0] <= last) fault("the keys of the calls do not rise", "call", i);
+        last = numbers[0];
+    }
+    shown(count, numbers);
+    for (size_t i = 0; i < ASTERNHAKEN_YARD_CALL_NUMBERS; i++)
+        if (numbers[i]) fault("behind the last call there is another", "numbers", i * sizeof *numbers);
+}
+
 static const struct command commands[] = {
     { "nch", nch },
     { "facch", facch },
@@ -798,6 +894,9 @@ static const struct command commands[] = {
     { "setup", setup },
     { "ev", ev },
     { "paged", paged },
+    { "ysetup", ysetup },
+    { "yev", yev },
+    { "yshown", yshown },
     { "find", find },
     { "usetup", usetup },
     { "uev", uev },
@@ -856,13 +955,15 @@ static void cut(void)
 int main(void)
 {
     int status = 0;
-    state = (uint8_t *)lend("state", LENGTH);
+    receiver.state = (uint8_t *)lend("state", receiver.length);
+    yard_set.state = (uint8_t *)lend("yard", yard_set.length);
     value = (uint64_t *)lend("value", sizeof *value);
     uplink = (uint8_t *)lend("uplink", ASTERNHAKEN_UPLINK_LENGTH);
     struct lent *stays = lents;
     for (; wrong = NULL, read_line(); take_back(stays)) {
         line_number++;
         begun = 0;
+        set = &receiver;
         cut();
         if (!wrong) run(commands);
         if (wrong) {

@@ -83,7 +83,8 @@ note $? 'valgrind on the driver'
 
 wraps=$(sed -n 's/^uint32_t __wrap_\([a-z0-9_]*\)(.*/-Wl,--wrap=\1/p' tests/drive-stub.c)
 builds cc -std=c99 $strict -O2 -Iinclude tests/drive.c tests/drive-stub.c $wraps "$archive" -o "$tmp/faulty"
-# The newest file need not come to every fault. Behind its rows stand some of ours: a Paging Cause that is written for a call, and a refused setup while somebody is paged.
+# The newest file need not come to every fault. Behind its rows stand some of ours: a Paging Cause that is written for a call, a refused setup while somebody is
+# paged, and a refused tick of the uplink.
 {
     cat "$file"
     echo '> wfacch 7 0 0 1 0 2 5 0 0 0 0 0 0 0 0 0 0 0 0 0 0 0 0 0 0 0 0 0 0 0 0 0 0 0 0 0 0 0 0 0 1 0 1 1 1' && echo '< 0 52 00000000092a7b'
@@ -91,6 +92,8 @@ builds cc -std=c99 $strict -O2 -Iinclude tests/drive.c tests/drive-stub.c $wraps
     echo '> ev facch 1001 0482fa091a2b3c572b' && echo '< 0 0 0 0'
     echo '> setup 7 1002 0 5000 5000 / 9422 / 2' && echo '< 10'
     echo '> paged' && echo '< 1 5 244 18 52 86 120 0 0 0 0 2 1 3 0 0'
+    echo '> usetup 1000 5000' && echo '< 0'
+    echo '> uev tick 999' && echo '< 9 0 -'
 } > "$tmp/rows"
 compare "$tmp/faulty" "$tmp/rows"
 grep -q ' passed, 0 failed$' "$tmp/compared"
@@ -155,6 +158,33 @@ a "free" that comes too late grants:must answer: 0 1 -$
 a "busy" is a tick alone:must answer: 0 0 waiting$
 a request rejects nobody:must answer: 0 1 waiting$
 a second request is told to wait:must answer: 0 0 already$
+a ninth key is taken:must answer: 10$
+an odd key is taken:must answer: 10$
+a refused setup of a yard set writes:^FAULT .*a refused call changed lent memory: yard, octet 10733$
+a call is gone a millisecond early:must answer: [1-8] | 
+a call stays a millisecond longer:^FAULT .*a call is shown that ran out: call, octet 0$
+another NLN takes no call away:must answer: 0$
+another NLN takes its own calls away too:must answer: [1-8] | 
+the first NLN takes the calls away:must answer: [1-8] | 
+a refused message takes the calls away:^FAULT .*a refused call changed lent memory: yard, octet 10[2-8][0-9][0-9]$
+the older record wins:must answer: [1-8] | 
+a call is lost where another is joined:must answer: [1-8] | 
+the calls outlive a reselection:must answer: 0$
+the NLN of the old cell is kept:must answer: [1-8] | 
+the clock is looked at before 19:must answer: 19 0 0 0$
+a yard set is handed over:must answer: 19 0 0 0$
+a handover moves the clock:^FAULT .*a refused call changed lent memory: yard, octet [0-3]$
+a yard set reads the FACCH:must answer: 19 0 0 0$
+showing a call writes the state:^FAULT .*a call changed what it may not write: yard, octet 10256$
+a call is shown too long:^FAULT .*a write behind what was lent: numbers, octet 280$
+there is one more call:^FAULT .*behind the last call there is another: numbers, octet 0$
+the count of now is shown:must answer: [1-8] | .* 3 [0-3]
+a part of a shown call is another:must answer: [1-8] | 
+an age is that of a call that is gone:^FAULT .*a call is shown that ran out: call, octet 0$
+a call is shown as it is not told:^FAULT .*a call is shown that was not told complete: call, octet 0$
+a clear call is shown with no key:^FAULT .*a call that is not ciphered is said to be followed, or not: call, octet [0-7]$
+the calls are shown by falling key:^FAULT .*the keys of the calls do not rise: call, octet 1$
+a call is not counted:^FAULT .*behind the last call there is another: numbers, octet 0$
 END
 
 # ---- Faults of the driver, and of the file ----

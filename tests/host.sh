@@ -90,7 +90,7 @@ ignored() {
 must_use() {
     set -- "$1" "$tmp/ignored.$2" 'asternhaken_setup(s, 1, k, 1, k, 1, 0, 1, 1, 1)' 'asternhaken_nch(s, 1, 0, s, 1)' 'asternhaken_facch(s, 1, 0, s, 1)' 'asternhaken_pch(s, 1, 0, v, 1)' \
         'asternhaken_joined(s, 1, 0, 1)' 'asternhaken_reselected(s, 1, 0)' 'asternhaken_handed_over(s, 1, 0)' 'asternhaken_reconfigured(s, 1, 0)' 'asternhaken_left_idle(s, 1, 0)' 'asternhaken_bit_22(s, 1, 0, 1)' \
-        'asternhaken_tick(s, 1, 0)' 'asternhaken_find(k, 1, 1, v, v + 1)' 'asternhaken_nch_read(s, 1, v, 1)' 'asternhaken_nch_write(v, 1, s, 1)' 'asternhaken_facch_read(s, 1, v, 1)' 'asternhaken_facch_write(v, 1, s, 1)' 'asternhaken_cause_decode(s, 1, c)' \
+        'asternhaken_tick(s, 1, 0)' 'asternhaken_yard_setup(s, 1, k, 1, k, 1, 0, 1, 1, 1)' 'asternhaken_yard_nch(s, 1, 0, s, 1)' 'asternhaken_yard_tick(s, 1, 0)' 'asternhaken_find(k, 1, 1, v, v + 1)' 'asternhaken_nch_read(s, 1, v, 1)' 'asternhaken_nch_write(v, 1, s, 1)' 'asternhaken_facch_read(s, 1, v, 1)' 'asternhaken_facch_write(v, 1, s, 1)' 'asternhaken_cause_decode(s, 1, c)' \
         'asternhaken_cause_encode(c, s, 1)' 'asternhaken_uplink_setup(s, 1, 0, 1)' 'asternhaken_uplink_free(s, 1, 0)' 'asternhaken_uplink_busy(s, 1, 0)' 'asternhaken_uplink_request(s, 1, 0)' \
         'asternhaken_uplink_tick(s, 1, 0)'
     by=$1 file=$2
@@ -98,7 +98,7 @@ must_use() {
     ignored "$@" > "$file"
     $by -Wall -Wextra -Wpedantic -Iinclude -c "$file" -o "$tmp/ignored.o" > "$tmp/warned" 2>&1
     [ "$(grep -c 'warning: .*\(unused-result\|nodiscard\)' "$tmp/warned")" = $# ] || { cat "$tmp/warned"; return 1; }
-    ignored 'asternhaken_read(s, 1, 0, 0, v)' 'asternhaken_entry_numbers(s, 1, 0, v, 1)' 'asternhaken_paged_numbers(s, 1, v, 1)' 'asternhaken_held_count(s, 1, v)' 'asternhaken_next_expiry(s, 1, v)' > "$file"
+    ignored 'asternhaken_read(s, 1, 0, 0, v)' 'asternhaken_entry_numbers(s, 1, 0, v, 1)' 'asternhaken_paged_numbers(s, 1, v, 1)' 'asternhaken_held_count(s, 1, v)' 'asternhaken_next_expiry(s, 1, v)' 'asternhaken_yard_count(s, 1, v)' 'asternhaken_yard_call_numbers(s, 1, 0, v, 1)' > "$file"
     $by $strict -Iinclude -c "$file" -o "$tmp/ignored.o"
 }
 # too_short COMPILER KIND: where a struct lacks a member, the header does not compile.
@@ -123,7 +123,7 @@ holds 'the header declares functions, and has some of its own' test -s "$tmp/fun
 figures
 while read -r f; do holds "tests/stack.c does not call $f" grep -qw "$f" tests/stack.c; done < "$tmp/functions"
 cat "$tmp/inlines" "$tmp/functions" > "$tmp/called"
-while read -r f; do holds "none of tests/header.c, tests/views.c and tests/uplink.c calls $f" grep -qw "$f" tests/header.c tests/views.c tests/uplink.c; done < "$tmp/called"
+while read -r f; do holds "none of tests/header.c, tests/views.c, tests/uplink.c and tests/yard.c calls $f" grep -qw "$f" tests/header.c tests/views.c tests/uplink.c tests/yard.c; done < "$tmp/called"
 # names HEADER: refusals, told numbers, what is said of following and of the uplink, parts and the numbers of a page have their prefixes, and behind them no two have the same name; a flag that says whether something is there ends in _GIVEN.
 names() {
     sed -n 's/^    ASTERNHAKEN_\([A-Z0-9_]*\) = .*/\1/p' "$1" | grep -v '^PCH_' > "$tmp/names"
@@ -141,7 +141,7 @@ holds 'a flag under another name is refused' not_names 's/ASTERNHAKEN_PART_COUNT
 # may_be_left HEADER: all results but those of what only looks at a state or at a page, and of the version, must be used.
 may_be_left() {
     sed -n -E 's/^(static inline )?uint32_t (asternhaken_[a-z0-9_]*)\(.*/\2/p' "$1" | sort > "$tmp/left"
-    printf 'asternhaken_%s\n' answer_get entry_get entry_numbers held_count held_get held_numbers identity_octet is_set_up next_expiry paged_get paged_numbers read version | diff - "$tmp/left"
+    printf 'asternhaken_%s\n' answer_get entry_get entry_numbers held_count held_get held_numbers identity_octet is_set_up next_expiry paged_get paged_numbers read version yard_call_get yard_call_numbers yard_count | diff - "$tmp/left"
 }
 not_left() { sed 's/^ASTERNHAKEN_MUST_USE \(uint32_t asternhaken_digits_write\)/\1/' include/asternhaken.h > "$tmp/names.h" && ! may_be_left "$tmp/names.h"; }
 holds 'the results that may be left' may_be_left include/asternhaken.h
@@ -152,7 +152,7 @@ pages() {
     [ "$(wc -l < "$tmp/names")" -ge 20 ] && while read -r f; do grep -qw "$f" include/asternhaken.h || { echo "$f"; return 1; }; done < "$tmp/names"
 }
 not_pages() { sed 's/asternhaken_held_get/asternhaken_held_take/' docs/C-API.md > "$tmp/page.md" && ! pages "$tmp/page.md"; }
-for page in README.md docs/C-API.md docs/asternhaken.3 'docs/STATE.md examples/control_room.c examples/live_list.c examples/driver.c'; do holds "what $page names" pages $page; done
+for page in README.md docs/C-API.md docs/asternhaken.3 'docs/STATE.md examples/control_room.c examples/live_list.c examples/driver.c examples/yard_set.c'; do holds "what $page names" pages $page; done
 holds 'a page with a name that is not there is refused' not_pages
 
 # ---- Each archive ----
@@ -171,6 +171,37 @@ symbols() {
 # build NAME FILE: a program of this file and the archive.
 build() { $cc -std=c99 $strict -O1 -g -Iinclude "$2" "$archive" -o "$tmp/$1"; }
 
+yard() { [ -s examples/yard.expected ] && $run "$tmp/yard_set" < examples/yard.txt > "$tmp/shown" && diff examples/yard.expected "$tmp/shown"; }
+# What a yard set takes no line for is named, and what is refused is said; the keys of a setup may come in any order.
+yard_lines() {
+    printf '%s\n' 'tick' 'tick x' 'frob 1' 'facch 1 2b2b' 'nch 1 2b2' 'nch 1 2g' 'nch 1' 'setup 0 a=b=3' 'setup 0 thirteen_long=3' 'setup 0 1 2 3 4 5 6 7 8 9' 'setup 0 7 9 8:3,4 # the keys are sorted' 'nch 1 2b' 'joined 1 4294967296' 'joined 2 7' 'tick 1' 'bit_22 2 2' 'bit_22 2 1' | \
+        $run "$tmp/yard_set" > "$tmp/shown" 2> "$tmp/wrong"
+    [ $? = 1 ] && diff - "$tmp/wrong" <<'END' && diff - "$tmp/shown" <<'OUT'
+line 1: an event has a TICK
+line 2: a word is no number of 32 bits
+line 3: no such event
+line 4: no such event
+line 5: HEX is not two digits for each octet
+line 6: HEX is not two digits for each octet
+line 7: no such event
+line 8: a word is no number of 32 bits
+line 9: a call is NAME=REFERENCE:GROUP,.., with a name of twelve characters at most
+line 13: a word is no number of 32 bits
+END
+---- setup refused: setup
+
+---- 0.000 s ----
+
+no call
+
+---- nch refused: message length
+
+---- tick refused: clock
+
+---- bit_22 refused: range
+
+OUT
+}
 sample() { [ -s examples/sample.expected ] && $run "$tmp/control_room" < examples/sample.txt > "$tmp/shown" && diff examples/sample.expected "$tmp/shown"; }
 
 # The events of vectors/ and their answers, by what $expected writes; there are no fewer than when this was written.
@@ -295,13 +326,13 @@ END
          0  press  please wait
 END
 }
-# by COMPILER..: every function, the views, the uplink, the events and the examples as that compiler takes them.
+# by COMPILER..: every function, the views, the uplink, the yard set, the events and the examples as that compiler takes them.
 by() {
-    for program in tests/header tests/views tests/uplink tests/events examples/control_room examples/live_list examples/driver; do
+    for program in tests/header tests/views tests/uplink tests/yard tests/events examples/control_room examples/live_list examples/driver examples/yard_set; do
         "$@" $strict -O2 -Iinclude $program.c -x none "$archive" -o "$tmp/$(basename $program)" || return 1
     done
-    for program in header views uplink; do "$tmp/$program" > "$tmp/shown" && tail -n 1 "$tmp/shown" | grep '^[1-9][0-9]* passed, 0 failed$' || { cat "$tmp/shown"; return 1; }; done
-    events && sample && live_list && driver
+    for program in header views uplink yard; do "$tmp/$program" > "$tmp/shown" && tail -n 1 "$tmp/shown" | grep '^[1-9][0-9]* passed, 0 failed$' || { cat "$tmp/shown"; return 1; }; done
+    events && sample && live_list && driver && yard
 }
 
 # from_python: the module over the shared library of this archive, held to the header and known answers, and the example in it.
@@ -323,11 +354,12 @@ for folder; do
     *) holds "$archive is no archive for x86-64 or this machine" false; continue ;;
     esac
     holds "$name: symbols" symbols
-    for program in header views uplink stack events; do holds "$name: tests/$program.c" build $program tests/$program.c; done
-    for program in control_room live_list driver; do holds "$name: examples/$program.c" build $program examples/$program.c; done
+    for program in header views uplink yard stack events; do holds "$name: tests/$program.c" build $program tests/$program.c; done
+    for program in control_room live_list driver yard_set; do holds "$name: examples/$program.c" build $program examples/$program.c; done
     counted "$name: tests/header.c" $run "$tmp/header"
     counted "$name: tests/views.c" $run "$tmp/views"
     counted "$name: tests/uplink.c" $run "$tmp/uplink"
+    counted "$name: tests/yard.c" $run "$tmp/yard"
     holds "$name: the events of vectors/" events
     holds "$name: too few events are refused" no_events
     holds "$name: the sample" sample
@@ -335,6 +367,8 @@ for folder; do
     holds "$name: the live list" live_list
     holds "$name: the driver's set" driver
     holds "$name: wrong lines of the driver's set" driver_wrong_lines
+    holds "$name: the yard set" yard
+    holds "$name: wrong lines for the yard set" yard_lines
     counted "$name: tests/stack.c" $run "$tmp/stack"
     echo "$name: $(grep deepest "$tmp/counted")"
     [ -z "$run" ] || continue
@@ -342,10 +376,13 @@ for folder; do
     holds "$name: valgrind on tests/header.c" $run "$tmp/header"
     holds "$name: valgrind on tests/views.c" $run "$tmp/views"
     holds "$name: valgrind on tests/uplink.c" $run "$tmp/uplink"
+    holds "$name: valgrind on tests/yard.c" $run "$tmp/yard"
     holds "$name: valgrind on the sample" sample
     holds "$name: valgrind on wrong lines" wrong_lines
     holds "$name: valgrind on the live list" live_list
     holds "$name: valgrind on the driver's set" driver
+    holds "$name: valgrind on the yard set" yard
+    holds "$name: valgrind on wrong lines for the yard set" yard_lines
     run=
     holds "$name: gcc" by gcc -std=c99
     holds "$name: clang" by clang -std=c99

@@ -54,7 +54,7 @@ brings() {
 wanted() {
     local version=$1
     printf './usr/%s\n' include/asternhaken.h lib/libasternhaken.a lib/libasternhaken.so "lib/libasternhaken.so.${version%%.*}" "lib/libasternhaken.so.$version" lib/pkgconfig/asternhaken.pc \
-        share/asternhaken/{asternhaken.py,control_room.c,control_room.py,driver.c,driver.txt,live_list.c,sample.txt} share/man/man3/asternhaken.3 | sort
+        share/asternhaken/{asternhaken.py,control_room.c,control_room.py,driver.c,driver.txt,live_list.c,sample.txt,yard_set.c,yard.txt} share/man/man3/asternhaken.3 | sort
 }
 # A packager's folder is not named in what is installed, and nothing waits to be filled in.
 filled_in() { ! grep -rlF -e "$top" -e '@VERSION@' -e '@PREFIX@' "$top/package"; }

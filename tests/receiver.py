@@ -4,7 +4,7 @@ import sys
 import unittest
 
 import asternhaken
-from asternhaken import Held, Paged, PchEntry, Receiver, Refused, Uplink, UplinkAnswer, key
+from asternhaken import Held, Paged, PchEntry, Receiver, Refused, Uplink, UplinkAnswer, YardSet, key
 
 HEADER = open(sys.argv.pop(1)).read()
 YARD, DISPATCHER = key(4711, False), key(4711, True)
@@ -70,6 +70,8 @@ class TheHeader(unittest.TestCase):
         self.assertEqual(asternhaken.PARTS[:3], members("answer"))
         self.assertEqual(asternhaken.Entry._fields, members("entry"))
         self.assertEqual(asternhaken.Held._fields, members("held"))
+        self.assertEqual(asternhaken.YardCall._fields, members("yard_call"))
+        self.assertEqual(len(asternhaken.YardCall._fields) - 1 + len(members("record")), defined("YARD_CALL_NUMBERS"))
         self.assertEqual(asternhaken.PchEntry._fields, members("pch_entry"))
         self.assertEqual(asternhaken.PchEntry._fields, in_order("pch_number", "PCH_"))
         self.assertEqual(len(asternhaken.PchEntry._fields), defined("PCH_NUMBERS"))
@@ -82,7 +84,7 @@ class TheHeader(unittest.TestCase):
                 self.assertEqual(getattr(asternhaken, name), number)
 
     def test_numbers(self):
-        for name in ("STATE_LENGTH", "KEYS", "LAST_GROUP_KEY", "T3206", "T3208", "T3210", "UPLINK_LENGTH", "UPLINK_FREE"):
+        for name in ("STATE_LENGTH", "KEYS", "LAST_GROUP_KEY", "T3206", "T3208", "T3210", "UPLINK_LENGTH", "UPLINK_FREE", "YARD_LENGTH", "YARD_KEYS", "YARD_SHOWN"):
             self.assertEqual(getattr(asternhaken, name), defined(name))
         self.assertEqual(asternhaken._NEVER, defined("NEVER"))
 
@@ -92,10 +94,11 @@ class TheHeader(unittest.TestCase):
     def test_words(self):
         for enum, word, sentence in (("refusal", asternhaken.refusal_word, asternhaken.refusal_sentence), ("told", asternhaken.told_word, asternhaken.told_sentence),
                                      ("follow", asternhaken.follow_word, asternhaken.follow_sentence), ("uplink", asternhaken.uplink_word, asternhaken.uplink_sentence)):
-            n = len(constants(enum))
+            known = set(constants(enum).values())
+            n = max(known) + 1
             for say in (word, sentence):
-                self.assertEqual(len({say(i) for i in range(n + 1)}), n + 1)
-                self.assertEqual({say(i) for i in (n, 255, 1 << 31, (1 << 32) - 1)}, {say(n)})
+                self.assertEqual(len({say(i) for i in known | {n}}), len(known) + 1)
+                self.assertEqual({say(i) for i in {255, 1 << 31, (1 << 32) - 1} | set(range(n + 1)) - known}, {say(n)})
             self.assertEqual(word(n), "unknown")
             for i in range(n + 1):
                 self.assertRegex(sentence(i), r"^[A-Z].* .*\.$")
@@ -350,6 +353,66 @@ class TheUplink(unittest.TestCase):
         other = Uplink.from_state(self.uplink.state)
         self.assertEqual(self.uplink.tick(1100).ended_word, "rejected")
         self.assertEqual(other.free(1099).ended_word, "granted")
+
+
+class TheYardSet(unittest.TestCase):
+    HUMP = key(815, False)
+    HUMP_CALL = bytes.fromhex("b000065e208520918b2b2b2b2b2b2b2b2b2b2b2b")  # not ciphered, channel 0a4123, NLN 1
+    OTHER_NLN = bytes.fromhex("d00024ce13adc22b1ca468acf1342b2b2b2b2b2b")  # of the yard, in one piece, NLN 2, count 2; its key number is 3
+
+    def setUp(self):
+        self.yard = YardSet([YARD, self.HUMP], tick=1000, groups={YARD: [3]})
+
+    def refused(self, number, call, *words):
+        before = self.yard.state
+        with self.assertRaises(Refused) as caught:
+            call(*words)
+        self.assertEqual((caught.exception.number, self.yard.state), (number, before))
+
+    def shown(self):
+        return [(call.key, call.told, call.record.channel, call.follow, call.kept_count, call.age) for call in self.yard.shown]
+
+    def test_calls(self):
+        self.assertEqual(self.shown(), [])
+        self.yard.nch(2000, FIRST)
+        self.assertEqual((self.shown(), len(self.yard.held)), ([], 1))
+        self.assertEqual(self.yard.nch(2500, SECOND).entries[0].told, asternhaken.TOLD_JOINED)
+        self.assertEqual(self.shown(), [(YARD, 3, 0x0A4123, asternhaken.FOLLOW_WITH_COUNT, 1, 0)])
+        self.yard.bit_22(2600, 1)
+        self.yard.bit_22(2700, 0)
+        self.yard.joined(2800, self.HUMP)
+        self.yard.nch(3000, self.HUMP_CALL)
+        self.assertEqual(self.shown(), [(self.HUMP, 1, 0x0A4123, 0, 0, 0), (YARD, 3, 0x0A4123, 3, 1, 500)])
+        self.assertEqual([(call.reference, call.vgcs, call.told_word, call.follow_word) for call in self.yard.shown],
+                         [(815, False, "complete, clear", "not said"), (4711, False, "complete, joined", "follow")])
+        self.yard.tick(2500 + asternhaken.YARD_SHOWN - 1)
+        self.assertEqual(len(self.yard.shown), 2)
+        self.yard.tick(2500 + asternhaken.YARD_SHOWN)
+        self.assertEqual([call.key for call in self.yard.shown], [self.HUMP])
+        self.yard.nch(32600, self.OTHER_NLN)
+        self.assertEqual(self.shown(), [(YARD, 2, 0x5B8456, 3, 2, 0)])
+        self.yard.reselected(32601)
+        self.assertEqual(self.shown(), [])
+
+    def test_refusals(self):
+        self.yard.nch(2000, self.HUMP_CALL)
+        for tick in 1999, 2000:
+            for call, words in ((self.yard.facch, (PAGE_TMSI,)), (self.yard.pch, (PCH_FIRST,)), (self.yard.handed_over, ()), (self.yard.reconfigured, ()), (self.yard.left_idle, ())):
+                self.refused(asternhaken.REFUSED_NOT_FOR_YARD, call, tick, *words)
+        self.refused(asternhaken.REFUSED_CLOCK, self.yard.tick, 1999)
+        self.refused(asternhaken.REFUSED_SETUP, self.yard.setup, [DISPATCHER], 0)
+        self.refused(asternhaken.REFUSED_SETUP, self.yard.setup, range(0, 18, 2), 0)
+        self.assertEqual(len(self.yard.shown), 1)
+        self.yard.setup(range(0, 16, 2), 0)
+        self.assertEqual(self.shown(), [])
+
+    def test_states(self):
+        self.yard.nch(2000, self.HUMP_CALL)
+        other = YardSet.from_state(self.yard.state)
+        self.yard.reselected(2001)
+        self.assertEqual((len(other.shown), len(self.yard.shown), other.is_set_up), (1, 0, True))
+        self.assertRaises(Refused, YardSet.from_state, Receiver([YARD], 0).state)
+        self.assertEqual(len(other.state), asternhaken.YARD_LENGTH)
 
 
 def bearer(octets):

@@ -14,7 +14,7 @@ enum { STACK = 65536, LIMIT = 4096 };
 
 static unsigned char *stack;
 static ucontext_t here, there;
-static uint8_t state[ASTERNHAKEN_STATE_LENGTH], octets[256];
+static uint8_t state[ASTERNHAKEN_STATE_LENGTH], octets[256], yard[ASTERNHAKEN_YARD_LENGTH];
 static uint32_t keys[ASTERNHAKEN_KEYS], sets[ASTERNHAKEN_KEYS];
 static uint64_t numbers[600], value, entry[ASTERNHAKEN_PCH_NUMBERS];
 static size_t n;
@@ -43,6 +43,19 @@ static uint32_t paged_numbers(void) { return asternhaken_paged_numbers(state, si
 static uint32_t held_count(void) { return asternhaken_held_count(state, sizeof state, &value); }
 static uint32_t held_numbers(void) { return asternhaken_held_numbers(state, sizeof state, 1, numbers, ASTERNHAKEN_HELD_NUMBERS); }
 static uint32_t next_expiry(void) { return asternhaken_next_expiry(state, sizeof state, &value); }
+static uint32_t yard_setup(void) { return asternhaken_yard_setup(yard, sizeof yard, keys, ASTERNHAKEN_YARD_KEYS, sets, ASTERNHAKEN_YARD_KEYS, tick, 5000, 5000, 5000); }
+static uint32_t yard_nch(void) { return asternhaken_yard_nch(yard, sizeof yard, tick, octets, n); }
+static uint32_t yard_facch(void) { return asternhaken_yard_facch(yard, sizeof yard, tick, octets, n); }
+static uint32_t yard_pch(void) { return asternhaken_yard_pch(yard, sizeof yard, tick, entry, ASTERNHAKEN_PCH_NUMBERS); }
+static uint32_t yard_joined(void) { return asternhaken_yard_joined(yard, sizeof yard, tick, keys[7]); }
+static uint32_t yard_reselected(void) { return asternhaken_yard_reselected(yard, sizeof yard, tick); }
+static uint32_t yard_handed_over(void) { return asternhaken_yard_handed_over(yard, sizeof yard, tick); }
+static uint32_t yard_reconfigured(void) { return asternhaken_yard_reconfigured(yard, sizeof yard, tick); }
+static uint32_t yard_left_idle(void) { return asternhaken_yard_left_idle(yard, sizeof yard, tick); }
+static uint32_t yard_bit_22(void) { return asternhaken_yard_bit_22(yard, sizeof yard, tick, 1); }
+static uint32_t yard_tick(void) { return asternhaken_yard_tick(yard, sizeof yard, tick); }
+static uint32_t yard_count(void) { return asternhaken_yard_count(yard, sizeof yard, &value); }
+static uint32_t yard_call_numbers(void) { return asternhaken_yard_call_numbers(yard, sizeof yard, 0, numbers, ASTERNHAKEN_YARD_CALL_NUMBERS); }
 static uint32_t nch_read(void) { return asternhaken_nch_read(octets, n, numbers, ASTERNHAKEN_NCH_NUMBERS); }
 static uint32_t nch_write(void) { return asternhaken_nch_write(numbers, ASTERNHAKEN_NCH_NUMBERS, octets, 20); }
 static uint32_t facch_read(void) { return asternhaken_facch_read(octets, n, numbers, ASTERNHAKEN_FACCH_NUMBERS); }
@@ -112,17 +125,17 @@ static unsigned passed, failed;
 static size_t deepest;
 static const char *deepest_name;
 
-static uint8_t kept_state[ASTERNHAKEN_STATE_LENGTH], kept_octets[256];
+static uint8_t kept_state[ASTERNHAKEN_STATE_LENGTH], kept_octets[256], kept_yard[ASTERNHAKEN_YARD_LENGTH];
 static uint64_t kept_numbers[600];
 
 /* Runs a call twice from the same memory, with two paints, so that an octet that happens to be written like paint is seen. */
 static size_t depth(uint32_t (*call)(void), uint32_t expected, const char *name)
 {
     size_t most = 0;
-    memcpy(kept_state, state, sizeof state), memcpy(kept_octets, octets, sizeof octets), memcpy(kept_numbers, numbers, sizeof numbers);
+    memcpy(kept_state, state, sizeof state), memcpy(kept_octets, octets, sizeof octets), memcpy(kept_numbers, numbers, sizeof numbers), memcpy(kept_yard, yard, sizeof yard);
     job = call;
     for (int i = 0; i < 2; i++) {
-        memcpy(state, kept_state, sizeof state), memcpy(octets, kept_octets, sizeof octets), memcpy(numbers, kept_numbers, sizeof numbers);
+        memcpy(state, kept_state, sizeof state), memcpy(octets, kept_octets, sizeof octets), memcpy(numbers, kept_numbers, sizeof numbers), memcpy(yard, kept_yard, sizeof yard);
         size_t one = used(i ? 0x5a : 0xa5);
         if (one > most) most = one;
         if (result == expected) continue;
@@ -278,6 +291,29 @@ static void elements(void)
     both_ways(digits_read, "digits_read", digits_write, "digits_write");
 }
 
+static void yard_set(void)
+{
+    for (uint32_t i = 0; i < ASTERNHAKEN_YARD_KEYS; i++) keys[i] = i < 7 ? 2 * i : 9422;
+    measure(yard_setup, 0, "yard_setup, 8 keys");
+    message(yard_nch, "yard_nch, two first halves stored", "4000933a8e1482468001267aa56e1158922b2b2b", 0);
+    message(yard_nch, "yard_nch, a call joined", "b00024cea30712345678932b2b2b2b2b2b2b2b2b", 0);
+    measure(yard_count, 0, "yard_count");
+    measure(yard_call_numbers, 0, "yard_call_numbers");
+    message(yard_nch, "yard_nch, every part, another NLN", "dbebc1ffffb8f9e2c02b475fedcba98777aefb2b", 0);
+    message(yard_nch, "yard_nch, four calls", "900000030040000010010000007804000002040b", 0);
+    message(yard_nch, "yard_nch, refused at the last bit", "0492492492492492492492492492492492492492", 14 | 160 << 8);
+    message(yard_facch, "yard_facch", "048000", 19);
+    measure(yard_pch, 19, "yard_pch");
+    measure(yard_handed_over, 19, "yard_handed_over");
+    measure(yard_reconfigured, 19, "yard_reconfigured");
+    measure(yard_left_idle, 19, "yard_left_idle");
+    measure(yard_joined, 0, "yard_joined");
+    measure(yard_bit_22, 0, "yard_bit_22");
+    tick += 30000;
+    measure(yard_tick, 0, "yard_tick, calls ran out");
+    measure(yard_reselected, 0, "yard_reselected");
+}
+
 static void words(void)
 {
     measure(version, 0, "version");
@@ -302,6 +338,7 @@ int main(void)
     uplink();
     messages();
     elements();
+    yard_set();
     words();
     free(stack);
     printf("deepest: %lu octets of stack, in %s\n", (unsigned long)deepest, deepest_name);

@@ -12,6 +12,7 @@
 #define _POSIX_C_SOURCE 200809L
 #include "agree.h"
 #include "messages.h"
+#include "yards.h"
 
 #include <inttypes.h>
 #include <stdio.h>
@@ -29,10 +30,10 @@
 extern const struct side *const library;
 
 enum { KEYS = 50, FOREIGN = 123456, FIRST_TICK = 1000, TIMER = 60000, RUN = 2000, COUNTED = 10, LIMIT = 10 };
-enum kind { TICK, BIT_22, NCH, FACCH, PCH, WRITE_FACCH, UPLINK_WAITS, UPLINK_TURNS, READ_NCH, READ_FACCH };
+enum kind { TICK, BIT_22, NCH, FACCH, PCH, WRITE_FACCH, UPLINK_WAITS, UPLINK_TURNS, YARD_TICK, YARD_NCH, READ_NCH, READ_FACCH };
 enum { FACCH_NUMBERS = 30 };
 
-/* A row of the table: a receiver that holds so many halves, and one or two messages handed in by turns. What is written is a message that was read. */
+/* A row of the table: a receiver that holds so many halves, or a yard set that shows so many calls, and one or two messages handed in by turns. What is written is a message that was read. */
 struct row {
     const char *name;
     enum kind kind;
@@ -58,7 +59,8 @@ static _Alignas(64) struct plain_facch facch_record;
 
 /* ---- Rows ---- */
 
-static struct row rows[64];
+enum { ROWS = 96 };
+static struct row rows[ROWS];
 static unsigned n_rows, n_event_rows;
 
 static void add(const char *name, enum kind kind, unsigned halves, int spread, struct message a, struct message b)
@@ -96,6 +98,13 @@ static void make_rows(void)
     add("writing FACCH: a page", WRITE_FACCH, 0, 0, facch_page(), facch_page());
     add("uplink, a tick while a request waits", UPLINK_WAITS, 0, 0, none, none);
     add("uplink, free, request, busy and request by turns", UPLINK_TURNS, 0, 0, none, none);
+    uint32_t last = yard_keys[YARD_KEYS - 1];
+    for (unsigned calls = 0; calls < YARD_KEYS; calls += YARD_KEYS - 1) {
+        add("yard set, so many calls shown: tick", YARD_TICK, calls, 0, none, none);
+        add("yard set, so many calls shown: NCH, no entry of ours", YARD_NCH, calls, 0, clear_call(FOREIGN), clear_call(FOREIGN));
+        add("yard set, so many calls shown: NCH, one more clear call", YARD_NCH, calls, 0, clear_call(last), clear_call(last));
+        add("yard set, so many calls shown: NCH, a half stored and joined in turn", YARD_NCH, calls, 0, first_half(last), second_half_reduced(last));
+    }
     n_event_rows = n_rows;
     add("NCH: a clear call", READ_NCH, 0, 0, clear_call(key), clear_call(key));
     add("NCH: a first half", READ_NCH, 0, 0, first_half(key), first_half(key));
@@ -109,19 +118,23 @@ static void make_rows(void)
 /* The uplink has a state of its own. */
 static int is_uplink(const struct row *r) { return r->kind == UPLINK_WAITS || r->kind == UPLINK_TURNS; }
 
+static int is_yard(const struct row *r) { return r->kind == YARD_TICK || r->kind == YARD_NCH; }
+
 static uint32_t uplink_event(const struct side *s, uint8_t *state, const struct row *r, unsigned i)
 {
     static const unsigned turns[4] = { UPLINK_FREE, UPLINK_REQUEST, UPLINK_BUSY, UPLINK_REQUEST };
     return s->uplink[r->kind == UPLINK_WAITS ? UPLINK_TICK : turns[i % 4]](state, s->uplink_length, FIRST_TICK + i);
 }
 
-/* A receiver of fifty keys that holds the row's halves: the first places of both channels, or places spread over all. */
+/* A receiver of fifty keys that holds the row's halves: the first places of both channels, or places spread over all; an uplink, or a yard set. */
 static int fill(const struct side *s, uint8_t *state, const struct row *r)
 {
     if (is_uplink(r)) {
         memset(state, 0, s->state_length);
         return s->uplink_setup(state, s->uplink_length, FIRST_TICK, TIMER) == 0 && s->uplink[UPLINK_REQUEST](state, s->uplink_length, FIRST_TICK) == 3 << 16;
     }
+    if (is_yard(r))
+        return fill_yard(s, state, r->halves, FIRST_TICK);
     if (s->setup(state, s->state_length, keys, KEYS, sets, KEYS, FIRST_TICK, TIMER, TIMER, TIMER) != 0)
         return 0;
     for (unsigned i = 0; i < r->halves; i++) {
@@ -179,6 +192,16 @@ static void run(const struct runner *w, const struct row *r, unsigned n)
     case UPLINK_TURNS:
         for (unsigned i = 0; i < n; i++)
             uplink_event(s, working, r, i);
+        break;
+    case YARD_TICK:
+        for (unsigned i = 0; i < n; i++)
+            s->yard_tick(working, s->yard_length, FIRST_TICK + i);
+        break;
+    case YARD_NCH:
+        for (unsigned i = 0; i < n; i += 2) {
+            s->yard_nch(working, s->yard_length, FIRST_TICK + i, a->octets, a->n);
+            s->yard_nch(working, s->yard_length, FIRST_TICK + i + 1, b->octets, b->n);
+        }
         break;
     case READ_NCH:
         for (unsigned i = 0; i < n; i++)
@@ -249,11 +272,13 @@ static void check_rows(const struct side *const *sides, unsigned n_sides)
                 const struct side *s = sides[k];
                 uint32_t refusal = r->kind == TICK ? s->tick(states[k], s->state_length, FIRST_TICK + j)
                     : r->kind == BIT_22 ? s->bit_22(states[k], s->state_length, FIRST_TICK + j, j % 2)
+                    : r->kind == YARD_TICK ? s->yard_tick(states[k], s->yard_length, FIRST_TICK + j)
+                    : r->kind == YARD_NCH ? s->yard_nch(states[k], s->yard_length, FIRST_TICK + j, m->octets, m->n)
                     : r->kind == PCH ? s->pch(states[k], s->state_length, FIRST_TICK + j, m->entry, 14)
                     : (r->kind == NCH ? s->nch : s->facch)(states[k], s->state_length, FIRST_TICK + j, m->octets, m->n);
                 good = good && refusal == 0;
             }
-            good = good && same_answers(sides, states, n_sides, r->name);
+            good = good && same_answers(sides, states, n_sides, r->name) && (!is_yard(r) || same_calls(sides, states, n_sides, r->name));
             if (good && strstr(r->name, "in turn")) { /* that it measures what it says */
                 uint64_t told = 0;
                 sides[0]->read(states[0], sides[0]->state_length, 0, 4, &told);
@@ -274,9 +299,10 @@ static int answers_agree(uint64_t seed, unsigned messages, unsigned sequences)
     check(messages_alike(sides, n_sides, seed, messages) == messages, "random messages");
     check(sequences_alike(sides, n_sides, seed + 1, sequences, 40) == sequences, "random event sequences");
     check(uplinks_alike(sides, n_sides, seed + 2, sequences, 40) == sequences, "random event sequences of the uplink");
+    check(yards_alike(sides, n_sides, seed + 3, sequences, 40) == sequences, "random event sequences of yard sets");
     if (failed)
         return 0;
-    printf("The answers agree: all rows, %u random messages, %u random sequences of 40 events, as many of the uplink (seed %" PRIu64 ").\n", messages, sequences, seed);
+    printf("The answers agree: all rows, %u random messages, %u random sequences of 40 events, as many of the uplink and of yard sets (seed %" PRIu64 ").\n", messages, sequences, seed);
     printf("Refusals met in the sequences:");
     for (unsigned i = 0, n = 0; i < 16; i++)
         if (refusals_seen[i])
@@ -315,8 +341,8 @@ static struct runner runner_of(unsigned row, unsigned k)
     return w;
 }
 
-static double best[64][RUNNERS];
-static uint8_t *filled[64][RUNNERS];
+static double best[ROWS][RUNNERS];
+static uint8_t *filled[ROWS][RUNNERS];
 
 /* Rows that hold the same halves share the octets that they start from. */
 static void prepare(void)
@@ -325,7 +351,7 @@ static void prepare(void)
         for (unsigned k = 0; k < RUNNERS; k++) {
             struct runner w = runner_of(i, k);
             for (unsigned j = 0; w.name && j < i && !filled[i][k]; j++)
-                if (rows[j].halves == rows[i].halves && rows[j].spread == rows[i].spread && is_uplink(&rows[j]) == is_uplink(&rows[i]))
+                if (rows[j].halves == rows[i].halves && rows[j].spread == rows[i].spread && is_uplink(&rows[j]) == is_uplink(&rows[i]) && is_yard(&rows[j]) == is_yard(&rows[i]))
                     filled[i][k] = filled[j][k];
             if (w.name && !filled[i][k]) {
                 filled[i][k] = aligned_alloc(64, 1 << 15);
@@ -337,7 +363,7 @@ static void prepare(void)
 static void start(unsigned i, unsigned k)
 {
     if (filled[i][k])
-        memcpy(working, filled[i][k], runner_of(i, k).side->state_length);
+        memcpy(working, filled[i][k], is_yard(&rows[i]) ? runner_of(i, k).side->yard_length : runner_of(i, k).side->state_length);
 }
 
 static void measure(unsigned rounds)

@@ -1269,10 +1269,119 @@ static uint32_t uplink_busy(uint8_t *state, size_t state_length, uint32_t tick) 
 static uint32_t uplink_request(uint8_t *state, size_t state_length, uint32_t tick) { return uplink_event(state, state_length, tick, UPLINK_REQUEST); }
 static uint32_t uplink_tick(uint8_t *state, size_t state_length, uint32_t tick) { return uplink_event(state, state_length, tick, UPLINK_TICK); }
 
+/* ---- The yard set: a receiver, and a current call for each of up to eight keys ---- */
+
+enum { YARD_KEYS = 8, YARD_NUMBERS = 35, SHOWN = 30000 };
+
+struct yard {
+    struct receiver r;
+    uint32_t since[YARD_KEYS];
+    struct told calls[YARD_KEYS]; /* there only where shown has a bit */
+    uint8_t shown;
+};
+
+static uint32_t yard_setup(uint8_t *state, size_t state_length, const uint32_t *keys, size_t n_keys, const uint32_t *sets, size_t n_sets, uint32_t tick, uint32_t t3206, uint32_t t3208, uint32_t t3210)
+{
+    struct yard *y = (struct yard *)(void *)state;
+    if (state_length != sizeof *y)
+        return STATE_LENGTH;
+    if (n_keys > YARD_KEYS)
+        return SETUP;
+    for (size_t i = 0; i < n_keys; i++)
+        if (keys[i] & 1)
+            return SETUP;
+    uint32_t refusal = setup(state, sizeof y->r, keys, n_keys, sets, n_sets, tick, t3206, t3208, t3210);
+    if (!refusal)
+        y->shown = 0;
+    return refusal;
+}
+
+static inline void yard_expire(struct yard *y)
+{
+    for (unsigned rest = y->shown; rest; rest &= rest - 1) {
+        unsigned i = (unsigned)__builtin_ctz(rest);
+        if (y->r.tick - y->since[i] >= SHOWN)
+            y->shown &= (uint8_t)~(1u << i);
+    }
+}
+
+static uint32_t yard_nch(uint8_t *state, size_t state_length, uint32_t tick, const uint8_t *octets, size_t n)
+{
+    struct yard *y = (struct yard *)(void *)state;
+    if (state_length != sizeof *y)
+        return STATE_LENGTH;
+    uint8_t nln = y->r.nln;
+    uint32_t refusal = event_nch(state, sizeof y->r, tick, octets, n);
+    if (refusal)
+        return refusal;
+    yard_expire(y);
+    if (nln != NLN_UNKNOWN && nln != y->r.nln)
+        y->shown = 0;
+    for (unsigned i = 0; i < y->r.count; i++) {
+        const struct told *t = &y->r.entries[i];
+        if (t->number >= CLEAR && t->number <= JOINED) {
+            y->shown |= (uint8_t)(1u << t->place);
+            y->since[t->place] = tick;
+            y->calls[t->place] = *t;
+        }
+    }
+    return ACCEPTED;
+}
+
+static uint32_t yard_reselected(uint8_t *state, size_t state_length, uint32_t tick)
+{
+    struct yard *y = (struct yard *)(void *)state;
+    if (state_length != sizeof *y)
+        return STATE_LENGTH;
+    uint32_t refusal = event_reselected(state, sizeof y->r, tick);
+    if (!refusal)
+        y->shown = 0;
+    return refusal;
+}
+
+static uint32_t yard_tick(uint8_t *state, size_t state_length, uint32_t tick)
+{
+    struct yard *y = (struct yard *)(void *)state;
+    if (state_length != sizeof *y)
+        return STATE_LENGTH;
+    uint32_t refusal = event_tick(state, sizeof y->r, tick);
+    if (!refusal)
+        yard_expire(y);
+    return refusal;
+}
+
+static uint32_t yard_count(const uint8_t *state, size_t state_length, uint64_t *count)
+{
+    const struct yard *y = (const struct yard *)(const void *)state;
+    *count = state_length == sizeof *y ? (unsigned)__builtin_popcount(y->shown) : 0;
+    return state_length == sizeof *y ? ACCEPTED : STATE_LENGTH;
+}
+
+static uint32_t yard_call_numbers(const uint8_t *state, size_t state_length, uint32_t i, uint64_t *numbers, size_t n)
+{
+    const struct yard *y = (const struct yard *)(const void *)state;
+    uint64_t all[YARD_NUMBERS] = { 0 };
+    if (state_length == sizeof *y) {
+        unsigned rest = y->shown;
+        while (i-- && rest)
+            rest &= rest - 1;
+        if (rest) {
+            unsigned place = (unsigned)__builtin_ctz(rest);
+            const struct told *t = &y->calls[place];
+            all[0] = t->key, all[1] = t->number, all[32] = t->follow, all[33] = t->kept, all[34] = y->r.tick - y->since[place];
+            for (uint32_t part = 5; part < 35; part++)
+                all[part - 3] = record_part(&t->record, part);
+        }
+    }
+    hand_over(all, YARD_NUMBERS, numbers, n);
+    return state_length == sizeof *y ? ACCEPTED : STATE_LENGTH;
+}
+
 #define STRING_(x) #x
 #define STRING(x) STRING_(x)
 const struct side PLAIN = {
     STRING(PLAIN), sizeof(struct receiver), setup, event_nch, event_facch, event_pch, event_joined, event_reselected, event_handed_over, event_reconfigured, event_left_idle, event_bit_22, event_tick,
-    read_part, read_nch_numbers, read_facch_numbers, write_facch, sizeof(struct uplink), uplink_setup, { uplink_free, uplink_busy, uplink_request, uplink_tick }
+    read_part, read_nch_numbers, read_facch_numbers, write_facch, sizeof(struct uplink), uplink_setup, { uplink_free, uplink_busy, uplink_request, uplink_tick },
+    sizeof(struct yard), yard_setup, yard_nch, yard_reselected, yard_tick, yard_count, yard_call_numbers
 };
 const struct readers JOIN(PLAIN, _readers) = { read_nch, read_facch, nch_numbers, facch_numbers };

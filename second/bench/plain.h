@@ -67,6 +67,14 @@ struct side {
     size_t uplink_length;
     uint32_t (*uplink_setup)(uint8_t *uplink, size_t uplink_length, uint32_t tick, uint32_t t3128);
     uint32_t (*uplink[UPLINK_EVENTS])(uint8_t *uplink, size_t uplink_length, uint32_t tick); /* free, busy, request, tick */
+    /* a yard set, whose state begins with a receiver's */
+    size_t yard_length;
+    uint32_t (*yard_setup)(uint8_t *state, size_t state_length, const uint32_t *keys, size_t n_keys, const uint32_t *sets, size_t n_sets, uint32_t tick, uint32_t t3206, uint32_t t3208, uint32_t t3210);
+    uint32_t (*yard_nch)(uint8_t *state, size_t state_length, uint32_t tick, const uint8_t *octets, size_t n);
+    uint32_t (*yard_reselected)(uint8_t *state, size_t state_length, uint32_t tick);
+    uint32_t (*yard_tick)(uint8_t *state, size_t state_length, uint32_t tick);
+    uint32_t (*yard_count)(const uint8_t *state, size_t state_length, uint64_t *count);
+    uint32_t (*yard_call_numbers)(const uint8_t *state, size_t state_length, uint32_t i, uint64_t *numbers, size_t n);
 };
 
 /* The readers alone, into the records above. */

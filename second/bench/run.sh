@@ -80,10 +80,10 @@ elif [ "$mode" = --instructions ]; then
 fi
 $gcc $flags -DPLAIN=plain_gcc -c plain.c -o "$build/plain-gcc.o"
 $clang $flags -DPLAIN=plain_clang -c plain.c -o "$build/plain-clang.o"
-for f in bitwise messages agree library bench; do
+for f in bitwise messages agree yards library bench; do
     $gcc $flags $defines -I "$include" -c $f.c -o "$build/$f.o"
 done
-link "$build"/bench.o "$build"/library.o "$build"/agree.o "$build"/messages.o "$build"/plain-gcc.o "$build"/plain-clang.o "$build"/bitwise.o $archive
+link "$build"/bench.o "$build"/library.o "$build"/agree.o "$build"/yards.o "$build"/messages.o "$build"/plain-gcc.o "$build"/plain-clang.o "$build"/bitwise.o $archive
 
 # A line "row|halves|runner|instructions" for each run, in the order of the rows.
 count()

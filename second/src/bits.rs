@@ -33,6 +33,8 @@ pub const LENGTH: Refusal = 13;
 /// Bits ran out inside Release 6, and inside Release 7; before them it is RAN_OUT.
 pub const RAN_OUT_6: Refusal = 14;
 pub const RAN_OUT_7: Refusal = 15;
+/// What a yard set does not take.
+pub const NOT_FOR_YARD: Refusal = 19;
 
 /// References have eight decimal digits.
 pub const LAST_REFERENCE: u64 = 99_999_999;

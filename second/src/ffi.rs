@@ -61,6 +61,20 @@ pub mod archive {
         fn asternhaken_uplink_busy(uplink: *mut u8, uplink_length: usize, tick: u32);
         fn asternhaken_uplink_request(uplink: *mut u8, uplink_length: usize, tick: u32);
         fn asternhaken_uplink_tick(uplink: *mut u8, uplink_length: usize, tick: u32);
+        // Those that a yard set does not take have a const state in the header; they are lent it as the others are, which shows that they leave it.
+        fn asternhaken_yard_setup(state: *mut u8, state_length: usize, keys: *const u32, n_keys: usize, sets: *const u32, n_sets: usize, tick: u32, t3206: u32, t3208: u32, t3210: u32);
+        fn asternhaken_yard_nch(state: *mut u8, state_length: usize, tick: u32, octets: *const u8, n: usize);
+        fn asternhaken_yard_facch(state: *mut u8, state_length: usize, tick: u32, octets: *const u8, n: usize);
+        fn asternhaken_yard_pch(state: *mut u8, state_length: usize, tick: u32, entry: *const u64, n: usize);
+        fn asternhaken_yard_joined(state: *mut u8, state_length: usize, tick: u32, key: u32);
+        fn asternhaken_yard_reselected(state: *mut u8, state_length: usize, tick: u32);
+        fn asternhaken_yard_handed_over(state: *mut u8, state_length: usize, tick: u32);
+        fn asternhaken_yard_reconfigured(state: *mut u8, state_length: usize, tick: u32);
+        fn asternhaken_yard_left_idle(state: *mut u8, state_length: usize, tick: u32);
+        fn asternhaken_yard_bit_22(state: *mut u8, state_length: usize, tick: u32, value: u32);
+        fn asternhaken_yard_tick(state: *mut u8, state_length: usize, tick: u32);
+        fn asternhaken_yard_call_numbers(state: *const u8, state_length: usize, i: u32, numbers: *mut u64, n: usize);
+        fn asternhaken_yard_count(state: *const u8, state_length: usize, count: *mut u64);
     }
 }
 
@@ -71,6 +85,12 @@ pub type OctetWriter = unsafe extern "C" fn(*const u64, usize, *mut u8) -> u32;
 /// What looks at a state: by many numbers of the i-th of something, or by one.
 pub type NumbersView = unsafe extern "C" fn(*const u8, usize, u32, *mut u64, usize) -> u32;
 pub type NumberView = unsafe extern "C" fn(*const u8, usize, *mut u64) -> u32;
+/// The setups of the receiver and of the yard set, and their events by what they are lent or given.
+pub type Setup = unsafe extern "C" fn(*mut u8, usize, *const u32, usize, *const u32, usize, u32, u32, u32, u32) -> u32;
+pub type OctetsEvent = unsafe extern "C" fn(*mut u8, usize, u32, *const u8, usize) -> u32;
+pub type EntryEvent = unsafe extern "C" fn(*mut u8, usize, u32, *const u64, usize) -> u32;
+pub type NumberEvent = unsafe extern "C" fn(*mut u8, usize, u32, u32) -> u32;
+pub type PlainEvent = unsafe extern "C" fn(*mut u8, usize, u32) -> u32;
 
 thread_local! {
     static DAMAGE: Cell<Option<&'static str>> = const { Cell::new(None) };
@@ -257,86 +277,51 @@ impl State {
         refusal
     }
 
-    pub fn setup(&mut self, keys: &[u32], sets: &[u32], tick: u32, [t3206, t3208, t3210]: [u32; 3]) -> u32 {
+    pub fn setup(&mut self, keys: &[u32], sets: &[u32], tick: u32, timers: [u32; 3]) -> u32 {
+        self.setup_by(archive::asternhaken_setup, keys, sets, tick, timers)
+    }
+
+    pub fn setup_by(&mut self, function: Setup, keys: &[u32], sets: &[u32], tick: u32, [t3206, t3208, t3210]: [u32; 3]) -> u32 {
         let lent = Lent::new(keys, 0xA5A5_A5A5, 0);
         let lent_sets = Lent::new(sets, 0x5A5A_5A5A, 0);
         let octets: Vec<u8> = keys.iter().chain(sets).flat_map(|number| number.to_le_bytes()).collect();
         let given = [tick, t3206, t3208, t3210, keys.len() as u32];
-        let refusal = self.call(archive::asternhaken_setup as *const (), &given, &octets, |state, n| unsafe {
+        let refusal = self.call(function as *const (), &given, &octets, |state, n| unsafe {
             let (keys, sets) = ((lent.pointer(), keys.len()), (lent_sets.pointer(), sets.len()));
-            archive::asternhaken_setup(state, n, keys.0, keys.1, sets.0, sets.1, tick, t3206, t3208, t3210)
+            function(state, n, keys.0, keys.1, sets.0, sets.1, tick, t3206, t3208, t3210)
         });
         lent.check_all(keys);
         lent_sets.check_all(sets);
         refusal
     }
 
-    pub fn nch(&mut self, tick: u32, octets: &[u8]) -> u32 {
+    /// An event with a message.
+    pub fn with_octets(&mut self, function: OctetsEvent, tick: u32, octets: &[u8]) -> u32 {
         let lent = Lent::new(octets, OCTET_GUARD, tick as usize % 8);
-        let refusal = self.call(archive::asternhaken_nch as *const (), &[tick], octets, |state, n| unsafe {
-            archive::asternhaken_nch(state, n, tick, lent.pointer(), octets.len())
-        });
+        let refusal =
+            self.call(function as *const (), &[tick], octets, |state, n| unsafe { function(state, n, tick, lent.pointer(), octets.len()) });
         lent.check_all(octets);
         refusal
     }
 
-    pub fn facch(&mut self, tick: u32, octets: &[u8]) -> u32 {
-        let lent = Lent::new(octets, OCTET_GUARD, tick as usize % 8);
-        let refusal = self.call(archive::asternhaken_facch as *const (), &[tick], octets, |state, n| unsafe {
-            archive::asternhaken_facch(state, n, tick, lent.pointer(), octets.len())
-        });
-        lent.check_all(octets);
-        refusal
-    }
-
-    pub fn pch(&mut self, tick: u32, entry: &[u64]) -> u32 {
+    /// An event with the numbers of an entry.
+    pub fn with_entry(&mut self, function: EntryEvent, tick: u32, entry: &[u64]) -> u32 {
         let lent = Lent::new(entry, NUMBER_GUARD, 0);
         let octets: Vec<u8> = entry.iter().flat_map(|number| number.to_le_bytes()).collect();
-        let refusal = self.call(archive::asternhaken_pch as *const (), &[tick], &octets, |state, n| unsafe {
-            archive::asternhaken_pch(state, n, tick, lent.pointer(), entry.len())
-        });
+        let refusal =
+            self.call(function as *const (), &[tick], &octets, |state, n| unsafe { function(state, n, tick, lent.pointer(), entry.len()) });
         lent.check_all(entry);
         refusal
     }
 
-    pub fn joined(&mut self, tick: u32, key: u32) -> u32 {
-        self.call(archive::asternhaken_joined as *const (), &[tick, key], &[], |state, n| unsafe {
-            archive::asternhaken_joined(state, n, tick, key)
-        })
+    /// An event with a key or a bit.
+    pub fn with_number(&mut self, function: NumberEvent, tick: u32, number: u32) -> u32 {
+        self.call(function as *const (), &[tick, number], &[], |state, n| unsafe { function(state, n, tick, number) })
     }
 
-    pub fn reselected(&mut self, tick: u32) -> u32 {
-        self.call(archive::asternhaken_reselected as *const (), &[tick], &[], |state, n| unsafe {
-            archive::asternhaken_reselected(state, n, tick)
-        })
-    }
-
-    pub fn handed_over(&mut self, tick: u32) -> u32 {
-        self.call(archive::asternhaken_handed_over as *const (), &[tick], &[], |state, n| unsafe {
-            archive::asternhaken_handed_over(state, n, tick)
-        })
-    }
-
-    pub fn reconfigured(&mut self, tick: u32) -> u32 {
-        self.call(archive::asternhaken_reconfigured as *const (), &[tick], &[], |state, n| unsafe {
-            archive::asternhaken_reconfigured(state, n, tick)
-        })
-    }
-
-    pub fn left_idle(&mut self, tick: u32) -> u32 {
-        self.call(archive::asternhaken_left_idle as *const (), &[tick], &[], |state, n| unsafe {
-            archive::asternhaken_left_idle(state, n, tick)
-        })
-    }
-
-    pub fn bit_22(&mut self, tick: u32, value: u32) -> u32 {
-        self.call(archive::asternhaken_bit_22 as *const (), &[tick, value], &[], |state, n| unsafe {
-            archive::asternhaken_bit_22(state, n, tick, value)
-        })
-    }
-
-    pub fn tick(&mut self, tick: u32) -> u32 {
-        self.call(archive::asternhaken_tick as *const (), &[tick], &[], |state, n| unsafe { archive::asternhaken_tick(state, n, tick) })
+    /// An event that is a tick alone.
+    pub fn plain(&mut self, function: PlainEvent, tick: u32) -> u32 {
+        self.call(function as *const (), &[tick], &[], |state, n| unsafe { function(state, n, tick) })
     }
 
     /// One number of the answer. The caller sees to it that the state stayed as it was, here and below.

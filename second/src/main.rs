@@ -1,5 +1,5 @@
 //! The second program: an implementation of document 01 (the scope) and of the requests of document 02 that have landed (§8, §3, §4, §1, §11,
-//! §2, §7) that shares nothing with the proved one, and a comparison of the two.
+//! §2, §7, §13) that shares nothing with the proved one, and a comparison of the two.
 //!
 //! It was written from documents, without sight of the proved code: 01, 02, the readings of their open places, the sources 000 to 004,
 //! include/asternhaken.h and docs/STATE.md; docs/DECISIONS.md and docs/PROMISES.md had been seen as well. Three places that these leave open,
@@ -10,11 +10,12 @@
 //!
 //! - bits, call, nch, facch, pch, gcc, numbers: readers and writers; receiver, state: the receiver and the octets of its lent state;
 //!   one: the receiver of one call on one channel, which knows of nothing else; uplink: §9, with a second reading of it by the history alone;
+//!   yard: the yard set (§13), worked out from all that it was told;
 //! - ffi: the archive's functions, with guards around everything that is lent; pair: both sides over one state;
 //! - listed, rows, scenes: the listed inputs, the vector files, and hand-written scenes for each sentence on the store and on what is told;
 //! - draft, messages, elements, steps: messages laid out from the grammar, and random messages, records, elements and event sequences;
 //!   more: pairs of setups, the second with more subscriptions (§10); cover: what these must have met; uplink_steps: all of that for the
-//!   uplink; record: the calls of the archive, written down;
+//!   uplink; yard_steps: the same for the yard set; record: the calls of the archive, written down;
 //! - capture: a recorded day, what replaying it answers and what mending leaves of it; captures: random ones, and the programs held against this.
 //!
 //! To run it, with libasternhaken.a in ../target/lib (on a processor other than x86-64 in ../target/native), or where ASTERNHAKEN_LIB says,
@@ -67,6 +68,8 @@ mod steps;
 mod tally;
 mod uplink;
 mod uplink_steps;
+mod yard;
+mod yard_steps;
 
 use rng::Rng;
 use std::time::Instant;
@@ -160,7 +163,7 @@ fn main() {
     let rng = |part: u64| Rng::new(arguments.seed.wrapping_mul(8).wrapping_add(part));
     let mut more = more::More::default();
     parts.run(&mut tally, "more subscriptions", |tally| more.run(tally, &mut rng(5), arguments.steps / 5));
-    let mut rngs = [rng(1), rng(2), rng(3), rng(4)];
+    let mut rngs = [rng(1), rng(2), rng(3), rng(4), rng(6)];
     let mut uplink_cover = uplink_steps::Cover::default();
     let elements = arguments.messages / 5;
     for round in 0..ROUNDS {
@@ -172,6 +175,7 @@ fn main() {
         parts.run(&mut tally, "event steps of the uplink", |tally| {
             uplink_steps::run(tally, &mut uplink_cover, &mut rngs[3], share(arguments.steps));
         });
+        parts.run(&mut tally, "yard set", |tally| yard_steps::run(tally, &mut rngs[4], share(arguments.steps / 2)));
     }
     parts.run(&mut tally, "elements, gone through", elements::fixed);
     parts.run(&mut tally, "fields of records", messages::fields);

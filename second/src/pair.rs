@@ -70,16 +70,16 @@ pub fn event_line(tick: u32, event: &Event) -> String {
 
 pub fn feed(state: &mut ffi::State, tick: u32, event: &Event) -> Refusal {
     match event {
-        Event::Nch(octets) => state.nch(tick, octets),
-        Event::Facch(octets) => state.facch(tick, octets),
-        Event::Pch(numbers) => state.pch(tick, numbers),
-        Event::Joined(key) => state.joined(tick, *key),
-        Event::Reselected => state.reselected(tick),
-        Event::HandedOver => state.handed_over(tick),
-        Event::Reconfigured => state.reconfigured(tick),
-        Event::LeftIdle => state.left_idle(tick),
-        Event::Bit(value) => state.bit_22(tick, *value),
-        Event::Tick => state.tick(tick),
+        Event::Nch(octets) => state.with_octets(archive::asternhaken_nch, tick, octets),
+        Event::Facch(octets) => state.with_octets(archive::asternhaken_facch, tick, octets),
+        Event::Pch(numbers) => state.with_entry(archive::asternhaken_pch, tick, numbers),
+        Event::Joined(key) => state.with_number(archive::asternhaken_joined, tick, *key),
+        Event::Reselected => state.plain(archive::asternhaken_reselected, tick),
+        Event::HandedOver => state.plain(archive::asternhaken_handed_over, tick),
+        Event::Reconfigured => state.plain(archive::asternhaken_reconfigured, tick),
+        Event::LeftIdle => state.plain(archive::asternhaken_left_idle, tick),
+        Event::Bit(value) => state.with_number(archive::asternhaken_bit_22, tick, *value),
+        Event::Tick => state.plain(archive::asternhaken_tick, tick),
     }
 }
 

@@ -6,7 +6,7 @@ use crate::draft::{CallDraft, FacchDraft, Hops, NchDraft, PageDraft, PchDraft, S
 use crate::ffi::{self, archive};
 use crate::listed::octets_of;
 use crate::messages::compare_facch_write;
-use crate::pair::{Pair, Said};
+use crate::pair::{feed, Pair, Said};
 use crate::receiver::{Channel, Event, Timers, DEFAULT_TIMERS};
 use crate::state::*;
 use crate::steps::lookup;
@@ -674,17 +674,17 @@ fn setups(tally: &mut Tally) {
         let mut state = ffi::State::new(&vec![0x5A; length], 3);
         let refusals = [
             state.setup(&[0, 0], &[1], 1, [0; 3]),
-            state.nch(1 << 31, &[]),
-            state.facch(1 << 31, &[]),
-            state.pch(1 << 31, &[u64::MAX; 14]),
-            state.pch(1 << 31, &[]),
-            state.joined(1 << 31, u32::MAX),
-            state.reselected(1 << 31),
-            state.handed_over(1 << 31),
-            state.reconfigured(1 << 31),
-            state.left_idle(1 << 31),
-            state.bit_22(1 << 31, 2),
-            state.tick(1 << 31),
+            feed(&mut state, 1 << 31, &Event::Nch(vec![])),
+            feed(&mut state, 1 << 31, &Event::Facch(vec![])),
+            feed(&mut state, 1 << 31, &Event::Pch(vec![u64::MAX; 14])),
+            feed(&mut state, 1 << 31, &Event::Pch(vec![])),
+            feed(&mut state, 1 << 31, &Event::Joined(u32::MAX)),
+            feed(&mut state, 1 << 31, &Event::Reselected),
+            feed(&mut state, 1 << 31, &Event::HandedOver),
+            feed(&mut state, 1 << 31, &Event::Reconfigured),
+            feed(&mut state, 1 << 31, &Event::LeftIdle),
+            feed(&mut state, 1 << 31, &Event::Bit(2)),
+            feed(&mut state, 1 << 31, &Event::Tick),
             state.read(0, 0).0,
             state.numbers(archive::asternhaken_entry_numbers, 0, 40).0,
             state.numbers(archive::asternhaken_held_numbers, 0, 40).0,

@@ -80,7 +80,7 @@ fn is_flag(number: usize) -> bool {
     (4..24).contains(&number)
 }
 
-fn get(octets: &[u8], at: usize, width: usize) -> u64 {
+pub fn get(octets: &[u8], at: usize, width: usize) -> u64 {
     octets[at..at + width].iter().rev().fold(0, |number, &octet| number << 8 | u64::from(octet))
 }
 
@@ -88,7 +88,7 @@ fn get_u32(octets: &[u8], at: usize) -> u32 {
     get(octets, at, 4) as u32
 }
 
-fn put(octets: &mut [u8], at: usize, width: usize, number: u64) {
+pub fn put(octets: &mut [u8], at: usize, width: usize, number: u64) {
     octets[at..at + width].copy_from_slice(&number.to_le_bytes()[..width]);
 }
 
@@ -177,7 +177,7 @@ fn get_number(octets: &[u8], at: usize, number: usize) -> u64 {
     }
 }
 
-fn get_record(octets: &[u8], at: usize) -> Record {
+pub fn get_record(octets: &[u8], at: usize) -> Record {
     let mut numbers = [0; RECORD_NUMBERS];
     for (number, value) in numbers.iter_mut().enumerate() {
         *value = get_number(octets, at, number);
@@ -186,7 +186,7 @@ fn get_record(octets: &[u8], at: usize) -> Record {
 }
 
 /// All 56 octets, the unused ones at the end as zeros.
-fn put_record(octets: &mut [u8], at: usize, record: &Record) {
+pub fn put_record(octets: &mut [u8], at: usize, record: &Record) {
     octets[at..at + RECORD_OCTETS].fill(0);
     let mut place = at;
     for (number, value) in numbers_of(record).into_iter().enumerate() {

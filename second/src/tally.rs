@@ -3,6 +3,7 @@
 use crate::bits::{number_of, Refusal};
 use crate::cover::Cover;
 use crate::ffi;
+use crate::yard_steps::YardCover;
 
 /// Every refusal and every told number must be met at least this often, or the run proves too little.
 pub const ENOUGH: u64 = 100;
@@ -19,6 +20,7 @@ pub struct Tally {
     /// What the event steps met, and what the messages.
     pub cover: Cover,
     pub messages: Cover,
+    pub yards: YardCover,
 }
 
 pub fn hex(octets: &[u8]) -> String {
@@ -43,6 +45,7 @@ impl Tally {
             told: [0; 9],
             cover: Cover::of_steps(),
             messages: Cover::of_messages(),
+            yards: YardCover::default(),
         }
     }
 
@@ -126,7 +129,7 @@ impl Tally {
                 }
             }
         }
-        self.failed += self.cover.finish() + self.messages.finish();
+        self.failed += self.cover.finish() + self.messages.finish() + self.yards.finish();
         println!("{} passed, {} failed", self.passed, self.failed);
         self.failed == 0
     }

@@ -1,0 +1,11 @@
+pub mod Copying
+pub mod Inside
+pub mod Leaving
+pub mod Coming
+pub mod Places
+pub mod Values
+pub mod Feeding
+pub mod Starting
+pub mod ShownCalls
+pub mod Currents
+pub mod Promises
