@@ -15,6 +15,7 @@ use csn1::Refusal;
 
 mod additions;
 mod pages;
+mod taking;
 
 // Paging Information: which mobile station is paged, on which channel, and how urgently.
 pub struct Page {
@@ -164,8 +165,8 @@ fn refused(refusal: Refusal) -> Reading
     }
 }
 
-// Reads any octets. The first is not looked at.
-pub fn read(octets: &[u8]) -> Reading
+// A field at a time, each asked for: every message, and every refusal with its bit.
+fn read_asking(octets: &[u8]) -> Reading
     ensures { λ r. ⌜ r ≡ readOf (now (octets .entry)) ⌝ }
 {
     if octets.len() < 2 {
@@ -201,4 +202,28 @@ pub fn read(octets: &[u8]) -> Reading
             release7,
         },
     }
+}
+
+// Reads any octets. The first is not looked at. A call that is taken from words is answered at once; what is not goes the way that asks, from the beginning.
+pub fn read(octets: &[u8]) -> Reading
+    ensures { λ r. ⌜ r ≡ readOf (now (octets .entry)) ⌝ }
+{
+    let q = taking::message(octets);
+    if q.done {
+        let call = q.call;
+        let release6 = q.release6;
+        let release7 = q.release7;
+        return Reading {
+            refusal: csn1::no_refusal(),
+            used: q.used,
+            record: Notification {
+                paging: false,
+                call,
+                page: pages::no_page(),
+                release6,
+                release7,
+            },
+        };
+    }
+    read_asking(octets)
 }

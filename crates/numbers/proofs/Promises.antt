@@ -4,17 +4,15 @@ use mathlib.Core.List.{List, _∷_}
 use Prim.Native.Nat.{ℕ}
 use native.Mathlib.Omega.{arith}
 use lib.Dec.{eqb}
-use lib.ListN.{length, replicate}
+use lib.ListN.{length}
 use borrow.Author.Tests.{eqb-true, eq-eqb}
-use Rattle.csn1.specs.Format.{Res, ok, bad}
 use Rattle.csn1.proofs.Telling.{picked}
 use Rattle.nch.specs.declared.Reading.{Reading}
 use Rattle.nch.specs.Told.{Shaped, readOf}
 use Rattle.facch.specs.Message as facch-message
-use Rattle.facch.specs.Told as facch-told
 use Rattle.nch.specs.Write as records
 use Rattle.nch.proofs.Promises.{reading-gives-back-what-was-written, writing-gives-back-what-was-read}
-use Rattle.nch.specs.CallNumbers.{callNumbers, descriptionBy, callBy}
+use Rattle.nch.specs.CallNumbers.{descriptionBy, callBy}
 use Rattle.numbers.specs.FacchNumbers as facch-numbers
 use Rattle.nch.specs.Places.{allLength}
 use Rattle.nch.specs.NotificationNumbers.{fieldsHold, Fits, numbersOf, reducedBy, randomFrom, release6By, release7By, recordBy, recordFrom, readNumbers, writeCode, afterWrite}
@@ -35,15 +33,9 @@ numbers-are-their-record = numbers-back
 pub all-have-their-places : All-have-their-places
 all-have-their-places = (length-all, facch.length-all)
 
-facch-zeros : (r : Res facch-message.Value) → (facch-told.readingOf r .refusal .number ≡ 0 → ⊥)
-    → facch-told.readingOf r .used ∷ facch-numbers.numbersOf (facch-told.readingOf r .«record») ≡ replicate 30 0
-unfolding facch-numbers.numbersOf callNumbers
-facch-zeros (bad r) h = refl
-facch-zeros (ok v q) h = absurd (h refl)
-
 pub a-refused-reading-is-all-zeros : A-refused-reading-is-all-zeros
 unfolding facch-numbers.readNumbers
-a-refused-reading-is-all-zeros = (refused-zeros, λ s h. facch-zeros (facch-message.readOctets s) h)
+a-refused-reading-is-all-zeros = (refused-zeros, λ s h. facch.refused-zeros (facch-message.readOctets s) h)
 
 -- the numbers were accepted
 record Accepted (ns : List ℕ) : Type 0 where

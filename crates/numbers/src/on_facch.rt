@@ -2,10 +2,12 @@
 ghost use mathlib.Core.Path.{_≡_};
 ghost use mathlib.Core.Bool.{true};
 ghost use mathlib.Core.List.{_∷_};
+ghost use Prim.Native.Nat.{_≤_};
 ghost use lib.ListN.{length};
 ghost use Rattle.csn1.specs.Told.{padded};
+ghost use Rattle.arrays.specs.Runs.{stored};
 ghost use Rattle.facch.specs.Told.{readOf};
-ghost use Rattle.numbers.specs.FacchPlaces.{allLength};
+ghost use Rattle.numbers.specs.FacchPlaces.{usedAt, allLength};
 ghost use Rattle.numbers.specs.FacchNumbers.{pageNumbers, release6Numbers, release7Numbers, numbersOf, readNumbers, pageFrom, release6From, release7From, recordFrom, fieldsHold, writeCode, afterWrite};
 use crate::limits;
 use crate::places;
@@ -55,36 +57,45 @@ fn release7_numbers(r: Release7) -> [u64; places::RELEASE7_LENGTH]
     ]
 }
 
-// The bits used and behind them the record's numbers.
-fn all_numbers(m: Notification, used: usize) -> [u64; places::LENGTH]
-    ensures { λ a. ⌜ a ≡ used ∷ numbersOf m ⌝ }
+// The bits used and behind them the record's numbers, in the first places.
+fn put_all(m: Notification, used: usize, numbers: &mut [u64])
+    requires { ⌜ allLength ≤ length (now numbers) ⌝ }
+    ensures { λ _. ⌜ now (numbers .exit) ≡ stored (now (numbers .entry)) usedAt (used ∷ numbersOf m) ⌝ }
 {
-    let mut all = [0u64; places::LENGTH];
     let head = [used as u64, m.paging as u64];
-    fill::run(&head, &mut all, places::USED);
+    fill::run(&head, &mut *numbers, places::USED);
     let c = m.call;
     let call = nch::numbers::numbers_of(c);
-    fill::run(&call, &mut all, places::CALL);
+    fill::run(&call, &mut *numbers, places::CALL);
     let p = m.page;
     let page = page_numbers(p);
-    fill::run(&page, &mut all, places::IDENTITY_LENGTH);
+    fill::run(&page, &mut *numbers, places::IDENTITY_LENGTH);
     let r = m.release6;
     let six = release6_numbers(r);
-    fill::run(&six, &mut all, places::RELEASE6);
+    fill::run(&six, &mut *numbers, places::RELEASE6);
     let s = m.release7;
     let seven = release7_numbers(s);
-    fill::run(&seven, &mut all, places::RELEASE7);
-    all
+    fill::run(&seven, &mut *numbers, places::RELEASE7);
 }
 
-// Reads any octets, into as many places as there are.
+// Reads any octets, into as many places as there are. Where all numbers have places, they are put there and nowhere before: a copy waits for what was just written.
 pub fn read(octets: &[u8], numbers: &mut [u64]) -> Refusal
     ensures { λ r. ⌜ (r ≡ readOf (now (octets .entry)) .refusal)
         × (now (numbers .exit) ≡ padded 0 (length (now (numbers .entry))) (readNumbers (now (octets .entry)))) ⌝ }
 {
     let r = facch::read(octets);
+    if r.refusal.number != 0 {
+        fill::clear(&mut *numbers, places::USED);
+        return r.refusal;
+    }
     let m = r.record;
-    let all = all_numbers(m, r.used);
+    if places::LENGTH <= numbers.len() {
+        put_all(m, r.used, &mut *numbers);
+        fill::clear(&mut *numbers, places::LENGTH);
+        return r.refusal;
+    }
+    let mut all = [0u64; places::LENGTH];
+    put_all(m, r.used, &mut all);
     fill::store(&all, &mut *numbers);
     r.refusal
 }

@@ -1,0 +1,4 @@
+pub mod Windows
+pub mod Unasked
+pub mod Taken
+pub mod Promises

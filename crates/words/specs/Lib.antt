@@ -1,0 +1,4 @@
+pub mod Unasked
+pub mod Taking
+pub mod Inner
+pub mod Promises
