@@ -48,9 +48,15 @@ target/proved/x86_64.a: crates.txt $(shell find crates -name '*.rt' -o -name '*.
 # The crates of exported functions, as tools/library names them.
 parts := $(shell sed -n "s/^parts='\(.*\)'$$/\1/p" tools/library)
 
-target/proved/native.a: target/proved/x86_64.a tools/native-archive tools/module
+# The modules that they are compiled from, as text: tests/digits.sh looks at them too.
+modules := $(parts:%=target/modules/%.ll)
+
+target/modules/%.ll: target/proved/x86_64.a tools/module
+	@mkdir -p $(@D) && tools/module $@ $* >&2
+
+target/proved/native.a: $(modules) tools/native-archive
 	@rm -f $@
-	@for part in $(parts); do tools/native-archive $@ $$part >&2 || exit; done
+	@for module in $(modules); do tools/native-archive $@ $$module >&2 || exit; done
 
 plain := $(wildcard c/*.c) include/asternhaken.h tools/plain-c
 

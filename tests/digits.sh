@@ -80,10 +80,10 @@ holds 'the archive has a division of 64 bits' instructions "$1/libasternhaken.a"
 for f in asternhaken_digits_read asternhaken_digits_write; do holds "$f is not in the archive" grep -q "<$f>:" "$tmp/code"; done
 parts=$(sed -n "s/^parts='\(.*\)'\$/\1/p" tools/library)
 holds 'tools/library names the crates of exported functions' test -n "$parts"
-for part in $parts; do tools/module "$tmp/$part.ll" "$part" > "$tmp/$part.said" 2>&1 & done
-wait
-made() { cat "$tmp/$1.said" && [ -s "$tmp/$1.ll" ]; }
-for part in $parts; do holds "the module of $part" made "$part"; done
+modules=
+for part in $parts; do modules="$modules target/modules/$part.ll"; done
+holds 'the modules' make $modules
+for part in $parts; do holds "the module of $part" cp "target/modules/$part.ll" "$tmp/"; done
 for file in c/*.c; do
     part=$(basename "$file" .c)
     holds "the module of $file" plain "$file" "$tmp/$part.ll"

@@ -40,11 +40,28 @@ said
 [ "$(tail -n 2 "$tmp/said")" = $'3 passed, 2 failed\n1' ] && grep -q '^must-fail first/same: NOT REFUSED' "$tmp/said" && grep -q '^must-fail first/absent: BAD EDIT' "$tmp/said"
 note $? "tools/must-fail passes an edit that is not refused, or one that cannot be made: $(tail -n 5 "$tmp/said")"
 rm -r "$tmp/tiny/crates/first/must-fail"
-sed -i 's/    7/    8/' "$tmp/tiny/crates/first/src/lib.rt"
-mkdir "$tmp/tiny/crates/first/must-fail" && printf 'file: src/lib.rt\nold:     8\nnew:     9\n' > "$tmp/tiny/crates/first/must-fail/nine.edit"
+mkdir "$tmp/tiny/crates/first/must-fail" && printf 'file: src/lib.rt\nold:     7\nnew:     8\n' > "$tmp/tiny/crates/first/must-fail/eight.edit"
+# It begins with what was proved before, and with nothing of that where it is of another text or is spoiled.
+begins() { # LABEL HOW-MANY-PROVED-BEFORE-ITS-EDITS
+    said
+    [ "$(tail -n 2 "$tmp/said")" = $'3 passed, 0 failed\n0' ] && grep -Eq "^crate first: modules loaded=$2\$" "$tmp/tiny/target/must-fail/first/before.log"
+    note $? "tools/must-fail, $1: $(tail -n 5 "$tmp/said") $(grep '^crate first' "$tmp/tiny/target/must-fail/first/before.log")"
+}
+begins 'nothing was proved before' '0 checked=[1-9][0-9]*'
+(cd "$tmp/tiny" && rt check first) > "$tmp/said" 2>&1
+note $? 'the crate of the kit is not proved'
+begins 'the crate was proved before' '[1-9][0-9]* checked=0'
+sed -i 's/    7/    3 + 4/' "$tmp/tiny/crates/first/src/lib.rt"
+sed -i 's/^old: .*/old:     3/; s/^new: .*/new:     9/' "$tmp/tiny/crates/first/must-fail/eight.edit"
+begins 'another text was proved before' '[1-9][0-9]* checked=[1-9][0-9]*'
+for module in "$tmp/tiny/target/rlib/first.rlib/toolchain/checked/"*; do echo spoiled > "$module"; done
+begins 'what was proved before is spoiled' '0 checked=[1-9][0-9]*'
+rm -r "$tmp/tiny/target" && (cd "$tmp/tiny" && rt check first) > "$tmp/said" 2>&1
+sed -i 's/    3 + 4/    8/' "$tmp/tiny/crates/first/src/lib.rt"
+sed -i 's/^old: .*/old:     8/' "$tmp/tiny/crates/first/must-fail/eight.edit"
 said
 [ "$(tail -n 2 "$tmp/said")" = $'0 passed, 1 failed\n1' ] && grep -q '^must-fail first: NOT PROVED before its edits' "$tmp/said"
-note $? "tools/must-fail tries edits of a crate that is not proved without them: $(tail -n 5 "$tmp/said")"
+note $? "tools/must-fail tries edits of a crate that is not proved without them, though another text of it was: $(tail -n 5 "$tmp/said")"
 
 # All of ours, each from this run.
 rm -rf target/must-fail
