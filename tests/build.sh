@@ -76,12 +76,12 @@ done
 
 builds 0 target/lib/libasternhaken.a
 shows '.* 6 crates are proved and built\. The first time takes .* minutes on two free cores, a second run seconds\.'
-shows ' +0:0[0-9]  1 of 6  low proved \(3 s\)'
-shows ' +0:0[0-9]  2 of 6  host proved and compiled \([0-9] s\)'
-shows ' +0:0[0-9]  3 of 6  host_views proved and compiled \([0-9] s\)'
-shows ' +0:0[0-9]  4 of 6  host_uplink proved and compiled \([0-9] s\)'
-shows ' +0:0[0-9]  5 of 6  host_yard proved and compiled \([0-9] s\)'
-shows ' +0:0[0-9]  6 of 6  host_codecs proved and compiled \([0-9] s\)'
+shows ' +[0-9]+:[0-9]{2}  1 of 6  low proved \(3 s\)'
+shows ' +[0-9]+:[0-9]{2}  2 of 6  host proved and compiled \([0-9]+ s\)'
+shows ' +[0-9]+:[0-9]{2}  3 of 6  host_views proved and compiled \([0-9]+ s\)'
+shows ' +[0-9]+:[0-9]{2}  4 of 6  host_uplink proved and compiled \([0-9]+ s\)'
+shows ' +[0-9]+:[0-9]{2}  5 of 6  host_yard proved and compiled \([0-9]+ s\)'
+shows ' +[0-9]+:[0-9]{2}  6 of 6  host_codecs proved and compiled \([0-9]+ s\)'
 hides 'fn |rt: |make -j'
 [ ! -s "$top/out" ]
 note $? 'it writes to standard output'
