@@ -19,12 +19,12 @@
  * as long as the length beside it says, and what one call lends to be written must not overlap anything else lent to it. Nothing is kept between calls
  * but what stands in the state, so each state may be used by a thread of its own, and a state may be copied, saved and sent.
  *
- * Every function that is lent something, but for asternhaken_is_set_up and asternhaken_identity_octet, answers with a refusal number in the low octet of its result, and ASTERNHAKEN_ACCEPTED (0)
+ * Every function that is lent something, but for asternhaken_is_set_up, asternhaken_identity_octet and the two traces, answers with a refusal number in the low octet of its result, and ASTERNHAKEN_ACCEPTED (0)
  * where it refuses nothing. Where bits ran out (2, 14, 15), the number of the bit where the missing field begins stands above it, else 0: take the two apart with
  * ASTERNHAKEN_REFUSAL(result) and ASTERNHAKEN_BIT(result). A refused event leaves every octet of the state as it was, the clock included. The octets of the state are laid out in docs/STATE.md; docs/C-API.md tells a host's programmer the rest.
  *
  * Names: ASTERNHAKEN_REFUSED_ is a refusal number, ASTERNHAKEN_TOLD_ a told number, ASTERNHAKEN_FOLLOW_ says whether a call can be followed, ASTERNHAKEN_PART_ is a part for
- * asternhaken_read, ASTERNHAKEN_PCH_ a number of a PCH entry; of a page, ASTERNHAKEN_IDENTITY_ is a kind of identity, ASTERNHAKEN_CHANNEL_FIRST_ and ASTERNHAKEN_PAGED_FOR_ are what is wanted; ASTERNHAKEN_UPLINK_ is of the uplink.
+ * asternhaken_read, ASTERNHAKEN_PCH_ a number of a PCH entry; of a page, ASTERNHAKEN_IDENTITY_ is a kind of identity, ASTERNHAKEN_CHANNEL_FIRST_ and ASTERNHAKEN_PAGED_FOR_ are what is wanted; ASTERNHAKEN_UPLINK_ is of the uplink; ASTERNHAKEN_FIELD_ is a kind of field of a trace.
  * A flag that says whether something is there ends in _GIVEN, or _given: channel_given stands beside channel. What is not there is 0.
  * Each struct is made of uint64_t alone and has the layout of the array of numbers that it stands for; get, put, decode and encode are for structs, read, write and numbers for arrays. */
 #ifndef ASTERNHAKEN_H
@@ -780,6 +780,75 @@ ASTERNHAKEN_MUST_USE static inline uint32_t asternhaken_digits_encode(const stru
 {
     return asternhaken_digits_write(ASTERNHAKEN_AS_(const uint64_t, from), ASTERNHAKEN_DIGITS_NUMBERS, octets, n);
 }
+
+/* ---- The fields of a message ----
+ *
+ * A trace lists each field that reading meets, in the order of the message and without a gap: every number of the grammar, every flag of it (the 0 that closes a list among them) and every L/H bit. It
+ * begins at bit 0 and ends behind the last bit used; where bits ran out it ends at the refusing bit, ASTERNHAKEN_BIT of what asternhaken_nch_read or asternhaken_facch_read answers; where a test was not
+ * met (3, 4, 5, 8) with the field that was tested. Spare padding is no field, and a message of a wrong length has none.
+ *
+ *     uint64_t fields[ASTERNHAKEN_FIELDS * ASTERNHAKEN_FIELD_NUMBERS];
+ *     uint32_t met = asternhaken_nch_trace(octets, 20, fields, ASTERNHAKEN_FIELDS * ASTERNHAKEN_FIELD_NUMBERS);
+ *     for (uint32_t i = 0; i < met; i++) show(fields[4 * i], fields[4 * i + 1], fields[4 * i + 2], fields[4 * i + 3]); // kind, place, width, value
+ *
+ * The result is no refusal: it is how many fields were met. The place is the number of the field's first bit; the value is the number in its bits as they stand, and so is that of an L/H bit, which is L
+ * where it is the padding's (2B hex) at that place. A field that has no four places in the array is counted and not stored, and the rest of the array stays as it was. */
+enum asternhaken_field {
+    ASTERNHAKEN_FIELD_NLN_GIVEN = 1, /* 1 bit. 0 no NLN, 1 it follows */
+    ASTERNHAKEN_FIELD_NLN = 2, /* 2 bits. NLN(NCH) */
+    ASTERNHAKEN_FIELD_CALL_GIVEN = 3, /* 1 bit. 1 a call follows, 0 ends the list of calls */
+    ASTERNHAKEN_FIELD_FIRST_OCTET = 4, /* 8 bits. FACCH: RR short PD, message type, short layer 2 header */
+    ASTERNHAKEN_FIELD_PAGING = 5, /* 1 bit. 0 a call follows, 1 a page */
+    ASTERNHAKEN_FIELD_CALL_REFERENCE = 6, /* 27 bits. group call reference, and with it the next four */
+    ASTERNHAKEN_FIELD_SERVICE_FLAG = 7, /* 1 bit. 0 VBS, 1 VGCS */
+    ASTERNHAKEN_FIELD_ACKNOWLEDGEMENT_FLAG = 8, /* 1 bit. acknowledgement flag */
+    ASTERNHAKEN_FIELD_PRIORITY = 9, /* 3 bits. call priority */
+    ASTERNHAKEN_FIELD_CIPHER_KEY_NUMBER = 10, /* 4 bits. 0 not ciphered */
+    ASTERNHAKEN_FIELD_CHANNEL_GIVEN = 11, /* 1 bit. 0 no channel, 1 it follows */
+    ASTERNHAKEN_FIELD_CHANNEL = 12, /* 24 bits. Channel Description */
+    ASTERNHAKEN_FIELD_HOPS = 13, /* 1 bit. hopping flag: 1 frequencies follow */
+    ASTERNHAKEN_FIELD_SHORT_LIST = 14, /* 1 bit. 0 a Mobile Allocation follows, 1 a Frequency Short List */
+    ASTERNHAKEN_FIELD_ALLOCATION_OCTETS = 15, /* 8 bits. 1 to 8, else reading ends here */
+    ASTERNHAKEN_FIELD_ALLOCATION = 16, /* 8 to 64 bits. Mobile Allocation, so many octets */
+    ASTERNHAKEN_FIELD_FREQUENCY_SHORT_LIST = 17, /* 64 bits. Frequency Short List */
+    ASTERNHAKEN_FIELD_IDENTITY_OCTETS = 18, /* 8 bits. 1 to 9, else reading ends here */
+    ASTERNHAKEN_FIELD_IDENTITY_FIRST = 19, /* 8 bits. the first octet of the mobile identity, and with it the others */
+    ASTERNHAKEN_FIELD_IDENTITY_REST = 20, /* 0 to 64 bits. the other octets as one number; of one octet it has no bits */
+    ASTERNHAKEN_FIELD_CHANNEL_FIRST = 21, /* 2 bits. enum asternhaken_channel_first */
+    ASTERNHAKEN_FIELD_EMLPP_PRIORITY_GIVEN = 22, /* 1 bit. 0 no eMLPP priority, 1 it follows */
+    ASTERNHAKEN_FIELD_EMLPP_PRIORITY = 23, /* 3 bits. eMLPP priority */
+    ASTERNHAKEN_FIELD_RELEASE_6_GIVEN = 24, /* 1 bit. L or H: Release 6 follows where it is H */
+    ASTERNHAKEN_FIELD_COUNT_GIVEN = 25, /* 1 bit. 0 no count, 1 it follows */
+    ASTERNHAKEN_FIELD_CELL_GLOBAL_COUNT = 26, /* 2 bits. CELL_GLOBAL_COUNT */
+    ASTERNHAKEN_FIELD_B22_COUNT = 27, /* 1 bit. B22_COUNT */
+    ASTERNHAKEN_FIELD_REDUCED_GIVEN = 28, /* 1 bit. 1 a reduced reference follows, 0 ends the list of them */
+    ASTERNHAKEN_FIELD_REDUCED_REFERENCE = 29, /* 27 bits. its reference, and with it the next one */
+    ASTERNHAKEN_FIELD_REDUCED_SERVICE_FLAG = 30, /* 1 bit. 0 VBS, 1 VGCS */
+    ASTERNHAKEN_FIELD_RANDOM_GIVEN = 31, /* 1 bit. 1 a random entry follows, 0 ends the list of them */
+    ASTERNHAKEN_FIELD_SEGMENT_ID = 32, /* 1 bit. Segment Id */
+    ASTERNHAKEN_FIELD_RAND_GIVEN = 33, /* 1 bit. 0 no VSTK_RAND, 1 it follows */
+    ASTERNHAKEN_FIELD_VSTK_RAND = 34, /* 36 bits. VSTK_RAND */
+    ASTERNHAKEN_FIELD_RELEASE_7_GIVEN = 35, /* 1 bit. L or H: Release 7 follows where it is H */
+    ASTERNHAKEN_FIELD_EMERGENCY_MARK_GIVEN = 36, /* 1 bit. 1 an emergency mark follows, 0 ends the list of them */
+    ASTERNHAKEN_FIELD_EMERGENCY_MARK = 37, /* 1 bit. Emergency_Ind */
+    ASTERNHAKEN_FIELD_UPLINK_GIVEN = 38, /* 1 bit. 0 no Priority Uplink Access, 1 it follows */
+    ASTERNHAKEN_FIELD_UPLINK_ACCESS = 39, /* 1 bit. Priority Uplink Access; on the FACCH L or H */
+    ASTERNHAKEN_FIELD_AMR_GIVEN = 40, /* 1 bit. 0 no AMR parts, 1 they follow */
+    ASTERNHAKEN_FIELD_FR_AMR_GIVEN = 41, /* 1 bit. 0 none, 1 it follows */
+    ASTERNHAKEN_FIELD_FR_AMR_CONFIG = 42, /* 4 bits. FR AMR Config */
+    ASTERNHAKEN_FIELD_HR_AMR_GIVEN = 43, /* 1 bit. 0 none, 1 it follows */
+    ASTERNHAKEN_FIELD_HR_AMR_CONFIG = 44, /* 4 bits. HR AMR Config */
+    ASTERNHAKEN_FIELD_SMS_GIVEN = 45, /* 1 bit. 0 no SMS bits, 1 they follow */
+    ASTERNHAKEN_FIELD_SMS_CONFIDENTIALITY = 46, /* 1 bit. SMS Data Confidentiality Ind */
+    ASTERNHAKEN_FIELD_SMS_PRIVACY = 47, /* 1 bit. SMS Guaranteed Privacy Ind */
+    ASTERNHAKEN_FIELD_EMERGENCY = 48, /* 1 bit. Emergency_Ind: L or H */
+    ASTERNHAKEN_FIELD_PAGING_CAUSE_GIVEN = 49, /* 1 bit. 0 no Paging Cause, 1 it follows */
+    ASTERNHAKEN_FIELD_PAGING_CAUSE = 50 /* 1 bit. enum asternhaken_paging_cause */
+};
+#define ASTERNHAKEN_FIELDS 184      /* no message has more fields than bits: 160 of the NCH, 184 of the FACCH */
+#define ASTERNHAKEN_FIELD_NUMBERS 4 /* numbers of a field: kind, place, width, value */
+ASTERNHAKEN_MUST_USE uint32_t asternhaken_nch_trace(const uint8_t *octets, size_t n, uint64_t *fields, size_t n_places);
+ASTERNHAKEN_MUST_USE uint32_t asternhaken_facch_trace(const uint8_t *octets, size_t n, uint64_t *fields, size_t n_places);
 
 /* ---- Words ----
  *

@@ -31,7 +31,7 @@ builds() {
 shows() { grep -Exq "$1" "$top/shown"; note $? "it does not show: $1"; }
 hides() { ! grep -Eq "$1" "$top/out" "$top/shown"; note $? "it shows: $1"; }
 
-# fresh PROOF STATUS: a repository of five crates of exported functions over one other, and an rt that says PROOF of that one.
+# fresh PROOF STATUS: a repository of six crates of exported functions over one other, and an rt that says PROOF of that one.
 fresh() {
     rm -rf "$top/repo" "$top/bin"
     mkdir -p "$top/bin" "$top/repo/tools" "$top/repo/examples" "$top/repo/include"
@@ -40,8 +40,8 @@ fresh() {
     cp examples/* "$top/repo/examples/"
     cp include/* "$top/repo/include/"
     cp -r c "$top/repo/"
-    printf '%s\n' 'low:' 'host: low' 'host_views: low' 'host_uplink: low' 'host_yard: low' 'host_codecs: low' 'other: low' > "$top/repo/crates.txt"
-    for crate in low host host_views host_uplink host_yard host_codecs other; do mkdir -p "$top/repo/crates/$crate/src"; : > "$top/repo/crates/$crate/src/lib.rt"; done
+    printf '%s\n' 'low:' 'host: low' 'host_views: low' 'host_uplink: low' 'host_yard: low' 'host_codecs: low' 'host_trace: low' 'other: low' > "$top/repo/crates.txt"
+    for crate in low host host_views host_uplink host_yard host_codecs host_trace other; do mkdir -p "$top/repo/crates/$crate/src"; : > "$top/repo/crates/$crate/src/lib.rt"; done
     cat > "$top/bin/rt" << END
 #!/bin/sh
 echo "\$*" >> "$top/repo/asked"
@@ -75,30 +75,31 @@ done
 # ---- The library ----
 
 builds 0 target/lib/libasternhaken.a
-shows '.* 6 crates are proved and built\. The first time takes .* minutes on two free cores, a second run seconds\.'
-shows ' +[0-9]+:[0-9]{2}  1 of 6  low proved \(3 s\)'
-shows ' +[0-9]+:[0-9]{2}  2 of 6  host proved and compiled \([0-9]+ s\)'
-shows ' +[0-9]+:[0-9]{2}  3 of 6  host_views proved and compiled \([0-9]+ s\)'
-shows ' +[0-9]+:[0-9]{2}  4 of 6  host_uplink proved and compiled \([0-9]+ s\)'
-shows ' +[0-9]+:[0-9]{2}  5 of 6  host_yard proved and compiled \([0-9]+ s\)'
-shows ' +[0-9]+:[0-9]{2}  6 of 6  host_codecs proved and compiled \([0-9]+ s\)'
+shows '.* 7 crates are proved and built\. The first time takes .* minutes on two free cores, a second run seconds\.'
+shows ' +[0-9]+:[0-9]{2}  1 of 7  low proved \(3 s\)'
+shows ' +[0-9]+:[0-9]{2}  2 of 7  host proved and compiled \([0-9]+ s\)'
+shows ' +[0-9]+:[0-9]{2}  3 of 7  host_views proved and compiled \([0-9]+ s\)'
+shows ' +[0-9]+:[0-9]{2}  4 of 7  host_uplink proved and compiled \([0-9]+ s\)'
+shows ' +[0-9]+:[0-9]{2}  5 of 7  host_yard proved and compiled \([0-9]+ s\)'
+shows ' +[0-9]+:[0-9]{2}  6 of 7  host_codecs proved and compiled \([0-9]+ s\)'
+shows ' +[0-9]+:[0-9]{2}  7 of 7  host_trace proved and compiled \([0-9]+ s\)'
 hides 'fn |rt: |make -j'
 [ ! -s "$top/out" ]
 note $? 'it writes to standard output'
-printf '%s\n' 'check low' 'staticlib host' 'staticlib host_views' 'staticlib host_uplink' 'staticlib host_yard' 'staticlib host_codecs' | cmp - "$top/repo/asked"
+printf '%s\n' 'check low' 'staticlib host' 'staticlib host_views' 'staticlib host_uplink' 'staticlib host_yard' 'staticlib host_codecs' 'staticlib host_trace' | cmp - "$top/repo/asked"
 note $? 'rt is asked for something else'
-[ "$(ar t "$top/repo/target/lib/libasternhaken.a" | sort | tr '\n' ' ')" = 'host.o host_codecs.o host_uplink.o host_views.o host_yard.o version.o words.o ' ]
+[ "$(ar t "$top/repo/target/lib/libasternhaken.a" | sort | tr '\n' ' ')" = 'host.o host_codecs.o host_trace.o host_uplink.o host_views.o host_yard.o version.o words.o ' ]
 note $? 'the archive does not have all parts'
-[ "$(grep -c '^fn low::one: proved$' "$top/repo/target/library.log")" = 6 ]
+[ "$(grep -c '^fn low::one: proved$' "$top/repo/target/library.log")" = 7 ]
 note $? 'target/library.log does not have all that rt said'
 builds 0 target/lib/libasternhaken.a
-[ "$(wc -l < "$top/repo/asked")" = 6 ] && [ ! -s "$top/shown" ]
+[ "$(wc -l < "$top/repo/asked")" = 7 ] && [ ! -s "$top/shown" ]
 note $? 'a second run does it again'
 # A new sentence comes into the archive, and nothing is proved again for it.
 sed -i 's/Nothing is refused/No ground was found/' "$top/repo/c/words.c"
 touch -d '+2 seconds' "$top/repo/c/words.c"
 builds 0 target/lib/libasternhaken.a
-[ "$(wc -l < "$top/repo/asked")" = 6 ] && grep -q 'No ground was found' "$top/repo/target/lib/libasternhaken.a"
+[ "$(wc -l < "$top/repo/asked")" = 7 ] && grep -q 'No ground was found' "$top/repo/target/lib/libasternhaken.a"
 note $? 'a new sentence is not in the archive, or is proved'
 echo 'not C' > "$top/repo/c/words.c"
 touch -d '+4 seconds' "$top/repo/c/words.c"

@@ -90,7 +90,7 @@ ignored() {
 must_use() {
     set -- "$1" "$tmp/ignored.$2" 'asternhaken_setup(s, 1, k, 1, k, 1, 0, 1, 1, 1)' 'asternhaken_nch(s, 1, 0, s, 1)' 'asternhaken_facch(s, 1, 0, s, 1)' 'asternhaken_pch(s, 1, 0, v, 1)' \
         'asternhaken_joined(s, 1, 0, 1)' 'asternhaken_reselected(s, 1, 0)' 'asternhaken_handed_over(s, 1, 0)' 'asternhaken_reconfigured(s, 1, 0)' 'asternhaken_left_idle(s, 1, 0)' 'asternhaken_bit_22(s, 1, 0, 1)' \
-        'asternhaken_tick(s, 1, 0)' 'asternhaken_yard_setup(s, 1, k, 1, k, 1, 0, 1, 1, 1)' 'asternhaken_yard_nch(s, 1, 0, s, 1)' 'asternhaken_yard_tick(s, 1, 0)' 'asternhaken_find(k, 1, 1, v, v + 1)' 'asternhaken_nch_read(s, 1, v, 1)' 'asternhaken_nch_write(v, 1, s, 1)' 'asternhaken_facch_read(s, 1, v, 1)' 'asternhaken_facch_write(v, 1, s, 1)' 'asternhaken_cause_decode(s, 1, c)' \
+        'asternhaken_tick(s, 1, 0)' 'asternhaken_yard_setup(s, 1, k, 1, k, 1, 0, 1, 1, 1)' 'asternhaken_yard_nch(s, 1, 0, s, 1)' 'asternhaken_yard_tick(s, 1, 0)' 'asternhaken_find(k, 1, 1, v, v + 1)' 'asternhaken_nch_read(s, 1, v, 1)' 'asternhaken_nch_write(v, 1, s, 1)' 'asternhaken_facch_read(s, 1, v, 1)' 'asternhaken_facch_write(v, 1, s, 1)' 'asternhaken_nch_trace(s, 1, v, 1)' 'asternhaken_facch_trace(s, 1, v, 1)' 'asternhaken_cause_decode(s, 1, c)' \
         'asternhaken_cause_encode(c, s, 1)' 'asternhaken_uplink_setup(s, 1, 0, 1)' 'asternhaken_uplink_free(s, 1, 0)' 'asternhaken_uplink_busy(s, 1, 0)' 'asternhaken_uplink_request(s, 1, 0)' \
         'asternhaken_uplink_tick(s, 1, 0)'
     by=$1 file=$2
@@ -123,10 +123,10 @@ holds 'the header declares functions, and has some of its own' test -s "$tmp/fun
 figures
 while read -r f; do holds "tests/stack.c does not call $f" grep -qw "$f" tests/stack.c; done < "$tmp/functions"
 cat "$tmp/inlines" "$tmp/functions" > "$tmp/called"
-while read -r f; do holds "none of tests/header.c, tests/views.c, tests/uplink.c and tests/yard.c calls $f" grep -qw "$f" tests/header.c tests/views.c tests/uplink.c tests/yard.c; done < "$tmp/called"
+while read -r f; do holds "none of tests/header.c, tests/views.c, tests/uplink.c, tests/yard.c and tests/trace.c calls $f" grep -qw "$f" tests/header.c tests/views.c tests/uplink.c tests/yard.c tests/trace.c; done < "$tmp/called"
 # names HEADER: refusals, told numbers, what is said of following and of the uplink, parts and the numbers of a page have their prefixes, and behind them no two have the same name; a flag that says whether something is there ends in _GIVEN.
 names() {
-    sed -n 's/^    ASTERNHAKEN_\([A-Z0-9_]*\) = .*/\1/p' "$1" | grep -v '^PCH_' > "$tmp/names"
+    sed -n 's/^    ASTERNHAKEN_\([A-Z0-9_]*\) = .*/\1/p' "$1" | grep -v -e '^PCH_' -e '^FIELD_' > "$tmp/names"
     ! grep -v -e '^ACCEPTED$' -e '^REFUSED_' -e '^TOLD_' -e '^FOLLOW_' -e '^UPLINK_' -e '^PART_' -e '^IDENTITY_' -e '^CHANNEL_FIRST_' -e '^PAGED_FOR_' "$tmp/names" && [ "$(wc -l < "$tmp/names")" -ge 91 ] && [ -z "$(sed 's/^[A-Z]*_//' "$tmp/names" | sort | uniq -d)" ] || return 1
     [ "$(grep -cE '^    ASTERNHAKEN_.*_GIVEN = .* (is|are) there' "$1")" -ge 13 ] && ! grep -E '^    ASTERNHAKEN_.* = .* (is|are) there' "$1" | grep -v '_GIVEN = '
 }
@@ -138,6 +138,21 @@ holds 'a number of following without its prefix is refused' not_names 's/ASTERNH
 holds 'a kind of identity without its prefix is refused' not_names 's/ASTERNHAKEN_IDENTITY_TMSI = /ASTERNHAKEN_TMSI = /'
 holds 'a number of the uplink without its prefix is refused' not_names 's/ASTERNHAKEN_UPLINK_WAITING = /ASTERNHAKEN_WAITING = /'
 holds 'a flag under another name is refused' not_names 's/ASTERNHAKEN_PART_COUNT_GIVEN = /ASTERNHAKEN_PART_COUNTED = /'
+# kinds HEADER [SPECS]: the kinds of field are those of the code and of the specification, by name and number, from 1 on; a flag among them that says whether something follows ends in _GIVEN.
+kinds() {
+    sed -n 's/^    ASTERNHAKEN_FIELD_\([A-Z0-9_]*\) = \([0-9]*\).*/\1 \2/p' "$1" > "$tmp/kinds"
+    sed -n 's/^pub const \([A-Z0-9_]*\): u64 = \([0-9]*\);$/\1 \2/p' crates/trace/src/kinds.rt | diff - "$tmp/kinds" || return 1
+    tr -d _ < "$tmp/kinds" > "$tmp/kinds.plain"
+    sed -n 's/^\([a-z][A-Za-z0-9]*\) = \([0-9]*\)$/\1 \2/p' "${2:-crates/trace/specs/Names.antt}" | diff -i - "$tmp/kinds.plain" || return 1
+    [ "$(wc -l < "$tmp/kinds")" -ge 50 ] && awk '$2 != NR { exit 1 }' "$tmp/kinds" && [ -z "$(cut -d ' ' -f 1 "$tmp/kinds" | sort | uniq -d)" ] || return 1
+    ! grep -E '^    ASTERNHAKEN_FIELD_.*[.] (0 no|1 a|1 an) .* follows?' "$1" | grep -v '_GIVEN = '
+}
+not_kinds() { sed "$1" include/asternhaken.h > "$tmp/names.h" && ! cmp -s include/asternhaken.h "$tmp/names.h" && ! kinds "$tmp/names.h"; }
+not_specified() { sed "$1" crates/trace/specs/Names.antt > "$tmp/names.antt" && ! cmp -s crates/trace/specs/Names.antt "$tmp/names.antt" && ! kinds include/asternhaken.h "$tmp/names.antt"; }
+holds 'the kinds of field' kinds include/asternhaken.h
+holds 'a kind of field with another number is refused' not_kinds 's/ASTERNHAKEN_FIELD_HOPS = 13/ASTERNHAKEN_FIELD_HOPS = 14/'
+holds 'a kind of field under another name is refused' not_kinds 's/ASTERNHAKEN_FIELD_COUNT_GIVEN = /ASTERNHAKEN_FIELD_COUNTED = /'
+holds 'a kind of field that is specified with another number is refused' not_specified 's/^hops = 13/hops = 14/'
 # may_be_left HEADER: all results but those of what only looks at a state or at a page, and of the version, must be used.
 may_be_left() {
     sed -n -E 's/^(static inline )?uint32_t (asternhaken_[a-z0-9_]*)\(.*/\2/p' "$1" | sort > "$tmp/left"
@@ -326,12 +341,12 @@ END
          0  press  please wait
 END
 }
-# by COMPILER..: every function, the views, the uplink, the yard set, the events and the examples as that compiler takes them.
+# by COMPILER..: every function, the views, the uplink, the yard set, the traces, the events and the examples as that compiler takes them.
 by() {
-    for program in tests/header tests/views tests/uplink tests/yard tests/events examples/control_room examples/live_list examples/driver examples/yard_set; do
+    for program in tests/header tests/views tests/uplink tests/yard tests/trace tests/events examples/control_room examples/live_list examples/driver examples/yard_set; do
         "$@" $strict -O2 -Iinclude $program.c -x none "$archive" -o "$tmp/$(basename $program)" || return 1
     done
-    for program in header views uplink yard; do "$tmp/$program" > "$tmp/shown" && tail -n 1 "$tmp/shown" | grep '^[1-9][0-9]* passed, 0 failed$' || { cat "$tmp/shown"; return 1; }; done
+    for program in header views uplink yard trace; do "$tmp/$program" > "$tmp/shown" && tail -n 1 "$tmp/shown" | grep '^[1-9][0-9]* passed, 0 failed$' || { cat "$tmp/shown"; return 1; }; done
     events && sample && live_list && driver && yard
 }
 
@@ -354,12 +369,13 @@ for folder; do
     *) holds "$archive is no archive for x86-64 or this machine" false; continue ;;
     esac
     holds "$name: symbols" symbols
-    for program in header views uplink yard stack events; do holds "$name: tests/$program.c" build $program tests/$program.c; done
+    for program in header views uplink yard trace stack events; do holds "$name: tests/$program.c" build $program tests/$program.c; done
     for program in control_room live_list driver yard_set; do holds "$name: examples/$program.c" build $program examples/$program.c; done
     counted "$name: tests/header.c" $run "$tmp/header"
     counted "$name: tests/views.c" $run "$tmp/views"
     counted "$name: tests/uplink.c" $run "$tmp/uplink"
     counted "$name: tests/yard.c" $run "$tmp/yard"
+    counted "$name: tests/trace.c" $run "$tmp/trace"
     holds "$name: the events of vectors/" events
     holds "$name: too few events are refused" no_events
     holds "$name: the sample" sample
@@ -377,6 +393,7 @@ for folder; do
     holds "$name: valgrind on tests/views.c" $run "$tmp/views"
     holds "$name: valgrind on tests/uplink.c" $run "$tmp/uplink"
     holds "$name: valgrind on tests/yard.c" $run "$tmp/yard"
+    holds "$name: valgrind on tests/trace.c" $run "$tmp/trace"
     holds "$name: valgrind on the sample" sample
     holds "$name: valgrind on wrong lines" wrong_lines
     holds "$name: valgrind on the live list" live_list

@@ -1,11 +1,12 @@
 #!/usr/bin/env bash
 # The library as it is installed: what make install brings and make uninstall takes away, a program over the shared library and over the archive, the man page, the Python module with its
-# example, and the one version in all of them. The last line is 'N passed, M failed'.
+# example, the command for field staff, and the one version in all of them. The last line is 'N passed, M failed'.
 #
 #   tests/install.sh             the library is built (make lib) and installed
 #   tests/install.sh FOLDER..    the libasternhaken.a of each folder is installed instead
 #
-# On another processor than x86-64 two archives are tried: the stand-in for the machine itself in all of this, and that of rt staticlib in what a program linked with it does.
+# On another processor than x86-64 two archives are tried: the stand-in for the machine itself in all of this, and that of rt staticlib in what a program linked with it does; the
+# command is built over the first alone, since libpcap is there for the machine itself.
 set -uo pipefail
 export LC_ALL=C.UTF-8 PYTHONDONTWRITEBYTECODE=1
 cd "$(dirname "${BASH_SOURCE[0]}")/.." || exit 1
@@ -48,13 +49,21 @@ files() { (cd "$1" && find . ! -type d | sort); }
 
 # brings: make install into an empty folder brings these, and no more.
 brings() {
-    make install DESTDIR="$top/package" PREFIX=/usr ASTERNHAKEN_LIB="$folder" CC="$cc" || return 1
-    files "$top/package" | diff "$top/wanted" -
+    make install DESTDIR="$top/package" PREFIX=/usr ASTERNHAKEN_LIB="$folder" CC="$cc" COMMAND=$command || return 1
+    files "$top/package" | diff <(wanted "$version") -
 }
 wanted() {
     local version=$1
-    printf './usr/%s\n' include/asternhaken.h lib/libasternhaken.a lib/libasternhaken.so "lib/libasternhaken.so.${version%%.*}" "lib/libasternhaken.so.$version" lib/pkgconfig/asternhaken.pc \
-        share/asternhaken/{asternhaken.py,control_room.c,control_room.py,driver.c,driver.txt,live_list.c,sample.txt,yard_set.c,yard.txt} share/man/man3/asternhaken.3 | sort
+    {
+        printf './usr/%s\n' include/asternhaken.h lib/libasternhaken.a lib/libasternhaken.so "lib/libasternhaken.so.${version%%.*}" "lib/libasternhaken.so.$version" lib/pkgconfig/asternhaken.pc \
+            share/asternhaken/{asternhaken.py,control_room.c,control_room.py,driver.c,driver.txt,live_list.c,sample.txt,yard_set.c,yard.txt} share/man/man3/asternhaken.3
+        if [ $command = yes ]; then
+            printf './usr/%s\n' bin/asternhaken share/asternhaken/{asternhaken.lua,day.script} share/bash-completion/completions/asternhaken share/man/man1/asternhaken.1
+            for program in replay mend; do
+                [ ! -d crates/$program ] || printf './usr/libexec/asternhaken/%s\n' $program $([ "$(uname -m)" = x86_64 ] || echo $program.x86_64)
+            done
+        fi
+    } | sort
 }
 # A packager's folder is not named in what is installed, and nothing waits to be filled in.
 filled_in() { ! grep -rlF -e "$top" -e '@VERSION@' -e '@PREFIX@' "$top/package"; }
@@ -126,6 +135,14 @@ names_all() {
     [ "$(wc -l < "$top/names")" -ge 131 ] || return 1
     while read -r name; do grep -qE "(^|[^A-Za-z_])$name([^A-Za-z_]|\$)" "$1" || { echo "$name is not there"; return 1; }; done < "$top/names"
 }
+# The command: found where it is installed, with its programs, it tells a new user of a day.
+of_command() {
+    local there=$top/there
+    [ "$("$there/bin/asternhaken" --version)" = "asternhaken $version" ] || return 1
+    "$there/bin/asternhaken" cell "$there/share/asternhaken/day.script" > "$top/day.pcap" && "$there/bin/asternhaken" why "$top/day.pcap" 4712 > "$top/told"
+    grep -q 'a longer T3206: with 12,241 ms' "$top/told" || return 1
+    "$there/bin/asternhaken" import "$top/day.pcap" 4711 | "$there/bin/asternhaken" replay > "$top/told" && grep -qx '  9422 3' "$top/told"
+}
 a_wrong_page() { { cat "$page"; echo '.BX wrong'; } > "$top/wrong.3" && renders "$top/wrong.3"; }
 a_page_without() { sed 's/asternhaken_handed_over/asternhaken_handed/' "$page" > "$top/wrong.3" && names_all "$top/wrong.3"; }
 
@@ -178,23 +195,22 @@ of_python() { [ "$(PYTHONPATH=$(pc --variable=python) python3 -c 'import asternh
 follows() {
     rm -rf "$top/other"
     mkdir "$top/other"
-    cp -r Makefile c include docs examples python tools "$top/other" || return 1
+    cp -r Makefile c include docs examples python tools field wireshark "$top/other" || return 1
     sed -i -E 's/(VERSION_MAJOR) [0-9]+$/\1 7/; s/(VERSION_MINOR) [0-9]+$/\1 31/; s/(VERSION_PATCH) [0-9]+$/\1 4/' "$top/other/include/asternhaken.h"
-    (cd "$top/other" && make install DESTDIR="$top/seven" PREFIX=/usr ASTERNHAKEN_LIB="$folder" CC="$cc") || return 1
+    (programs=$PWD/target/bin && cd "$top/other" && make install DESTDIR="$top/seven" PREFIX=/usr ASTERNHAKEN_LIB="$folder" CC="$cc" COMMAND=$command PROGRAMS="$programs") || return 1
     files "$top/seven" | diff <(wanted 7.31.4) - && grep -qx 'Version: 7.31.4' "$top/seven/usr/lib/pkgconfig/asternhaken.pc" && grep -q 'Asternhaken 7\.31\.4' "$top/seven/usr/share/man/man3/asternhaken.3"
 }
 
 version=$(sed -n 's/^#define ASTERNHAKEN_VERSION_\(MAJOR\|MINOR\|PATCH\) //p' include/asternhaken.h | paste -sd.)
 holds 'the header has a version' grep -Exq '[0-9]+\.[0-9]+\.[0-9]+' <<< "$version"
 holds 'the newest heading of CHANGELOG.md is the version' newest
-wanted "$version" > "$top/wanted"
 
 for folder; do
     folder=$(cd "$folder" && pwd) || finish
     name=${folder#"$PWD/"}
     case $(readelf -h "$folder/libasternhaken.a" 2>&1 | sed -n 's/^ *Machine: *//p' | sort -u)/$(uname -m) in
-    *X86-64/x86_64 | AArch64/aarch64) cc=cc run='' ;;
-    *X86-64/*) cc=x86_64-linux-gnu-gcc run=qemu-x86_64 ;;
+    *X86-64/x86_64 | AArch64/aarch64) cc=cc run='' command=yes ;;
+    *X86-64/*) cc=x86_64-linux-gnu-gcc run=qemu-x86_64 command=no ;;
     *) holds "$folder has no archive for x86-64 or this machine" false; continue ;;
     esac
     rm -rf "$top/there" "$top/empty" "$top/package" "$top/seven" "$top/alone"
@@ -202,7 +218,7 @@ for folder; do
     awk '/^```c$/ { code = 1; next } /^```$/ { code = 0 } code' README.md > "$top/empty/use.c"
     holds "$name: make install" brings
     holds "$name: what is installed is filled in" filled_in
-    holds "$name: make install with another PREFIX" make install PREFIX="$top/there" ASTERNHAKEN_LIB="$folder" CC="$cc"
+    holds "$name: make install with another PREFIX" make install PREFIX="$top/there" ASTERNHAKEN_LIB="$folder" CC="$cc" COMMAND=$command
     holds "$name: the files are ours" same_files
     holds "$name: the soname" soname
     holds "$name: the links" links
@@ -215,7 +231,9 @@ for folder; do
         holds "$name: a new user, shared" by_shared
         holds "$name: a new user, by the archive's own name" by_archive
         holds "$name: the man page" renders "$page"
+        holds "$name: the man page of the command" renders "$top/there/share/man/man1/asternhaken.1"
         holds "$name: the man page of the repository itself" grep -q . <(MANWIDTH=80 man -l docs/asternhaken.3)
+        holds "$name: the command" of_command
         refused "$name: a man page with a wrong word passes" a_wrong_page
         holds "$name: the man page names all" names_all "$page"
         refused "$name: a man page without a function passes" a_page_without

@@ -91,7 +91,7 @@ $mend < "$tmp/day.cap" > "$tmp/mended.cap" 2> "$tmp/day.list" && block list | cm
 note $? 'the list in docs/CAPTURE.md'
 $replay < "$tmp/mended.cap" > "$tmp/out" && block mended | cmp - "$tmp/out"
 note $? 'the replay of the mended capture in docs/CAPTURE.md'
-sed -n '/target\/bin\/mend < day.cap/,/^$/s/^    \([0-9]* [0-9]* [0-9]*\) .*/\1/p' README.md | cmp - "$tmp/day.list"
+sed -n '/asternhaken mend < day.cap/,/^$/s/^    \([0-9]* [0-9]* [0-9]*\) .*/\1/p' README.md | cmp - "$tmp/day.list"
 note $? 'the list in README.md'
 # Where there is nothing to read, or nobody to write to, it ends.
 for streams in '< /dev/null' '< .' '<&-' '> /dev/full' '>&-' '2> /dev/full' '2>&-'; do

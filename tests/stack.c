@@ -78,6 +78,8 @@ static uint32_t talker_read(void) { return asternhaken_talker_read(2, numbers, 1
 static uint32_t talker_write(void) { return asternhaken_talker_write(numbers, 1, octets); }
 static uint32_t digits_read(void) { return asternhaken_digits_read(octets, 5, numbers, 12); }
 static uint32_t digits_write(void) { return asternhaken_digits_write(numbers, 12, octets, 5); }
+static uint32_t nch_trace(void) { return !asternhaken_nch_trace(octets, n, numbers, sizeof numbers / sizeof *numbers); }
+static uint32_t facch_trace(void) { return !asternhaken_facch_trace(octets, n, numbers, sizeof numbers / sizeof *numbers); }
 static uint32_t uplink_setup(void) { return asternhaken_uplink_setup(state, ASTERNHAKEN_UPLINK_LENGTH, tick, 100); }
 static uint32_t uplink_free(void) { return asternhaken_uplink_free(state, ASTERNHAKEN_UPLINK_LENGTH, tick); }
 static uint32_t uplink_busy(void) { return asternhaken_uplink_busy(state, ASTERNHAKEN_UPLINK_LENGTH, tick); }
@@ -248,14 +250,17 @@ static void uplink(void)
 static void messages(void)
 {
     lend("dbebc1ffffb8f9e2c02b475fedcba98777aefb2b");
+    measure(nch_trace, 0, "nch_trace");
     measure(nch_read, 0, "nch_read");
     if (nch_read()) exit(2);
     measure(nch_write, 0, "nch_write");
     lend("045f5e0ffffe2c7fff8000000000000001ec48d159e257");
+    measure(facch_trace, 0, "facch_trace");
     measure(facch_read, 0, "facch_read");
     if (facch_read()) exit(2);
     measure(facch_write, 0, "facch_write");
     lend("048499ab80810182028303fed891a2b3c4df2b2b2b2b2b");
+    measure(facch_trace, 0, "facch_trace, a page");
     measure(facch_read, 0, "facch_read, a page");
     if (facch_read()) exit(2);
     measure(facch_write, 0, "facch_write, a page");

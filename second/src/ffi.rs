@@ -1,4 +1,4 @@
-//! The functions of include/asternhaken.h, but for those that say words, called with guard octets around everything that is lent.
+//! The functions of include/asternhaken.h, but for those that say words and the traces, called with guard octets around everything that is lent.
 
 use crate::record;
 use std::cell::Cell;
