@@ -6,6 +6,7 @@ use nch::Notification;
 use receiver::Answer;
 use receiver::Receiver;
 use receiver::Setup;
+use steps::events;
 use text::Line;
 
 // A row's first words, then a refusal.
@@ -77,7 +78,7 @@ fn ready(tick: u32) -> Receiver {
 }
 
 fn show_step(row: &[u8], last: u32, now: u32) -> Line {
-    let a = ready(last).tick(now);
+    let a = events::tick(ready(last), now);
     if a.refusal.number != 0 {
         return refused(row, a.refusal.number);
     }
@@ -109,9 +110,17 @@ fn show_told(before: Line, a: Answer) -> Line {
 // The first half, at 1,000, is that call with priority 3, cipher key number 5 and channel 120345, and a random entry of Segment Id 0 without
 // VSTK_RAND. The second is its reduced reference, and a random entry of Segment Id 1 with VSTK_RAND ABCDEF012. Padding, 2B hex, is +.
 fn show_halves(row: &[u8], second: u32) -> Line {
-    let a = ready(0).nch(1000, b"\x40\x96\xb4\x3c\xd6\x24\x06\x8a\x48+++++++++++");
+    let a = events::nch(
+        ready(0),
+        1000,
+        b"\x40\x96\xb4\x3c\xd6\x24\x06\x8a\x48+++++++++++",
+    );
     let r = a.receiver;
-    let b = r.nch(second, b"\x08\x12\xd6\x87\xbd\x5e\x6f\x78\x09+++++++++++");
+    let b = events::nch(
+        r,
+        second,
+        b"\x08\x12\xd6\x87\xbd\x5e\x6f\x78\x09+++++++++++",
+    );
     show_told(Line::new().word(row).word(b": "), b)
 }
 

@@ -6,7 +6,6 @@ pub mod Halving
 pub mod Keys
 pub mod KeyPlaces
 pub mod Sets
-pub mod Sweeping
 pub mod MessageEntries
 pub mod Accepted
 pub mod Entering

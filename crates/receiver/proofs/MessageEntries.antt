@@ -1,13 +1,13 @@
--- The entries of a message one by one: where a random entry stands, and what a turn of each loop adds. Assumes nothing.
+-- The entries of a message one by one: where a random entry stands, and what one more call adds. Assumes nothing.
 use mathlib.Core.Path.{_≡_, refl, sym, ap, ap₂, _∙_}
-use mathlib.Core.List.{List, [], _∷_, _++_, append-assoc, append-nil}
+use mathlib.Core.List.{List, [], _∷_, _++_, append-assoc}
 use mathlib.Core.Bool.{Bool, true, false}
 use mathlib.Core.Option.{none, some}
 use Prim.Native.Nat.{ℕ, zero, suc, _+_, _≤_, _<_, min}
 use native.Mathlib.Numerals.{add-one}
 use native.Mathlib.Omega.{arith}
-use lib.ListN.{length, getD, set, take, replicate, length-append, length-take}
-use lib.Seq.{take-suc, take-all, getD-take, length-take-le}
+use lib.ListN.{length, getD, set, take, length-append, length-take}
+use lib.Seq.{take-suc, getD-take, length-take-le}
 use Rattle.bits.specs.Field.{pick}
 use Rattle.csn1.specs.Told.{asBit, padded}
 use Rattle.call.specs.declared.Call.{Call}
@@ -15,14 +15,12 @@ use Rattle.call.specs.Call.{ciphered, noCall}
 use Rattle.nch.specs.declared.Notification.{Notification}
 use Rattle.nch.specs.declared.Reduced.{Reduced}
 use Rattle.nch.specs.Octets.{count}
-use Rattle.nch.specs.Told.{noReduced}
 use Rattle.nch.specs.Write.{callsOf, isDescribed}
 use Rattle.nch.specs.Owners.{nth, before, randomOfCall, randomOfReduced, emergencyOfCall}
-use Rattle.nch.proofs.InPlaces.{count-le}
 use Rattle.receiver.specs.declared.Record.{Record}
 use Rattle.receiver.specs.Model.{noRecord, mapAt}
-use Rattle.receiver.specs.Step.{mostEntries, entriesIn}
-use Rattle.receiver.specs.Entries.{callWith, reducedWith, callEntry, reducedEntry, nchEntries}
+use Rattle.receiver.specs.Step.{mostEntries}
+use Rattle.receiver.specs.Entries.{callWith, reducedWith, callEntry, reducedEntry}
 use Rattle.receiver.proofs.Loops.{padded-snoc, length-mapAt}
 
 -- ## The k-th of the first n
@@ -70,7 +68,7 @@ module _ {A B : Type 0} (f : ℕ → A → B) (z : B) (n : ℕ) (pre : List B) (
       ap (λ j. mapAt f 0 (take j l)) (add-one i) ∙ ap (mapAt f 0) (take-suc l i d h) ∙ map-at-more f 0 (take i l) (getD l i d)
       ∙ ap (λ j. mapAt f 0 (take i l) ++ (f j (getD l i d) ∷ [])) (ap (λ k. 0 + k) (length-take-le i l (omega arith)) ∙ omega arith)
 
-  places-more : (at : ℕ) → at ≡ length pre + i → at < n
+  pub places-more : (at : ℕ) → at ≡ length pre + i → at < n
       → set (padded z n (pre ++ mapAt f 0 (take i l))) at (f i (getD l i d)) ≡ padded z n (pre ++ mapAt f 0 (take (i + 1) l))
   places-more at e k =
       let so : List B = pre ++ mapAt f 0 (take i l) in
@@ -101,73 +99,22 @@ pub record Calls-made (m : Notification) (items : List Record) (random mark i : 
   pub describes : mark ≡ before isDescribed m i
 
 -- what is in use of an array of n places
-in-use : {A : Type 0} (k n : ℕ) (l : List A) → length l ≡ n → length (take k l) ≡ min k n
+pub in-use : {A : Type 0} (k n : ℕ) (l : List A) → length l ≡ n → length (take k l) ≡ min k n
 in-use k n l e = length-take k l ∙ ap (min k) e
 
-pub calls-begin : (m : Notification) (items : List Record) → items ≡ replicate mostEntries noRecord → Calls-made m items 0 0 0
-calls-begin m items e = record { kept = e; ciphers = refl; describes = refl }
-
-module _ (m : Notification) (items : List Record) (random mark i : ℕ) (made : Calls-made m items random mark i) where
-  pub few-made : (random ≤ i) × (mark ≤ i)
-  few-made =
-      let n : length (take i (callsOf m)) ≤ i = omega (arith, length-take i (callsOf m)) in
-      (omega (arith, made .ciphers, count-le ciphered (take i (callsOf m))), omega (arith, made .describes, count-le isDescribed (take i (callsOf m))))
-
-  module _ (four : length (m .calls) ≡ 4) where
-    pub calls-more : i < min (m .callcount) 4 → (e : Record) (x y : ℕ) → e ≡ callWith m random mark (getD (m .calls) i noCall)
-        → x ≡ asBit (ciphered (getD (m .calls) i noCall)) → y ≡ asBit (isDescribed (getD (m .calls) i noCall))
-        → Calls-made m (set items i e) (random + x) (mark + y) (i + 1)
-    calls-more h e x y q a b =
-        let lt : i < length (callsOf m) = omega (arith, in-use (m .callcount) 4 (m .calls) four) in
-        let g : getD (m .calls) i noCall ≡ getD (callsOf m) i noCall = sym (getD-take (m .callcount) (m .calls) i noCall (omega arith)) in
-        let w : e ≡ callEntry m i (getD (callsOf m) i noCall) = q ∙ rw (made .ciphers, made .describes, g, call-entry-is m i) in
-        record {
-          kept = ap₂ (λ s v. set s i v) (made .kept) w ∙ places-more (callEntry m) noRecord mostEntries [] (callsOf m) noCall i lt i (omega arith) (omega arith);
-          ciphers = ap₂ (λ s v. s + v) (made .ciphers) (a ∙ ap (λ c. asBit (ciphered c)) g) ∙ before-more ciphered m i lt;
-          describes = ap₂ (λ s v. s + v) (made .describes) (b ∙ ap (λ c. asBit (isDescribed c)) g) ∙ before-more isDescribed m i lt;
-        }
-
-    pub calls-end : i ≡ min (m .callcount) 4
-        → (items ≡ padded noRecord mostEntries (mapAt (callEntry m) 0 (callsOf m))) × ((i ≡ length (callsOf m)) × (random ≡ count ciphered (callsOf m)))
-    calls-end e =
-        let n : length (callsOf m) ≡ i = in-use (m .callcount) 4 (m .calls) four ∙ sym e in
-        let l : take i (callsOf m) ≡ callsOf m = take-all i (callsOf m) (omega arith) in
-        (made .kept ∙ ap (λ s. padded noRecord mostEntries (mapAt (callEntry m) 0 s)) l, (sym n, made .ciphers ∙ ap (count ciphered) l))
+module _ (m : Notification) (items : List Record) (random mark i : ℕ) (made : Calls-made m items random mark i) (four : length (m .calls) ≡ 4) where
+  pub calls-more : i < min (m .callcount) 4 → (e : Record) (x y : ℕ) → e ≡ callWith m random mark (getD (m .calls) i noCall)
+      → x ≡ asBit (ciphered (getD (m .calls) i noCall)) → y ≡ asBit (isDescribed (getD (m .calls) i noCall))
+      → Calls-made m (set items i e) (random + x) (mark + y) (i + 1)
+  calls-more h e x y q a b =
+      let lt : i < length (callsOf m) = omega (arith, in-use (m .callcount) 4 (m .calls) four) in
+      let g : getD (m .calls) i noCall ≡ getD (callsOf m) i noCall = sym (getD-take (m .callcount) (m .calls) i noCall (omega arith)) in
+      let w : e ≡ callEntry m i (getD (callsOf m) i noCall) = q ∙ rw (made .ciphers, made .describes, g, call-entry-is m i) in
+      record {
+        kept = ap₂ (λ s v. set s i v) (made .kept) w ∙ places-more (callEntry m) noRecord mostEntries [] (callsOf m) noCall i lt i (omega arith) (omega arith);
+        ciphers = ap₂ (λ s v. s + v) (made .ciphers) (a ∙ ap (λ c. asBit (ciphered c)) g) ∙ before-more ciphered m i lt;
+        describes = ap₂ (λ s v. s + v) (made .describes) (b ∙ ap (λ c. asBit (isDescribed c)) g) ∙ before-more isDescribed m i lt;
+      }
 
 abbrev pub reducedsOf : Notification → List Reduced
 reducedsOf m = take (m .release6 .reducedcount) (m .release6 .reduced)
-
--- the entries of all calls and of the first j reduced references
-abbrev pub entriesTo : Notification → ℕ → List Record
-entriesTo m j = mapAt (callEntry m) 0 (callsOf m) ++ mapAt (reducedEntry m) 0 (take j (reducedsOf m))
-
-pub few-calls : (m : Notification) → length (m .calls) ≡ 4 → (length (callsOf m) ≤ 4) × (count ciphered (callsOf m) ≤ 4)
-few-calls m four =
-    let n = in-use (m .callcount) 4 (m .calls) four in
-    (omega (arith, n), omega (arith, n, count-le ciphered (callsOf m)))
-
-pub reduceds-begin : (m : Notification) → padded noRecord mostEntries (mapAt (callEntry m) 0 (callsOf m)) ≡ padded noRecord mostEntries (entriesTo m 0)
-reduceds-begin m = ap (padded noRecord mostEntries) (sym (append-nil (mapAt (callEntry m) 0 (callsOf m))))
-
-module _ (m : Notification) (four : length (m .calls) ≡ 4) (five : length (m .release6 .reduced) ≡ 5) where
-  module _ (first : ℕ) (f : first ≡ length (callsOf m)) (items : List Record) (j : ℕ) (made : items ≡ padded noRecord mostEntries (entriesTo m j)) where
-    pub reduceds-more : j < min (m .release6 .reducedcount) 5 → (k : ℕ) → k ≡ count ciphered (callsOf m)
-        → (e : Record) → e ≡ reducedWith m (k + j) (getD (m .release6 .reduced) j noReduced)
-        → set items (first + j) e ≡ padded noRecord mostEntries (entriesTo m (j + 1))
-    reduceds-more h k g e q =
-        let lt : j < length (reducedsOf m) = omega (arith, in-use (m .release6 .reducedcount) 5 (m .release6 .reduced) five) in
-        let r : getD (m .release6 .reduced) j noReduced ≡ getD (reducedsOf m) j noReduced = sym (getD-take (m .release6 .reducedcount) (m .release6 .reduced) j noReduced (omega arith)) in
-        let w : e ≡ reducedEntry m j (getD (reducedsOf m) j noReduced) = q ∙ rw (g, r, reduced-entry-is m j (getD (reducedsOf m) j noReduced)) in
-        let n = length-mapAt (callEntry m) 0 (callsOf m) in
-        ap₂ (λ s v. set s (first + j) v) made w
-        ∙ places-more (reducedEntry m) noRecord mostEntries (mapAt (callEntry m) 0 (callsOf m)) (reducedsOf m) noReduced j lt (first + j) (omega (arith, n, f)) (omega (arith, f, few-calls m four))
-
-    pub reduceds-end : (n : ℕ) → j ≡ n → n ≡ min (m .release6 .reducedcount) 5 → record { items = items; count = first + n } ≡ entriesIn (nchEntries m)
-    unfolding nchEntries
-    reduceds-end n q e =
-        let k : length (reducedsOf m) ≡ n = in-use (m .release6 .reducedcount) 5 (m .release6 .reduced) five ∙ sym e in
-        let l : take j (reducedsOf m) ≡ reducedsOf m = take-all j (reducedsOf m) (omega arith) in
-        ap₂ (λ (x : List Record) (y : ℕ). record { items = x; count = y })
-        (made ∙ ap (λ s. padded noRecord mostEntries (mapAt (callEntry m) 0 (callsOf m) ++ mapAt (reducedEntry m) 0 s)) l)
-        (sym (length-append (mapAt (callEntry m) 0 (callsOf m)) (mapAt (reducedEntry m) 0 (reducedsOf m))
-        ∙ ap₂ (λ a b. a + b) (length-mapAt (callEntry m) 0 (callsOf m) ∙ sym f) (length-mapAt (reducedEntry m) 0 (reducedsOf m) ∙ k)))

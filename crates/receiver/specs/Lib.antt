@@ -2,7 +2,6 @@ pub mod Channels
 pub mod Count
 pub mod Halving
 pub mod Model
-pub mod Inner
 pub mod Entries
 pub mod Step
 pub mod Promises

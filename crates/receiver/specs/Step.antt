@@ -24,7 +24,6 @@ use Rattle.receiver.specs.declared.Move.the-variants.{Reselection, Hando
 use Rattle.receiver.specs.Channels.{keyCount, placeOn, Channel, onNch, onFacch, onPch, numberOf, hasNln, hasPages, drops, forgets, forgetsCount}
 use Rattle.receiver.specs.Count.{noCount, noBit, News, noNews, bits, counting, countingOver, cellWith, followOf, countBeside}
 use Rattle.receiver.specs.declared.Met.{Met}
-use Rattle.receiver.specs.declared.messages.Entries.{Entries}
 use Rattle.receiver.specs.Model.{noRecord, noPaged, emptySlot, noNln, lastKey, late, keyOf, keysOf, indexOf, ruleFor, sweptSlots, expiredOf, droppedOf, meetOf, remade}
 use Rattle.receiver.specs.Entries.{nchEntries, facchEntries, pagedOf, pchEntries}
 
@@ -33,9 +32,6 @@ use Rattle.receiver.specs.Entries.{nchEntries, facchEntries, pagedOf, pc
 -- an answer has a place for each of so many
 abbrev pub mostEntries : ℕ
 mostEntries = 9
-
-abbrev pub entriesIn : List Record → Entries
-entriesIn es = record { items = padded noRecord mostEntries es; count = length es }
 
 -- ## What they meet: in order, against the places as the earlier ones left them
 

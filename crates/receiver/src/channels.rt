@@ -1,7 +1,6 @@
 // The channels by number: what tells them apart, and where their halves stand.
 ghost use mathlib.Core.Path.{_≡_};
-ghost use Prim.Native.Nat.{_<_};
-ghost use Rattle.receiver.specs.Channels.{channels, keyCount, places, placeOn, sideOf, indexIn, byNumber, asks, leads};
+ghost use Rattle.receiver.specs.Channels.{sideOf, indexIn, byNumber, asks, leads};
 
 pub const CHANNELS: usize = 3;
 
@@ -51,14 +50,7 @@ pub fn leads(ch: usize) -> bool
     flag_of(ch, true, false, true)
 }
 
-// The place of the subscription at an index on a channel; and back.
-pub(crate) fn place_on(i: usize, ch: usize) -> usize
-    requires { ⌜ (i < keyCount) × (ch < channels) ⌝ }
-    ensures { λ r. ⌜ (r ≡ placeOn i ch) × (r < places) ⌝ }
-{
-    CHANNELS * i + ch
-}
-
+// The channel and the subscription of a place.
 pub fn side_of(i: usize) -> usize
     ensures { λ r. ⌜ r ≡ sideOf i ⌝ }
 {

@@ -79,7 +79,7 @@ pub const NO_KEY: u32 = 4294967295;
 
 pub const PLACES: usize = channels::CHANNELS * Setup::KEYS;
 
-// The place of subscription i on channel ch is channels::place_on(i, ch).
+// The place of subscription i on channel ch is channels::CHANNELS * i + ch.
 pub struct Receiver {
     pub slots: [Slot; PLACES],
     pub keys: [u32; Setup::KEYS],

@@ -1,8 +1,7 @@
-// What an entry is, and what it meets at its place.
+// What an entry is, whether two halves agree, and what they make joined.
 ghost use mathlib.Core.Path.{_≡_};
-ghost use Rattle.receiver.specs.Model.{noCommon, noRecord, emptySlot, keyOf, isCiphered, segmentIs, isSecond, classOf, sameReference, agree, withCount, joinedOf, meetHalf, meetOf, only};
+ghost use Rattle.receiver.specs.Model.{noCommon, noRecord, emptySlot, keyOf, isCiphered, segmentIs, isSecond, classOf, sameReference, agree, withCount, joinedOf};
 use crate::Common;
-use crate::Met;
 use crate::Record;
 use crate::Slot;
 use crate::channels;
@@ -185,72 +184,6 @@ pub fn join(first: Record, second: Record) -> Record
         emergency: first.emergency,
         common: with_count(a, b),
     }
-}
-
-fn only_number(number: u8, held: Slot) -> Met
-    ensures { λ r. ⌜ r ≡ only number held ⌝ }
-{
-    Met {
-        number,
-        told: no_record(),
-        held,
-    }
-}
-
-// A half that comes where a half is held: the same one, or the opposite one, with which it joins if their references agree.
-fn meet_half(half: u8, held: Slot, e: Record, joined: Record) -> Met
-    requires { ⌜ (held .half ≡ 0 → ⊥) ⌝ }
-    ensures { λ r. ⌜ r ≡ meetHalf half held e joined (only 4 held) ⌝ }
-{
-    if held.half == half {
-        return only_number(5, held);
-    }
-    let h = held.record;
-    if !agrees(h, e) {
-        return only_number(7, held);
-    }
-    Met {
-        number: 3,
-        told: joined,
-        held: empty_slot(),
-    }
-}
-
-// What an entry on channel ch meets at its place, at tick now.
-pub fn meet(ch: usize, now: u32, held: Slot, e: Record) -> Met
-    ensures { λ r. ⌜ r ≡ meetOf ch now held e ⌝ }
-{
-    let c = class(ch, e);
-    if c < 3 {
-        return Met {
-            number: c,
-            told: e,
-            held,
-        };
-    }
-    if 4 < c {
-        return only_number(c, held);
-    }
-    if held.half != 0 {
-        let h = held.record;
-        if c == 3 {
-            return meet_half(1, held, e, join(e, h));
-        }
-        return meet_half(2, held, e, join(h, e));
-    }
-    if c == 4 {
-        if !channels::leads(ch) {
-            return only_number(8, held);
-        }
-    }
-    only_number(
-        4,
-        Slot {
-            half: c - 2,
-            since: now,
-            record: e,
-        },
-    )
 }
 
 // Reference times 2 plus service flag.

@@ -1,15 +1,10 @@
-// The one sweep over all places that drops what ran out and what an event takes.
+// What a sweep goes by: the rule that drops nothing, and the timer of a place.
 ghost use mathlib.Core.Path.{_≡_};
-ghost use Rattle.receiver.specs.Model.{keep, takes, spares, ranOutOf, sweptSlots, expiredOf, droppedOf, withSlots};
+ghost use Rattle.receiver.specs.Model.{keep};
 ghost use Rattle.receiver.specs.Channels.{byNumber, sideOf};
-ghost use Rattle.receiver.specs.Inner.{fateOf};
-use crate::PLACES;
-use crate::Receiver;
 use crate::Rule;
 use crate::Setup;
-use crate::Slot;
 use crate::channels;
-use crate::meeting;
 
 // The rule that drops nothing.
 pub fn keep() -> Rule
@@ -23,94 +18,9 @@ pub fn keep() -> Rule
     }
 }
 
-// Whether a rule takes halves of a channel.
-fn takes(rule: Rule, ch: usize) -> bool
-    ensures { λ r. ⌜ r ≡ takes rule ch ⌝ }
-{
-    channels::flag_of(ch, rule.nch, rule.facch, rule.pch)
-}
-
-// Whether a rule leaves the half at a place.
-pub fn spared(rule: Rule, i: usize) -> bool
-    ensures { λ r. ⌜ r ≡ spares rule i ⌝ }
-{
-    if !takes(rule, channels::side_of(i)) {
-        return true;
-    }
-    channels::index_in(i) == rule.but
-}
-
 // The timer of the channel of a place.
 pub fn timer_at(t3206: u32, t3208: u32, t3210: u32, i: usize) -> u32
     ensures { λ r. ⌜ r ≡ byNumber (sideOf i) t3206 t3208 t3210 ⌝ }
 {
     channels::timer_of(channels::side_of(i), t3206, t3208, t3210)
-}
-
-fn ran_out(now: u32, timer: u32, s: Slot) -> bool
-    ensures { λ r. ⌜ r ≡ ranOutOf now timer s ⌝ }
-{
-    if s.half == 0 {
-        return false;
-    }
-    timer <= clock::elapsed(now, s.since)
-}
-
-// What becomes of a place: it stays as it is, its half ran out, or the rule takes its half.
-enum Fate {
-    Stays,
-    RanOut,
-    Taken,
-}
-
-fn fate_of(now: u32, timer: u32, rule: Rule, i: usize, s: Slot) -> Fate
-    ensures { λ r. ⌜ r ≡ fateOf now timer rule i s ⌝ }
-{
-    if s.half == 0 {
-        return Fate::Stays;
-    }
-    if ran_out(now, timer, s) {
-        return Fate::RanOut;
-    }
-    if spared(rule, i) {
-        return Fate::Stays;
-    }
-    Fate::Taken
-}
-
-pub struct Swept {
-    pub receiver: Receiver,
-    pub expired: usize,
-    pub dropped: usize,
-}
-
-// One sweep: what ran out goes first and is counted apart, then what the rule takes.
-pub fn sweep(mut r: Receiver, now: u32, rule: Rule) -> Swept
-    ensures { λ w. ⌜ (w .receiver ≡ withSlots r (sweptSlots r now rule))
-        × ((w .expired ≡ expiredOf r now (r .slots)) × (w .dropped ≡ droppedOf r now rule)) ⌝ }
-{
-    let e = meeting::empty_slot();
-    let mut expired: usize = 0;
-    let mut dropped: usize = 0;
-    let mut i: usize = 0;
-    while i < PLACES {
-        let s = r.slots[i];
-        match fate_of(now, timer_at(r.t3206, r.t3208, r.t3210, i), rule, i, s) {
-            Fate::Stays => {}
-            Fate::RanOut => {
-                r.slots[i] = e;
-                expired += 1;
-            }
-            Fate::Taken => {
-                r.slots[i] = e;
-                dropped += 1;
-            }
-        }
-        i += 1;
-    }
-    Swept {
-        receiver: r,
-        expired,
-        dropped,
-    }
 }

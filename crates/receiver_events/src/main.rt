@@ -159,9 +159,9 @@ fn message(r: Receiver, tick: u32, digits: &[u8], nch: bool) -> Answer {
     let mut octets = [0u8; 64];
     let n = text::read_hex(digits, &mut octets);
     if nch {
-        return r.nch(tick, &octets[..n]);
+        return steps::events::nch(r, tick, &octets[..n]);
     }
-    r.facch(tick, &octets[..n])
+    steps::events::facch(r, tick, &octets[..n])
 }
 
 // A setup with the keys from a place on, of which 64 are kept at most; no group keys are held.
@@ -212,18 +212,18 @@ fn set_up(r: Receiver, line: &[u8], first: usize) -> Receiver
 // An event without octets, by the first and the third letter of its word.
 fn other(r: Receiver, first: u8, third: u8, tick: u32, key: u32) -> Answer {
     if first == b'j' {
-        return r.joined(tick, key);
+        return steps::events::joined(r, tick, key);
     }
     if first == b'h' {
-        return r.handed_over(tick);
+        return steps::events::handed_over(r, tick);
     }
     if first == b't' {
-        return r.tick(tick);
+        return steps::events::tick(r, tick);
     }
     if third == b's' {
-        return r.reselected(tick);
+        return steps::events::reselected(r, tick);
     }
-    r.reconfigured(tick)
+    steps::events::reconfigured(r, tick)
 }
 
 fn event(r: Receiver, line: &[u8]) -> Receiver {

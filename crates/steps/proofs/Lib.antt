@@ -1,0 +1,3 @@
+pub mod Sweeping
+pub mod EntriesMade
+pub mod Entering
