@@ -7,9 +7,9 @@
 #include <stdlib.h>
 #include <string.h>
 
-enum { PARTS = 46, EXPIRED = 0, DROPPED = 1, COUNT = 2, KEY_OF = 3, TOLD = 4, FOLLOWS = 35, PAGED = 37, ENTRIES = 9, FACCH_NUMBERS = 30 };
+enum { PARTS = 46, EXPIRED = 0, DROPPED = 1, COUNT = 2, KEY_OF = 3, TOLD = 4, FOLLOWS = 35, PAGED = 37, ENTRIES = 9 };
 
-unsigned long refusals_seen[16], told_seen[9], follow_seen[4], paged_seen, writer_refusals_seen[16], uplink_seen[5];
+unsigned long refusals_seen[16], told_seen[9], follow_seen[4], paged_seen, writer_refusals_seen[2][16], uplink_seen[5];
 
 static uint64_t part(const struct side *s, const uint8_t *state, uint32_t entry, uint32_t number)
 {
@@ -38,12 +38,41 @@ int same_answers(const struct side *const *sides, uint8_t *const *states, unsign
     return 1;
 }
 
+/* What is there of a record, as the numbers that the library hands over. */
+static void nch_numbers(uint64_t *to, const struct plain_nch *m)
+{
+    struct plain_nch all = { 0 };
+    all.used = m->used, all.nln_given = m->nln_given, all.nln = m->nln, all.n_calls = m->n_calls, all.release_6 = m->release_6, all.release_7 = m->release_7;
+    memcpy(all.calls, m->calls, m->n_calls * sizeof *m->calls);
+    if (m->release_6) {
+        all.counted = m->counted, all.cell_global_count = m->cell_global_count, all.n_reduced = m->n_reduced, all.n_random = m->n_random;
+        memcpy(all.reduced, m->reduced, m->n_reduced * sizeof *m->reduced);
+        memcpy(all.random, m->random, m->n_random * sizeof *m->random);
+    }
+    if (m->release_7) {
+        all.n_marks = m->n_marks;
+        memcpy(all.marks, m->marks, m->n_marks * sizeof *m->marks);
+        memcpy(&all.uplink_given, &m->uplink_given, sizeof all - offsetof(struct plain_nch, uplink_given));
+    }
+    memcpy(to, &all, sizeof all);
+}
+
+static void facch_numbers(uint64_t *to, const struct plain_facch *m)
+{
+    struct plain_facch all = *m;
+    if (m->paging)
+        memset(&all.call, 0, sizeof all.call);
+    else
+        memset(&all.page, 0, sizeof all.page);
+    memcpy(to, &all, sizeof all);
+}
+
 int same_reading(const struct side *const *sides, unsigned n_sides, int facch, const uint8_t *octets, size_t n)
 {
     static const struct readers *const all[3] = { &plain_gcc_readers, &plain_clang_readers, &bitwise_readers };
     static const char *const names[3] = { "plain_gcc", "plain_clang", "bitwise" };
-    size_t most = facch ? FACCH_NUMBERS : 106;
-    uint64_t here[106], there[106];
+    size_t most = facch ? FACCH_NUMBERS : NCH_NUMBERS;
+    uint64_t here[NCH_NUMBERS], there[NCH_NUMBERS];
     uint32_t refusal = facch ? sides[0]->facch_numbers(octets, n, here, most) : sides[0]->nch_numbers(octets, n, here, most);
     for (unsigned k = 1; k < n_sides + 3; k++) {
         const char *name = k < n_sides ? sides[k]->name : names[k - n_sides];
@@ -53,12 +82,14 @@ int same_reading(const struct side *const *sides, unsigned n_sides, int facch, c
             other = facch ? sides[k]->facch_numbers(octets, n, there, most) : sides[k]->nch_numbers(octets, n, there, most);
         } else if (facch) {
             struct plain_facch m;
+            memset(&m, 0xEE, sizeof m);
             other = all[k - n_sides]->facch(octets, n, &m);
-            plain_gcc_readers.facch_numbers(there, &m);
+            facch_numbers(there, &m);
         } else {
             struct plain_nch m;
+            memset(&m, 0xEE, sizeof m);
             other = all[k - n_sides]->nch(octets, n, &m);
-            plain_gcc_readers.nch_numbers(there, &m);
+            nch_numbers(there, &m);
         }
         if (refusal != other || memcmp(here, there, most * sizeof *here) != 0) {
             printf("%s message", facch ? "FACCH" : "NCH");
@@ -75,42 +106,46 @@ int same_reading(const struct side *const *sides, unsigned n_sides, int facch, c
     return 1;
 }
 
-int same_writing(const struct side *const *sides, unsigned n_sides, const uint64_t *numbers, size_t n)
+static uint32_t write_message(const struct side *s, int facch, const uint64_t *numbers, uint8_t *octets, size_t n)
+{
+    return facch ? s->facch_write(numbers, FACCH_NUMBERS, octets, n) : s->nch_write(numbers, NCH_NUMBERS, octets, n);
+}
+
+int same_writing(const struct side *const *sides, unsigned n_sides, int facch, const uint64_t *numbers, size_t n)
 {
     uint8_t here[32], there[32];
     memset(here, 0xEE, sizeof here);
-    uint32_t refusal = sides[0]->facch_write(numbers, FACCH_NUMBERS, here, n);
+    uint32_t refusal = write_message(sides[0], facch, numbers, here, n);
     for (unsigned k = 1; k < n_sides; k++) {
         memset(there, 0xEE, sizeof there);
-        uint32_t other = sides[k]->facch_write(numbers, FACCH_NUMBERS, there, n);
+        uint32_t other = write_message(sides[k], facch, numbers, there, n);
         if (refusal != other || memcmp(here, there, sizeof here) != 0) {
-            printf("FACCH record into %u octets:", (unsigned)n);
-            for (unsigned i = 0; i < FACCH_NUMBERS; i++)
+            printf("%s record into %u octets:", facch ? "FACCH" : "NCH", (unsigned)n);
+            for (unsigned i = 0; i < (facch ? FACCH_NUMBERS : NCH_NUMBERS); i++)
                 if (numbers[i])
                     printf(" %u: %" PRIu64, i, numbers[i]);
             printf("; refusal %u by %s, %u by %s\n", (unsigned)refusal, sides[0]->name, (unsigned)other, sides[k]->name);
             return 0;
         }
     }
-    writer_refusals_seen[refusal & 15]++;
+    writer_refusals_seen[facch][refusal & 15]++;
     return 1;
 }
 
-/* What was read of a FACCH message is written into as many octets, and, sometimes with another number in it, into others. */
-static int same_writings(const struct side *const *sides, unsigned n_sides, struct dice *d, const struct message *m)
+/* What was read of a message is written into as many octets, and, mostly with other numbers in it, into others. */
+static int same_writings(const struct side *const *sides, unsigned n_sides, struct dice *d, int facch, const struct message *m)
 {
-    static const uint64_t limits[] = { 0, 1, 2, 3, 4, 7, 8, 9, 10, 15, 16, 255, 256, 0x1000, 0xFFFFFF, 0x1000000, 99999999, 100000000, 0x7FFFFFF, 0x8000000,
-        0xFFFFFFFFFu, 0x1000000000u, 0xFFFFFFFFFFFFu, UINT64_MAX };
-    uint64_t numbers[FACCH_NUMBERS];
-    if (sides[0]->facch_numbers(m->octets, m->n, numbers, FACCH_NUMBERS) != 0)
+    static const uint64_t limits[] = { 0, 1, 2, 3, 4, 5, 7, 8, 9, 10, 15, 16, 255, 256, 0x1000, 0xFFFFFF, 0x1000000, 99999999, 100000000, 0x7FFFFFF, 0x8000000,
+        0xFFFFFFFFFu, 0x1000000000u, 0xFFFFFFFFFFFFu, 1ull << 63, UINT64_MAX };
+    unsigned most = facch ? FACCH_NUMBERS : NCH_NUMBERS;
+    uint64_t numbers[NCH_NUMBERS];
+    if ((facch ? sides[0]->facch_numbers : sides[0]->nch_numbers)(m->octets, m->n, numbers, most) != 0)
         return 1;
-    if (!same_writing(sides, n_sides, numbers, m->n))
+    if (!same_writing(sides, n_sides, facch, numbers, m->n))
         return 0;
-    if (one_in(d, 2))
-        numbers[below(d, FACCH_NUMBERS)] = limits[below(d, sizeof limits / sizeof *limits)];
-    if (one_in(d, 4))
-        numbers[below(d, FACCH_NUMBERS)] = limits[below(d, sizeof limits / sizeof *limits)];
-    return same_writing(sides, n_sides, numbers, below(d, 26));
+    for (unsigned changes = below(d, 3); changes; changes--) /* half of them in the first numbers, where a call stands */
+        numbers[below(d, one_in(d, 2) ? 15 : most)] = limits[below(d, sizeof limits / sizeof *limits)];
+    return same_writing(sides, n_sides, facch, numbers, facch ? below(d, 26) : one_in(d, 20) ? below(d, 26) : 20);
 }
 
 unsigned messages_alike(const struct side *const *sides, unsigned n_sides, uint64_t seed, unsigned messages)
@@ -120,7 +155,7 @@ unsigned messages_alike(const struct side *const *sides, unsigned n_sides, uint6
     for (unsigned i = 0; i < messages; i++) {
         int facch = one_in(&d, 3);
         struct message m = facch ? random_facch(&d, keys, 6) : random_nch(&d, keys, 6);
-        if (!same_reading(sides, n_sides, facch, m.octets, m.n) || (facch && !same_writings(sides, n_sides, &d, &m)))
+        if (!same_reading(sides, n_sides, facch, m.octets, m.n) || !same_writings(sides, n_sides, &d, facch, &m))
             return i;
     }
     return messages;

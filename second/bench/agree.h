@@ -12,10 +12,10 @@ int same_answers(const struct side *const *sides, uint8_t *const *states, unsign
 /* One message through every reader there is: refusal, every number, bits used. */
 int same_reading(const struct side *const *sides, unsigned n_sides, int facch, const uint8_t *octets, size_t n);
 
-/* Thirty numbers through every FACCH writer, into so many octets: refusal, and the octets, also where it is refused. */
-int same_writing(const struct side *const *sides, unsigned n_sides, const uint64_t *numbers, size_t n);
+/* The numbers of a record through every writer, into so many octets: refusal, and the octets, also where it is refused. */
+int same_writing(const struct side *const *sides, unsigned n_sides, int facch, const uint64_t *numbers, size_t n);
 
-/* Random messages through every reader, what is read of the FACCH through every writer, and random event sequences through every receiver. Each returns how many went well; it stops at the first that did not. */
+/* Random messages through every reader, what is read of them through every writer, and random event sequences through every receiver. Each returns how many went well; it stops at the first that did not. */
 unsigned messages_alike(const struct side *const *sides, unsigned n_sides, uint64_t seed, unsigned messages);
 unsigned sequences_alike(const struct side *const *sides, unsigned n_sides, uint64_t seed, unsigned sequences, unsigned events);
 
@@ -28,7 +28,7 @@ extern unsigned long uplink_seen[5];
 /* How often each refusal and each told number came up in the random sequences, and beside 2 and 3 whether the call can be followed. */
 extern unsigned long refusals_seen[16], told_seen[9], follow_seen[4];
 
-/* How often somebody was paged in them, and how often the FACCH writers refused with each number. */
-extern unsigned long paged_seen, writer_refusals_seen[16];
+/* How often somebody was paged in them, and how often the writers of the NCH and of the FACCH refused with each number. */
+extern unsigned long paged_seen, writer_refusals_seen[2][16];
 
 #endif

@@ -30,17 +30,18 @@
 extern const struct side *const library;
 
 enum { KEYS = 50, FOREIGN = 123456, FIRST_TICK = 1000, TIMER = 60000, RUN = 2000, COUNTED = 10, LIMIT = 10 };
-enum kind { TICK, BIT_22, NCH, FACCH, PCH, WRITE_FACCH, UPLINK_WAITS, UPLINK_TURNS, YARD_TICK, YARD_NCH, READ_NCH, READ_FACCH };
-enum { FACCH_NUMBERS = 30 };
+enum { STATE = 1 << 15, FRESH = 32, MANY = 10000 };
+enum kind { TICK, BIT_22, NCH, FACCH, PCH, JOINED, RESELECTED, WRITE_NCH, WRITE_FACCH, UPLINK_WAITS, UPLINK_TURNS, YARD_TICK, YARD_NCH, READ_NCH, READ_FACCH };
 
-/* A row of the table: a receiver that holds so many halves, or a yard set that shows so many calls, and one or two messages handed in by turns. What is written is a message that was read. */
+/* A row of the table: a receiver that holds so many halves, or a yard set that shows so many calls, and one or two messages handed in by turns. What is written is a message that was read.
+ * Where the event drops the halves, each of FRESH receivers gets one. */
 struct row {
     const char *name;
     enum kind kind;
     unsigned halves;
     int spread;
     struct message messages[2];
-    uint64_t record[FACCH_NUMBERS];
+    uint64_t record[NCH_NUMBERS];
 };
 
 /* Who runs a row: a side, its readers into numbers, or readers into a record. */
@@ -52,34 +53,50 @@ struct runner {
 
 static uint32_t keys[KEYS], sets[KEYS];
 static uint8_t *working;
-static _Alignas(64) uint64_t numbers[106];
+static _Alignas(64) uint64_t numbers[NCH_NUMBERS];
 static _Alignas(64) uint8_t written[23];
 static _Alignas(64) struct plain_nch nch_record;
 static _Alignas(64) struct plain_facch facch_record;
 
 /* ---- Rows ---- */
 
-enum { ROWS = 96 };
+enum { ROWS = 128 };
 static struct row rows[ROWS];
 static unsigned n_rows, n_event_rows;
 
 static void add(const char *name, enum kind kind, unsigned halves, int spread, struct message a, struct message b)
 {
-    rows[n_rows++] = (struct row){ name, kind, halves, spread, { a, b }, { 0 } };
+    struct row *r = &rows[n_rows++];
+    *r = (struct row){ name, kind, halves, spread, { a, b }, { 0 } };
+    if (kind == WRITE_NCH)
+        plain_gcc.nch_numbers(a.octets, a.n, r->record, NCH_NUMBERS);
     if (kind == WRITE_FACCH)
-        plain_gcc.facch_numbers(a.octets, a.n, rows[n_rows - 1].record, FACCH_NUMBERS);
+        plain_gcc.facch_numbers(a.octets, a.n, r->record, FACCH_NUMBERS);
+}
+
+/* The messages that are read, and their records written: with their names behind the words, of the NCH or of the FACCH. */
+static void add_messages(const char *const *names, enum kind nch, enum kind facch)
+{
+    uint32_t key = keys[KEYS - 1];
+    const struct message all[7] = { clear_call(key), first_half(key), second_half_reduced(key), two_calls(key, keys[0]), facch_first_half(key), facch_second_half(key), facch_page() };
+    for (unsigned i = 0; i < 7; i++)
+        add(names[i], i < 4 ? nch : facch, 0, 0, all[i], all[i]);
 }
 
 /* The measured key is the last one, so that every search for it goes over all keys. */
 static void make_rows(void)
 {
+    static const char *const written_names[7] = { "writing NCH: a clear call", "writing NCH: a first half", "writing NCH: a second half by reduced reference",
+        "writing NCH: two calls with both releases", "writing FACCH: a first half", "writing FACCH: a second half", "writing FACCH: a page" };
+    static const char *const read_names[7] = { "NCH: a clear call", "NCH: a first half", "NCH: a second half by reduced reference", "NCH: two calls with both releases",
+        "FACCH: a first half", "FACCH: a second half", "FACCH: a page" };
     static const struct { unsigned halves; int spread; } held[] = { { 0, 0 }, { 4, 0 }, { 10, 0 }, { 50, 0 }, { 98, 0 }, { 4, 1 }, { 10, 1 } };
     struct message none = { { 0 }, 0, { 0 } };
     uint32_t key = keys[KEYS - 1];
     for (unsigned i = 0; i < sizeof held / sizeof *held; i++)
         add("tick", TICK, held[i].halves, held[i].spread, none, none);
-    for (unsigned i = 0; i < 5; i++)
-        add("bit 22 of COUNT, 0 and 1 by turns", BIT_22, held[i].halves, 0, none, none);
+    for (unsigned i = 0; i < sizeof held / sizeof *held; i++)
+        add("bit 22 of COUNT, 0 and 1 by turns", BIT_22, held[i].halves, held[i].spread, none, none);
     for (unsigned i = 0; i < 5; i++)
         add("NCH, no entry of ours", NCH, held[i].halves, 0, clear_call(FOREIGN), clear_call(FOREIGN));
     for (unsigned i = 0; i < 5; i++)
@@ -94,8 +111,11 @@ static void make_rows(void)
         add("PCH, no entry of ours", PCH, held[i].halves, 0, pch_clear_call(FOREIGN), pch_clear_call(FOREIGN));
     for (unsigned i = 0; i < 5; i++)
         add("PCH, a half stored and joined in turn", PCH, held[i].halves, 0, pch_first_half(key), pch_second_half(key));
-    add("writing FACCH: a first half", WRITE_FACCH, 0, 0, facch_first_half(key), facch_first_half(key));
-    add("writing FACCH: a page", WRITE_FACCH, 0, 0, facch_page(), facch_page());
+    for (unsigned i = 0; i < sizeof held / sizeof *held; i++)
+        add("joined, under another key, which drops all halves", JOINED, held[i].halves, held[i].spread, none, none);
+    for (unsigned i = 0; i < sizeof held / sizeof *held; i++)
+        add("reselected, which drops those of the NCH", RESELECTED, held[i].halves, held[i].spread, none, none);
+    add_messages(written_names, WRITE_NCH, WRITE_FACCH);
     add("uplink, a tick while a request waits", UPLINK_WAITS, 0, 0, none, none);
     add("uplink, free, request, busy and request by turns", UPLINK_TURNS, 0, 0, none, none);
     uint32_t last = yard_keys[YARD_KEYS - 1];
@@ -106,13 +126,7 @@ static void make_rows(void)
         add("yard set, so many calls shown: NCH, a half stored and joined in turn", YARD_NCH, calls, 0, first_half(last), second_half_reduced(last));
     }
     n_event_rows = n_rows;
-    add("NCH: a clear call", READ_NCH, 0, 0, clear_call(key), clear_call(key));
-    add("NCH: a first half", READ_NCH, 0, 0, first_half(key), first_half(key));
-    add("NCH: a second half by reduced reference", READ_NCH, 0, 0, second_half_reduced(key), second_half_reduced(key));
-    add("NCH: two calls with both releases", READ_NCH, 0, 0, two_calls(key, keys[0]), two_calls(key, keys[0]));
-    add("FACCH: a first half", READ_FACCH, 0, 0, facch_first_half(key), facch_first_half(key));
-    add("FACCH: a second half", READ_FACCH, 0, 0, facch_second_half(key), facch_second_half(key));
-    add("FACCH: a page", READ_FACCH, 0, 0, facch_page(), facch_page());
+    add_messages(read_names, READ_NCH, READ_FACCH);
 }
 
 /* The uplink has a state of its own. */
@@ -120,10 +134,27 @@ static int is_uplink(const struct row *r) { return r->kind == UPLINK_WAITS || r-
 
 static int is_yard(const struct row *r) { return r->kind == YARD_TICK || r->kind == YARD_NCH; }
 
+/* Each event goes to a receiver of its own. */
+static int is_fresh(const struct row *r) { return r->kind == JOINED || r->kind == RESELECTED; }
+
+/* The next receiver begins with a line of the cache. */
+static size_t stride(const struct side *s) { return (s->state_length + 63) & ~(size_t)63; }
+
 static uint32_t uplink_event(const struct side *s, uint8_t *state, const struct row *r, unsigned i)
 {
     static const unsigned turns[4] = { UPLINK_FREE, UPLINK_REQUEST, UPLINK_BUSY, UPLINK_REQUEST };
     return s->uplink[r->kind == UPLINK_WAITS ? UPLINK_TICK : turns[i % 4]](state, s->uplink_length, FIRST_TICK + i);
+}
+
+/* The place of a half of a row: the even ones are of the NCH. */
+static unsigned place_of(const struct row *r, unsigned i) { return r->spread ? i * 98 / r->halves : i; }
+
+static unsigned nch_halves(const struct row *r)
+{
+    unsigned n = 0;
+    for (unsigned i = 0; i < r->halves; i++)
+        n += place_of(r, i) % 2 == 0;
+    return n;
 }
 
 /* A receiver of fifty keys that holds the row's halves: the first places of both channels, or places spread over all; an uplink, or a yard set. */
@@ -138,7 +169,7 @@ static int fill(const struct side *s, uint8_t *state, const struct row *r)
     if (s->setup(state, s->state_length, keys, KEYS, sets, KEYS, FIRST_TICK, TIMER, TIMER, TIMER) != 0)
         return 0;
     for (unsigned i = 0; i < r->halves; i++) {
-        unsigned place = r->spread ? i * 98 / r->halves : i;
+        unsigned place = place_of(r, i);
         uint32_t key = keys[place / 2];
         struct message m = place % 2 ? facch_first_half(key) : first_half(key);
         uint64_t told = 0;
@@ -153,11 +184,36 @@ static int fill(const struct side *s, uint8_t *state, const struct row *r)
 
 /* ---- Runs ---- */
 
+/* One event for each of n receivers that stand behind each other; two messages by turns of all receivers. */
+static void run_in_turn(const struct side *s, const struct row *r, uint8_t *state, unsigned n, unsigned turn)
+{
+    const struct message *m = &r->messages[turn % 2];
+    uint32_t tick = FIRST_TICK + turn;
+    size_t length = s->state_length, step = stride(s);
+    for (unsigned i = 0; i < n; i++, state += step)
+        switch (r->kind) {
+        case NCH: s->nch(state, length, tick, m->octets, m->n); break;
+        case FACCH: s->facch(state, length, tick, m->octets, m->n); break;
+        case JOINED: s->joined(state, length, tick, FOREIGN); break;
+        case RESELECTED: s->reselected(state, length, tick); break;
+        default: s->tick(state, length, tick);
+        }
+}
+
+static uint32_t write_row(const struct side *s, const struct row *r)
+{
+    return r->kind == WRITE_NCH ? s->nch_write(r->record, NCH_NUMBERS, written, 20) : s->facch_write(r->record, FACCH_NUMBERS, written, sizeof written);
+}
+
 static void run(const struct runner *w, const struct row *r, unsigned n)
 {
     const struct message *a = &r->messages[0], *b = &r->messages[1];
     const struct side *s = w->side;
     switch (r->kind) {
+    case JOINED:
+    case RESELECTED:
+        run_in_turn(s, r, working, n, 0);
+        break;
     case TICK:
         for (unsigned i = 0; i < n; i++)
             s->tick(working, s->state_length, FIRST_TICK + i);
@@ -184,9 +240,10 @@ static void run(const struct runner *w, const struct row *r, unsigned n)
             s->pch(working, s->state_length, FIRST_TICK + i + 1, b->entry, 14);
         }
         break;
+    case WRITE_NCH:
     case WRITE_FACCH:
         for (unsigned i = 0; i < n; i++)
-            s->facch_write(r->record, FACCH_NUMBERS, written, sizeof written);
+            write_row(s, r);
         break;
     case UPLINK_WAITS:
     case UPLINK_TURNS:
@@ -208,7 +265,7 @@ static void run(const struct runner *w, const struct row *r, unsigned n)
             if (w->readers)
                 w->readers->nch(a->octets, a->n, &nch_record);
             else
-                s->nch_numbers(a->octets, a->n, numbers, 106);
+                s->nch_numbers(a->octets, a->n, numbers, NCH_NUMBERS);
         break;
     case READ_FACCH:
         for (unsigned i = 0; i < n; i++)
@@ -241,12 +298,41 @@ static void check(int good, const char *what)
         printf("failed: %s\n", what);
 }
 
+/* Event j of a row that has a receiver or a yard set. */
+static uint32_t row_event(const struct side *s, uint8_t *state, const struct row *r, uint32_t j)
+{
+    const struct message *m = &r->messages[j % 2];
+    uint32_t tick = FIRST_TICK + j;
+    switch (r->kind) {
+    case TICK: return s->tick(state, s->state_length, tick);
+    case BIT_22: return s->bit_22(state, s->state_length, tick, j % 2);
+    case NCH: return s->nch(state, s->state_length, tick, m->octets, m->n);
+    case FACCH: return s->facch(state, s->state_length, tick, m->octets, m->n);
+    case PCH: return s->pch(state, s->state_length, tick, m->entry, 14);
+    case JOINED: return s->joined(state, s->state_length, tick, FOREIGN);
+    case RESELECTED: return s->reselected(state, s->state_length, tick);
+    case YARD_TICK: return s->yard_tick(state, s->yard_length, tick);
+    default: return s->yard_nch(state, s->yard_length, tick, m->octets, m->n);
+    }
+}
+
+/* That it measures what it says. */
+static int is_as_named(const struct side *s, const uint8_t *state, const struct row *r, uint32_t j)
+{
+    uint64_t told = 0, dropped = 0;
+    s->read(state, s->state_length, 0, 4, &told);
+    s->read(state, s->state_length, 0, 1, &dropped);
+    if (is_fresh(r))
+        return dropped == (j ? 0 : r->kind == JOINED ? r->halves : nch_halves(r));
+    return !strstr(r->name, "in turn") || told == (j % 2 ? 3 : 4);
+}
+
 /* Every measured row, for twenty events, with all answers compared after each. */
 static void check_rows(const struct side *const *sides, unsigned n_sides)
 {
     uint8_t *states[MOST_SIDES];
     for (unsigned k = 0; k < n_sides; k++)
-        states[k] = aligned_alloc(64, 1 << 15);
+        states[k] = aligned_alloc(64, STATE);
     for (unsigned i = 0; i < n_rows; i++) {
         const struct row *r = &rows[i];
         int good = 1;
@@ -258,8 +344,8 @@ static void check_rows(const struct side *const *sides, unsigned n_sides)
                 good = same_reading(sides, n_sides, r->kind == READ_FACCH, m->octets, m->n);
                 continue;
             }
-            if (r->kind == WRITE_FACCH) {
-                good = same_writing(sides, n_sides, r->record, sizeof written) && sides[0]->facch_write(r->record, FACCH_NUMBERS, written, sizeof written) == 0;
+            if (r->kind == WRITE_NCH || r->kind == WRITE_FACCH) {
+                good = same_writing(sides, n_sides, r->kind == WRITE_FACCH, r->record, m->n) && write_row(sides[0], r) == 0;
                 continue;
             }
             if (is_uplink(r)) {
@@ -268,22 +354,10 @@ static void check_rows(const struct side *const *sides, unsigned n_sides)
                     good = good && uplink_event(sides[k], states[k], r, j) == due;
                 continue;
             }
-            for (unsigned k = 0; k < n_sides; k++) {
-                const struct side *s = sides[k];
-                uint32_t refusal = r->kind == TICK ? s->tick(states[k], s->state_length, FIRST_TICK + j)
-                    : r->kind == BIT_22 ? s->bit_22(states[k], s->state_length, FIRST_TICK + j, j % 2)
-                    : r->kind == YARD_TICK ? s->yard_tick(states[k], s->yard_length, FIRST_TICK + j)
-                    : r->kind == YARD_NCH ? s->yard_nch(states[k], s->yard_length, FIRST_TICK + j, m->octets, m->n)
-                    : r->kind == PCH ? s->pch(states[k], s->state_length, FIRST_TICK + j, m->entry, 14)
-                    : (r->kind == NCH ? s->nch : s->facch)(states[k], s->state_length, FIRST_TICK + j, m->octets, m->n);
-                good = good && refusal == 0;
-            }
+            for (unsigned k = 0; k < n_sides; k++)
+                good = row_event(sides[k], states[k], r, j) == 0 && good;
             good = good && same_answers(sides, states, n_sides, r->name) && (!is_yard(r) || same_calls(sides, states, n_sides, r->name));
-            if (good && strstr(r->name, "in turn")) { /* that it measures what it says */
-                uint64_t told = 0;
-                sides[0]->read(states[0], sides[0]->state_length, 0, 4, &told);
-                good = told == (j % 2 ? 3 : 4);
-            }
+            good = good && is_as_named(sides[0], states[0], r, j);
         }
         check(good, r->name);
     }
@@ -311,11 +385,13 @@ static int answers_agree(uint64_t seed, unsigned messages, unsigned sequences)
     for (unsigned i = 0; i < 9; i++)
         printf(" %u: %lu%s", i, told_seen[i], i == 8 ? "." : ",");
     printf(" Beside 2 and 3: no key %lu, no count %lu, follow %lu. Somebody was paged %lu times.\n", follow_seen[1], follow_seen[2], follow_seen[3], paged_seen);
-    printf("Refusals met in writing FACCH messages:");
-    for (unsigned i = 0, n = 0; i < 16; i++)
-        if (writer_refusals_seen[i])
-            printf("%s %u: %lu", n++ ? "," : "", i, writer_refusals_seen[i]);
-    printf(".\n");
+    for (int facch = 0; facch < 2; facch++) {
+        printf("Refusals met in writing %s messages:", facch ? "FACCH" : "NCH");
+        for (unsigned i = 0, n = 0; i < 16; i++)
+            if (writer_refusals_seen[facch][i])
+                printf("%s %u: %lu", n++ ? "," : "", i, writer_refusals_seen[facch][i]);
+        printf(".\n");
+    }
     printf("Requests for the uplink: granted %lu, rejected %lu, waiting %lu, already waiting %lu.\n", uplink_seen[1], uplink_seen[2], uplink_seen[3], uplink_seen[4]);
     return 1;
 }
@@ -354,7 +430,7 @@ static void prepare(void)
                 if (rows[j].halves == rows[i].halves && rows[j].spread == rows[i].spread && is_uplink(&rows[j]) == is_uplink(&rows[i]) && is_yard(&rows[j]) == is_yard(&rows[i]))
                     filled[i][k] = filled[j][k];
             if (w.name && !filled[i][k]) {
-                filled[i][k] = aligned_alloc(64, 1 << 15);
+                filled[i][k] = aligned_alloc(64, STATE);
                 fill(w.side, filled[i][k], &rows[i]);
             }
         }
@@ -362,8 +438,9 @@ static void prepare(void)
 
 static void start(unsigned i, unsigned k)
 {
-    if (filled[i][k])
-        memcpy(working, filled[i][k], is_yard(&rows[i]) ? runner_of(i, k).side->yard_length : runner_of(i, k).side->state_length);
+    struct runner w = runner_of(i, k);
+    for (unsigned j = 0; filled[i][k] && j < (is_fresh(&rows[i]) ? FRESH : 1); j++)
+        memcpy(working + j * stride(w.side), filled[i][k], is_yard(&rows[i]) ? w.side->yard_length : w.side->state_length);
 }
 
 static void measure(unsigned rounds)
@@ -374,15 +451,80 @@ static void measure(unsigned rounds)
                 struct runner w = runner_of(i, k);
                 if (!w.name)
                     continue;
+                unsigned events = is_fresh(&rows[i]) ? FRESH : RUN;
                 start(i, k);
                 run(&w, &rows[i], 20);
                 start(i, k);
                 double t = now();
-                run(&w, &rows[i], RUN);
-                t = (now() - t) / RUN;
+                run(&w, &rows[i], events);
+                t = (now() - t) / events;
                 if (round == 0 || t < best[i][k])
                     best[i][k] = t;
             }
+}
+
+/* ---- Many receivers, more than any cache holds, and each event goes to the next one ---- */
+
+enum { MANY_ROWS = 5, EVENT_RUNNERS = 3 };
+static struct row many_rows[MANY_ROWS];
+static double many_best[MANY_ROWS][EVENT_RUNNERS];
+
+static void make_many_rows(void)
+{
+    struct message none = { { 0 }, 0, { 0 } }, foreign = clear_call(FOREIGN), facch_foreign = facch_clear_call(FOREIGN);
+    uint32_t key = keys[KEYS - 1];
+    many_rows[0] = (struct row){ "10,000 receivers in turn: tick", TICK, 4, 0, { none, none }, { 0 } };
+    many_rows[1] = (struct row){ "10,000 receivers in turn: NCH, no entry of ours", NCH, 4, 0, { foreign, foreign }, { 0 } };
+    many_rows[2] = (struct row){ "10,000 receivers in turn: NCH, a half stored and joined", NCH, 4, 0, { first_half(key), second_half_reduced(key) }, { 0 } };
+    many_rows[3] = (struct row){ "10,000 receivers in turn: FACCH, no entry of ours", FACCH, 4, 0, { facch_foreign, facch_foreign }, { 0 } };
+    many_rows[4] = (struct row){ "10,000 receivers in turn: FACCH, a half stored and joined", FACCH, 4, 0, { facch_first_half(key), facch_second_half(key) }, { 0 } };
+}
+
+/* A turn of all receivers. It is timed in pieces, of which the best count, since a busy machine seldom leaves a whole turn alone. */
+enum { PIECE = 50, PIECES = MANY / PIECE };
+static void many_turn(const struct side *s, const struct row *r, uint8_t *states, unsigned turn, double *least)
+{
+    for (unsigned i = 0; i < PIECES; i++) {
+        double t = now();
+        run_in_turn(s, r, states + i * PIECE * stride(s), PIECE, turn);
+        t = now() - t;
+        if (turn < 2 || t < least[i])
+            least[i] = t;
+    }
+}
+
+/* Two turns, as often as told, by all sides one after the other. */
+static void measure_many_row(unsigned row, uint8_t *const *states, unsigned times)
+{
+    static double least[EVENT_RUNNERS][2][PIECES];
+    for (unsigned k = 0; k < EVENT_RUNNERS; k++) {
+        const struct side *s = runner_of(0, k).side;
+        for (unsigned i = 0; states[k] && i < MANY; i++)
+            if (i)
+                memcpy(states[k] + i * stride(s), states[k], s->state_length);
+            else
+                fill(s, states[k], &many_rows[row]);
+    }
+    for (unsigned turn = 0; turn < 2 * times; turn++)
+        for (unsigned k = 0; k < EVENT_RUNNERS; k++)
+            if (states[k])
+                many_turn(runner_of(0, k).side, &many_rows[row], states[k], turn, least[k][turn % 2]);
+    for (unsigned k = 0; k < EVENT_RUNNERS; k++)
+        for (unsigned i = 0; i < PIECES; i++)
+            many_best[row][k] += (least[k][0][i] + least[k][1][i]) / (2 * MANY);
+}
+
+static void measure_many(unsigned times)
+{
+    uint8_t *states[EVENT_RUNNERS] = { NULL };
+    make_many_rows();
+    for (unsigned k = 0; k < EVENT_RUNNERS; k++)
+        if (runner_of(0, k).name)
+            states[k] = aligned_alloc(64, MANY * stride(runner_of(0, k).side));
+    for (unsigned i = 0; i < MANY_ROWS; i++)
+        measure_many_row(i, states, times);
+    for (unsigned k = 0; k < EVENT_RUNNERS; k++)
+        free(states[k]);
 }
 
 /* The two marks. They differ, so that no compiler makes one function of them. */
@@ -483,17 +625,23 @@ static void beside(double x, double of)
     own(2, x / of);
 }
 
+static void print_event(const struct row *r, const double *ns)
+{
+    printf("| %s | %u%s |", r->name, r->halves, r->spread ? ", spread" : "");
+    own(1, ns[0]);
+    beside(ns[0], ns[1]);
+    beside(ns[0], ns[2]);
+    printf("\n");
+}
+
 static void print_tables(void)
 {
     printf("\nns per event; the ratio is the library's time to that of the plain implementation.\n\n");
     printf("| event | halves held | library | plain, gcc -O2 | ratio | plain, clang -O3 | ratio |\n|---|---|---|---|---|---|---|\n");
-    for (unsigned i = 0; i < n_event_rows; i++) {
-        printf("| %s | %u%s |", rows[i].name, rows[i].halves, rows[i].spread ? ", spread" : "");
-        own(1, best[i][0]);
-        beside(best[i][0], best[i][1]);
-        beside(best[i][0], best[i][2]);
-        printf("\n");
-    }
+    for (unsigned i = 0; i < n_event_rows; i++)
+        print_event(&rows[i], best[i]);
+    for (unsigned i = 0; i < MANY_ROWS; i++)
+        print_event(&many_rows[i], many_best[i]);
     printf("\nns per reading. The library reads into an array of numbers, 106 for the NCH and 30 for the FACCH; plain reads into a record, and into such an array.\n\n");
     printf("| reading | library | record, gcc -O2 | ratio | record, clang -O3 | ratio | numbers, gcc -O2 | ratio | numbers, clang -O3 | ratio | bit vector | ratio |\n");
     printf("|---|---|---|---|---|---|---|---|---|---|---|---|\n");
@@ -547,7 +695,7 @@ int main(int argc, char **argv)
     }
     for (unsigned i = 0; i < KEYS; i++)
         keys[i] = (40000 + 997 * i) * 2 + i % 2, sets[i] = 0xFFFE;
-    working = aligned_alloc(64, 1 << 15);
+    working = aligned_alloc(64, FRESH * STATE);
     make_rows();
     prepare();
     if (mode == COUNT) {
@@ -566,6 +714,8 @@ int main(int argc, char **argv)
         print_stack();
     if (mode == QUICK || mode == TABLES)
         measure(mode == QUICK ? 25 : 400);
+    if (mode == TABLES)
+        measure_many(60);
     if (mode == QUICK)
         guard();
     if (mode == TABLES)

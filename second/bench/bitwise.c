@@ -104,7 +104,7 @@ static uint32_t get_release_6(struct bit_vector *v, struct plain_nch *m)
         uint32_t reference = (uint32_t)get_field(v, 27), vgcs = (uint32_t)get_field(v, 1);
         if (reference > 99999999)
             return REFERENCE;
-        m->reduced[m->n_reduced++] = reference * 2 + vgcs;
+        m->reduced[m->n_reduced++] = (struct plain_reduced){ reference, vgcs };
     }
     while (get_field(v, 1)) {
         struct plain_random x = { 0, 0, 0 };
@@ -252,4 +252,4 @@ static uint32_t get_facch(const uint8_t *octets, size_t n, struct plain_facch *m
     return refusal;
 }
 
-const struct readers bitwise_readers = { get_nch, get_facch, NULL, NULL };
+const struct readers bitwise_readers = { get_nch, get_facch };

@@ -9,7 +9,7 @@ const struct side *const library = NULL;
 static const struct side table = {
     "library", ASTERNHAKEN_STATE_LENGTH, asternhaken_setup, asternhaken_nch, asternhaken_facch, asternhaken_pch, asternhaken_joined, asternhaken_reselected,
     asternhaken_handed_over, asternhaken_reconfigured, asternhaken_left_idle, asternhaken_bit_22, asternhaken_tick, asternhaken_read, asternhaken_nch_read, asternhaken_facch_read,
-    asternhaken_facch_write, ASTERNHAKEN_UPLINK_LENGTH, asternhaken_uplink_setup,
+    asternhaken_nch_write, asternhaken_facch_write, ASTERNHAKEN_UPLINK_LENGTH, asternhaken_uplink_setup,
     { asternhaken_uplink_free, asternhaken_uplink_busy, asternhaken_uplink_request, asternhaken_uplink_tick },
     ASTERNHAKEN_YARD_LENGTH, asternhaken_yard_setup, asternhaken_yard_nch, asternhaken_yard_reselected, asternhaken_yard_tick, asternhaken_yard_count, asternhaken_yard_call_numbers
 };

@@ -1,5 +1,5 @@
-/* The competent plain implementation: the octets of a message as big-endian words and its fields by shifts; a receiver that is a struct, with one 64-bit mask of
- * held places for each channel, so that empty places are never walked over. Written from the documents; it answers as the library does.
+/* The competent plain implementation: a message as 64-bit words and its fields by shifts, in plain_readers.h and plain_writers.h; here a receiver that is a struct, with one 64-bit mask of
+ * held places for each channel, so that empty places are never walked over, its records packed into a few words. Written from the documents; it answers as the library does.
  *
  * Built once for each compiler: PLAIN names its tables (plain_gcc, plain_clang). */
 #include "plain.h"
@@ -9,7 +9,7 @@
 #ifndef PLAIN
 #define PLAIN plain_gcc
 #endif
-#define INLINE static inline __attribute__((always_inline)) /* so that the place in the message stays in a register */
+#define INLINE static inline __attribute__((always_inline)) /* so that places and records stay in registers */
 #define JOIN_(a, b) a##b
 #define JOIN(a, b) JOIN_(a, b)
 
@@ -20,690 +20,68 @@ enum {
 enum { NO_KEY = 1, NO_COUNT, FOLLOW };
 enum { NOT_OURS, CLEAR, ONE_PIECE, JOINED, HALF_STORED, HALF_HELD, NO_CHANNEL, UNUSABLE, SECOND_BEFORE_FIRST };
 enum { NCH, FACCH, PCH, CHANNELS };
-enum { KEYS = 50, ENTRIES = 9, PCH_NUMBERS = 14, FACCH_NUMBERS = 30, LONGEST = 60000, LAST_REFERENCE = 99999999, LAST_KEY = 199999999, NLN_UNKNOWN = 4, NONE_KEPT = 4, BIT_UNKNOWN = 2 };
+enum { KEYS = 50, KEY_PLACES = 64, ENTRIES = 9, PCH_NUMBERS = 14, LONGEST = 60000, LAST_REFERENCE = 99999999, LAST_KEY = 199999999, NLN_UNKNOWN = 4, NONE_KEPT = 4, BIT_UNKNOWN = 2 };
 
-/* ---- Bits ---- */
-
-/* A message of at most 24 octets, first bit on top of the first word; the fourth word is 0, so that a field may always be put together from two. */
-struct bits {
-    uint64_t words[4];
-    unsigned at, size, ran_out; /* what bits that are missing here are refused with */
-};
-
-static inline uint64_t word_at(const uint8_t *p)
-{
-    uint64_t w;
-    memcpy(&w, p, 8);
-#if __BYTE_ORDER__ == __ORDER_LITTLE_ENDIAN__
-    w = __builtin_bswap64(w);
-#endif
-    return w;
-}
-
-static inline unsigned left(const struct bits *b)
-{
-    return b->size - b->at;
-}
-
-/* A field is missing that begins so many bits ahead. */
-static inline uint32_t missing(const struct bits *b, unsigned ahead)
-{
-    return b->ran_out | (b->at + ahead) << 8;
-}
-
-/* The next n bits, 1 to 64; the caller has seen that they are there. */
-static inline uint64_t take(struct bits *b, unsigned n)
-{
-    unsigned i = b->at >> 6, shift = b->at & 63;
-    uint64_t window = b->words[i] << shift | b->words[i + 1] >> 1 >> (63 - shift);
-    b->at += n;
-    return window >> (64 - n);
-}
-
-/* The next bit, which the caller has seen to be there. */
-static inline uint8_t flag(struct bits *b)
-{
-    uint64_t word = b->words[b->at >> 6] << (b->at & 63);
-    b->at++;
-    return (uint8_t)(word >> 63);
-}
-
-/* The next bit, 1 where it is H and 0 where it is L. */
-static inline uint8_t high(struct bits *b)
-{
-    uint8_t padding = 0x2B >> (7 - (b->at & 7)) & 1;
-    return flag(b) ^ padding;
-}
-
-/* ---- Readers ---- */
-
-INLINE uint32_t read_description(struct bits *b, struct plain_call *c)
-{
-    if (left(b) < 25)
-        return missing(b, left(b) < 24 ? 0 : 24);
-    uint64_t v = take(b, 25);
-    c->described = 1;
-    c->channel = (uint32_t)(v >> 1);
-    c->hops = v & 1;
-    if ((v >> 13 & 1) != (v & 1)) /* bit 11 of the 24 is the hopping bit */
-        return HOPPING;
-    if (!c->hops)
-        return ACCEPTED;
-    if (left(b) < 1)
-        return missing(b, 0);
-    c->short_list = flag(b);
-    if (c->short_list) {
-        if (left(b) < 64)
-            return missing(b, 0);
-        c->frequencies = take(b, 64);
-        return ACCEPTED;
-    }
-    if (left(b) < 8)
-        return missing(b, 0);
-    unsigned n = (unsigned)take(b, 8);
-    if (n < 1 || n > 8)
-        return ALLOCATION_LENGTH;
-    if (left(b) < 8 * n)
-        return missing(b, 0);
-    c->allocation_octets = (uint8_t)n;
-    c->frequencies = take(b, 8 * n);
-    return ACCEPTED;
-}
-
-INLINE uint32_t read_call(struct bits *b, struct plain_call *c)
-{
-    if (left(b) < 36)
-        return missing(b, 0);
-    uint64_t v = take(b, 36);
-    c->reference = (uint32_t)(v >> 9);
-    c->vgcs = v >> 8 & 1;
-    c->acknowledged = v >> 7 & 1;
-    c->priority = v >> 4 & 7;
-    c->cipher_key_number = v & 15;
-    if (c->reference > LAST_REFERENCE)
-        return REFERENCE;
-    if (left(b) < 1)
-        return missing(b, 0);
-    return flag(b) ? read_description(b, c) : ACCEPTED;
-}
-
-/* The random entries; those past the record's places are only counted. */
-static uint32_t read_random(struct bits *b, struct plain_nch *m)
-{
-    for (;;) {
-        if (left(b) < 1)
-            return missing(b, 0);
-        if (!flag(b))
-            return ACCEPTED;
-        if (left(b) < 2)
-            return missing(b, left(b));
-        unsigned v = (unsigned)take(b, 2);
-        uint64_t vstk_rand = 0;
-        if (v & 1) {
-            if (left(b) < 36)
-                return missing(b, 0);
-            vstk_rand = take(b, 36);
-        }
-        if (m->n_random < 9)
-            m->random[m->n_random] = (struct plain_random){ vstk_rand, v >> 1 & 1, v & 1 };
-        m->n_random++;
-    }
-}
-
-static uint32_t read_release_6(struct bits *b, struct plain_nch *m)
-{
-    m->release_6 = 1;
-    b->ran_out = RAN_OUT_6;
-    if (left(b) < 1)
-        return missing(b, 0);
-    m->counted = flag(b);
-    if (m->counted) {
-        if (left(b) < 2)
-            return missing(b, 0);
-        m->cell_global_count = (uint8_t)take(b, 2);
-    }
-    for (;;) {
-        if (left(b) < 1)
-            return missing(b, 0);
-        if (!flag(b))
-            break;
-        if (left(b) < 28) /* so there are never more than five */
-            return missing(b, 0);
-        uint32_t key = (uint32_t)take(b, 28);
-        if (key > LAST_KEY)
-            return REFERENCE;
-        m->reduced[m->n_reduced++] = key;
-    }
-    return read_random(b, m);
-}
-
-/* One AMR part: a flag and 4 bits. */
-INLINE uint32_t read_amr(struct bits *b, uint8_t *given, uint8_t *config)
-{
-    if (left(b) < 1)
-        return missing(b, 0);
-    *given = flag(b);
-    if (!*given)
-        return ACCEPTED;
-    if (left(b) < 4)
-        return missing(b, 0);
-    *config = (uint8_t)take(b, 4);
-    return ACCEPTED;
-}
-
-static uint32_t read_release_7(struct bits *b, struct plain_nch *m)
-{
-    m->release_7 = 1;
-    b->ran_out = RAN_OUT_7;
-    for (;;) {
-        if (left(b) < 1)
-            return missing(b, 0);
-        if (!flag(b))
-            break;
-        if (left(b) < 1)
-            return missing(b, 0);
-        uint8_t mark = flag(b);
-        if (m->n_marks < 4)
-            m->marks[m->n_marks] = mark;
-        m->n_marks++;
-    }
-    if (left(b) < 1)
-        return missing(b, 0);
-    m->uplink_given = flag(b);
-    if (m->uplink_given) {
-        if (left(b) < 1)
-            return missing(b, 0);
-        m->uplink_access = flag(b);
-    }
-    if (left(b) < 1)
-        return missing(b, 0);
-    m->amr = flag(b);
-    if (m->amr) {
-        uint32_t refusal = read_amr(b, &m->fr_amr_given, &m->fr_amr_config);
-        if (!refusal)
-            refusal = read_amr(b, &m->hr_amr_given, &m->hr_amr_config);
-        if (refusal)
-            return refusal;
-    }
-    if (left(b) < 1)
-        return missing(b, 0);
-    m->sms = flag(b);
-    if (m->sms) {
-        if (left(b) < 2)
-            return missing(b, left(b));
-        unsigned v = (unsigned)take(b, 2);
-        m->sms_confidentiality = v >> 1 & 1;
-        m->sms_privacy = v & 1;
-    }
-    return ACCEPTED;
-}
-
-static uint32_t read_nch_parts(struct bits *b, struct plain_nch *m)
-{
-    uint32_t refusal;
-    unsigned ciphered = 0, described = 0;
-
-    m->nln_given = flag(b);
-    if (m->nln_given)
-        m->nln = (uint8_t)take(b, 2);
-    for (;;) {
-        if (left(b) < 1)
-            return missing(b, 0);
-        if (!flag(b))
-            break;
-        struct plain_call *c = &m->calls[m->n_calls]; /* a fifth call has not bits enough, so nothing is written there */
-        refusal = read_call(b, c);
-        if (refusal)
-            return refusal;
-        ciphered += c->cipher_key_number != 0;
-        described += c->described;
-        m->n_calls++;
-    }
-    if (left(b) && high(b)) {
-        refusal = read_release_6(b, m);
-        if (refusal)
-            return refusal;
-    }
-    if (left(b) && high(b)) {
-        refusal = read_release_7(b, m);
-        if (refusal)
-            return refusal;
-    }
-    m->used = (uint8_t)b->at;
-    if (m->n_random > ciphered + m->n_reduced)
-        return RANDOM_ENTRIES;
-    if (m->n_marks > described)
-        return EMERGENCY_MARKS;
-    return ACCEPTED;
-}
-
-static uint32_t read_nch(const uint8_t *octets, size_t n, struct plain_nch *m)
-{
-    memset(m, 0, sizeof *m);
-    if (n != 20)
-        return MESSAGE_LENGTH;
-    struct bits b = { { word_at(octets), word_at(octets + 8), word_at(octets + 12) << 32, 0 }, 0, 160, RAN_OUT };
-    uint32_t refusal = read_nch_parts(&b, m);
-    if (refusal)
-        memset(m, 0, sizeof *m);
-    return refusal;
-}
-
-INLINE uint32_t read_page(struct bits *b, struct plain_page *p)
-{
-    if (left(b) < 8)
-        return missing(b, 0);
-    unsigned n = (unsigned)take(b, 8);
-    if (n < 1 || n > 9)
-        return IDENTITY_LENGTH;
-    if (left(b) < 8 * n)
-        return missing(b, 0);
-    p->identity_octets = (uint8_t)n;
-    p->first_octet = (uint8_t)take(b, 8);
-    if (n > 1)
-        p->other_octets = take(b, 8 * (n - 1));
-    p->channel_first = (uint8_t)take(b, 2); /* an identity ends one bit into an octet, so the next seven bits are there */
-    p->priority_given = flag(b);
-    if (p->priority_given)
-        p->priority = (uint8_t)take(b, 3);
-    return ACCEPTED;
-}
-
-static uint32_t read_facch_parts(struct bits *b, struct plain_facch *m)
-{
-    m->paging = flag(b);
-    uint32_t refusal = m->paging ? read_page(b, &m->page) : read_call(b, &m->call);
-    if (refusal)
-        return refusal;
-    if (left(b) && high(b)) {
-        m->release_6 = 1;
-        b->ran_out = RAN_OUT_6;
-        if (left(b) < 1)
-            return missing(b, 0);
-        m->counted = flag(b);
-        if (m->counted) {
-            if (left(b) < 3)
-                return missing(b, left(b) < 2 ? 0 : 2);
-            unsigned v = (unsigned)take(b, 3);
-            m->cell_global_count = v >> 1 & 3;
-            m->b22_count = v & 1;
-        }
-        if (left(b) < 1)
-            return missing(b, 0);
-        m->rand_given = flag(b);
-        if (m->rand_given) {
-            if (left(b) < 36)
-                return missing(b, 0);
-            m->vstk_rand = take(b, 36);
-        }
-    }
-    if (left(b) && high(b)) {
-        m->release_7 = 1;
-        b->ran_out = RAN_OUT_7;
-        if (left(b) < 3)
-            return missing(b, left(b));
-        m->uplink_access = high(b);
-        m->emergency = high(b);
-        m->cause_given = flag(b);
-        if (m->cause_given) {
-            if (left(b) < 1)
-                return missing(b, 0);
-            m->cause = flag(b);
-        }
-    }
-    m->used = (uint8_t)b->at;
-    return ACCEPTED;
-}
-
-static uint32_t read_facch(const uint8_t *octets, size_t n, struct plain_facch *m)
-{
-    memset(m, 0, sizeof *m);
-    if (n < 2 || n > 23)
-        return MESSAGE_LENGTH;
-    uint8_t whole[24] = { 0 };
-    memcpy(whole, octets, n);
-    struct bits b = { { word_at(whole), word_at(whole + 8), word_at(whole + 16), 0 }, 8, 8 * (unsigned)n, RAN_OUT };
-    uint32_t refusal = read_facch_parts(&b, m);
-    if (refusal)
-        memset(m, 0, sizeof *m);
-    return refusal;
-}
-
-/* ---- The records as arrays of numbers ---- */
-
-static uint64_t *call_numbers(uint64_t *to, const struct plain_call *c)
-{
-    to[0] = c->reference;
-    to[1] = c->vgcs;
-    to[2] = c->acknowledged;
-    to[3] = c->priority;
-    to[4] = c->cipher_key_number;
-    to[5] = c->described;
-    to[6] = c->channel;
-    to[7] = c->hops;
-    to[8] = c->short_list;
-    to[9] = c->allocation_octets;
-    to[10] = c->frequencies;
-    return to + 11;
-}
-
-/* As many numbers as the lent array has places, and zeros beyond them. */
-static void hand_over(const uint64_t *all, size_t n_all, uint64_t *numbers, size_t n_numbers)
-{
-    size_t n = n_all < n_numbers ? n_all : n_numbers;
-    memcpy(numbers, all, n * sizeof *all);
-    memset(numbers + n, 0, (n_numbers - n) * sizeof *all);
-}
-
-static void nch_numbers(uint64_t *to, const struct plain_nch *m)
-{
-    *to++ = m->used;
-    *to++ = m->nln_given;
-    *to++ = m->nln;
-    *to++ = m->n_calls;
-    for (int i = 0; i < 4; i++)
-        to = call_numbers(to, &m->calls[i]);
-    *to++ = m->release_6;
-    *to++ = m->counted;
-    *to++ = m->cell_global_count;
-    *to++ = m->n_reduced;
-    for (int i = 0; i < 5; i++) {
-        *to++ = m->reduced[i] >> 1;
-        *to++ = m->reduced[i] & 1;
-    }
-    *to++ = m->n_random;
-    for (int i = 0; i < 9; i++) {
-        *to++ = m->random[i].segment_id;
-        *to++ = m->random[i].given;
-        *to++ = m->random[i].vstk_rand;
-    }
-    *to++ = m->release_7;
-    *to++ = m->n_marks;
-    for (int i = 0; i < 4; i++)
-        *to++ = m->marks[i];
-    *to++ = m->uplink_given;
-    *to++ = m->uplink_access;
-    *to++ = m->amr;
-    *to++ = m->fr_amr_given;
-    *to++ = m->fr_amr_config;
-    *to++ = m->hr_amr_given;
-    *to++ = m->hr_amr_config;
-    *to++ = m->sms;
-    *to++ = m->sms_confidentiality;
-    *to = m->sms_privacy;
-}
-
-static uint32_t read_nch_numbers(const uint8_t *octets, size_t n, uint64_t *numbers, size_t n_numbers)
-{
-    struct plain_nch m;
-    uint32_t refusal = read_nch(octets, n, &m);
-    if (n_numbers == 106) {
-        nch_numbers(numbers, &m);
-    } else {
-        uint64_t all[106];
-        nch_numbers(all, &m);
-        hand_over(all, 106, numbers, n_numbers);
-    }
-    return refusal;
-}
-
-static void facch_numbers(uint64_t *to, const struct plain_facch *m)
-{
-    *to++ = m->used;
-    *to++ = m->paging;
-    to = call_numbers(to, &m->call);
-    *to++ = m->page.identity_octets;
-    *to++ = m->page.first_octet;
-    *to++ = m->page.other_octets;
-    *to++ = m->page.channel_first;
-    *to++ = m->page.priority_given;
-    *to++ = m->page.priority;
-    *to++ = m->release_6;
-    *to++ = m->counted;
-    *to++ = m->cell_global_count;
-    *to++ = m->b22_count;
-    *to++ = m->rand_given;
-    *to++ = m->vstk_rand;
-    *to++ = m->release_7;
-    *to++ = m->uplink_access;
-    *to++ = m->emergency;
-    *to++ = m->cause_given;
-    *to = m->cause;
-}
-
-static uint32_t read_facch_numbers(const uint8_t *octets, size_t n, uint64_t *numbers, size_t n_numbers)
-{
-    struct plain_facch m;
-    uint32_t refusal = read_facch(octets, n, &m);
-    if (n_numbers == FACCH_NUMBERS) {
-        facch_numbers(numbers, &m);
-    } else {
-        uint64_t all[FACCH_NUMBERS];
-        facch_numbers(all, &m);
-        hand_over(all, FACCH_NUMBERS, numbers, n_numbers);
-    }
-    return refusal;
-}
-
-/* ---- The FACCH writer ---- */
-
-/* The bits of a form, first bit on top of the first word; the longest has 191. */
-struct pen {
-    uint64_t words[4];
-    unsigned at;
-};
-
-/* The low n bits of a number that has no more, 1 to 64. */
-INLINE void put(struct pen *p, uint64_t x, unsigned n)
-{
-    unsigned i = p->at >> 6, room = 64 - (p->at & 63);
-    if (n <= room) {
-        p->words[i] |= x << (room - n);
-    } else {
-        p->words[i] |= x >> (n - room);
-        p->words[i + 1] = x << (64 - (n - room));
-    }
-    p->at += n;
-}
-
-/* H for 1, L for 0. */
-INLINE void put_high(struct pen *p, uint64_t high)
-{
-    put(p, (0x2B >> (7 - (p->at & 7)) & 1) ^ high, 1);
-}
-
-/* Whether octets that so many of them hold, up to 8, are in range. */
-static inline int holds(uint64_t octets, uint64_t x)
-{
-    return octets >= 8 || !(x >> 8 * octets);
-}
-
-static int call_in_range(const uint64_t *c)
-{
-    uint64_t allocated = c[7] & ~c[8];
-    if (c[0] >> 27 || (c[1] | c[2] | c[5]) > 1 || c[3] > 7 || c[4] > 15 || c[6] >> (c[5] ? 24 : 0) || c[7] > c[5] || c[8] > c[7])
-        return 0;
-    return c[9] <= (allocated ? 255u : 0u) && (c[8] || holds(c[9], c[10]));
-}
-
-static int page_in_range(const uint64_t *p)
-{
-    return p[0] <= 255 && p[1] <= (p[0] ? 255u : 0u) && holds(p[0] ? p[0] - 1 : 0, p[2]) && p[3] <= 3 && p[4] <= 1 && p[5] <= (p[4] ? 7u : 0u);
-}
-
-static int all_zero(const uint64_t *x, unsigned n)
-{
-    uint64_t any = 0;
-    for (unsigned i = 0; i < n; i++)
-        any |= x[i];
-    return !any;
-}
-
-/* 1 paging, 2 to 12 the call, 13 to 18 the page, 19 to 24 Release 6, 25 to 29 Release 7. */
-static int facch_in_range(const uint64_t *x)
-{
-    if (x[1] > 1 || !(x[1] ? all_zero(x + 2, 11) && page_in_range(x + 13) : call_in_range(x + 2) && all_zero(x + 13, 6)))
-        return 0;
-    if (x[19] > 1 || x[20] > x[19] || x[21] > 3 * x[20] || x[22] > x[20] || x[23] > x[19] || x[24] >> (x[23] ? 36 : 0))
-        return 0;
-    return x[25] <= 1 && x[26] <= x[25] && x[27] <= x[25] && x[28] <= x[25] && x[29] <= x[28];
-}
-
-static uint32_t facch_refusal(const uint64_t *x)
-{
-    const uint64_t *c = x + 2;
-    if (!facch_in_range(x))
-        return RANGE;
-    if (x[1])
-        return x[13] - 1 > 8 ? IDENTITY_LENGTH : ACCEPTED;
-    if (c[0] > LAST_REFERENCE)
-        return REFERENCE;
-    if (c[7] && !c[8] && c[9] - 1 > 7)
-        return ALLOCATION_LENGTH;
-    return c[5] && (c[6] >> 12 & 1) != c[7] ? HOPPING : ACCEPTED;
-}
-
-static void put_written_call(struct pen *p, const uint64_t *c)
-{
-    put(p, c[0] << 9 | c[1] << 8 | c[2] << 7 | c[3] << 4 | c[4], 36);
-    put(p, c[5], 1);
-    if (!c[5])
-        return;
-    put(p, c[6] << 1 | c[7], 25);
-    if (!c[7])
-        return;
-    put(p, c[8], 1);
-    if (c[8]) {
-        put(p, c[10], 64);
-    } else {
-        put(p, c[9], 8);
-        put(p, c[10], 8 * (unsigned)c[9]);
-    }
-}
-
-static void put_written_page(struct pen *p, const uint64_t *page)
-{
-    put(p, page[0] << 8 | page[1], 16);
-    if (page[0] > 1)
-        put(p, page[2], 8 * (unsigned)(page[0] - 1));
-    put(p, page[3] << 1 | page[4], 3);
-    if (page[4])
-        put(p, page[5], 3);
-}
-
-static void put_releases(struct pen *p, const uint64_t *x, unsigned size)
-{
-    if (x[19] || p->at != size)
-        put_high(p, x[19]);
-    if (x[19]) {
-        put(p, x[20], 1);
-        if (x[20])
-            put(p, x[21] << 1 | x[22], 3);
-        put(p, x[23], 1);
-        if (x[23])
-            put(p, x[24], 36);
-    }
-    if (x[25] || p->at != size)
-        put_high(p, x[25]);
-    if (x[25]) {
-        put_high(p, x[26]);
-        put_high(p, x[27]);
-        put(p, x[28], 1);
-        if (x[28])
-            put(p, x[29], 1);
-    }
-}
-
-static uint32_t write_facch(const uint64_t *x, size_t n_numbers, uint8_t *octets, size_t n)
-{
-    if (n_numbers != FACCH_NUMBERS)
-        return STATE_LENGTH;
-    uint32_t refusal = facch_refusal(x);
-    if (refusal)
-        return refusal;
-    if (n < 2 || n > 23)
-        return FORM_SIZE;
-    struct pen p = { { 0 }, 8 };
-    put(&p, x[1], 1);
-    if (x[1])
-        put_written_page(&p, x + 13);
-    else
-        put_written_call(&p, x + 2);
-    put_releases(&p, x, 8 * (unsigned)n);
-    if (p.at > 8 * n)
-        return FORM_SIZE;
-    const uint64_t padding = 0x2B2B2B2B2B2B2B2B;
-    uint8_t whole[32];
-    for (unsigned i = 0; i < 4; i++) {
-        unsigned from = 64 * i;
-        uint64_t w = p.words[i] | (p.at <= from ? padding : p.at >= from + 64 ? 0 : padding & ~(uint64_t)0 >> (p.at - from));
-#if __BYTE_ORDER__ == __ORDER_LITTLE_ENDIAN__
-        w = __builtin_bswap64(w);
-#endif
-        memcpy(whole + 8 * i, &w, 8);
-    }
-    memcpy(octets, whole, n);
-    return ACCEPTED;
-}
+#include "plain_readers.h"
+#include "plain_writers.h"
 
 /* ---- The receiver ---- */
 
+/* A call with its random entry and parts, as plain_readers.h packs them; of a reduced reference the lowest eight of the call's bits are 0, and it is not FULL. */
 struct record {
-    uint32_t reference, channel;
-    uint64_t frequencies, vstk_rand;
-    uint8_t full, vgcs, acknowledged, described, hops, short_list, segmented, segment_id, rand_given, emergency;
-    uint8_t counted, b22_count, uplink_given, uplink_access, amr, fr_amr_given, hr_amr_given, sms, sms_confidentiality, sms_privacy;
-    uint8_t priority, cipher_key_number, allocation_octets, cell_global_count, fr_amr_config, hr_amr_config;
+    struct call call;
+    uint64_t random, parts;
 };
 
 struct told {
     uint32_t key;
-    uint8_t number, place, follow, kept;
-    struct record record; /* there only where the number is 1 to 3 */
+    uint8_t number, place, follow, kept; /* the place and the record are there only where the number is 1 to 3, follow and kept where it is 2 or 3 */
+    struct record record;
 };
 
+/* What every event looks at stands first. */
 struct receiver {
     uint32_t tick, timer[CHANNELS];
-    uint32_t n_keys, keys[KEYS], sets[KEYS];
-    uint8_t nln, kept, bit;
-    uint64_t held[CHANNELS], first[CHANNELS]; /* one bit for each subscription: a half is held; it is a first half */
-    uint32_t since[CHANNELS][KEYS];
-    struct record halves[CHANNELS][KEYS];
+    uint64_t held[CHANNELS]; /* one bit for each subscription */
     uint32_t expired, dropped, count;
-    uint8_t paged, cause_given, cause; /* the rest is there only where somebody is paged */
-    struct plain_page page;
+    uint8_t nln, kept, bit, paged;
+    uint64_t first[CHANNELS]; /* of those held, the first halves */
+    uint32_t keys[KEY_PLACES], sets[KEYS]; /* behind the last key stand numbers above any */
+    uint32_t since[CHANNELS][KEYS];
     struct told entries[ENTRIES];
+    struct page page; /* there only where somebody is paged, as is what follows */
+    uint64_t page_parts;
+    struct record halves[CHANNELS][KEYS];
 };
 
-/* The place of a key, or KEYS where it is not subscribed. */
-static unsigned find(const struct receiver *r, uint32_t key)
+/* The place of a key, or KEYS where it is not subscribed; by halving, in as many steps for any number of keys, without a branch on a key. */
+static inline unsigned find(const struct receiver *r, uint32_t key)
 {
-    unsigned start = 0, n = r->n_keys;
-    while (n) { /* by halving */
-        unsigned half = n / 2;
-        if (r->keys[start + half] < key)
-            start += half + 1, n -= half + 1;
-        else
-            n = half;
-    }
-    return start < r->n_keys && r->keys[start] == key ? start : KEYS;
+    size_t i = 0;
+    i = r->keys[i + 32] <= key ? i + 32 : i;
+    i = r->keys[i + 16] <= key ? i + 16 : i;
+    i = r->keys[i + 8] <= key ? i + 8 : i;
+    i = r->keys[i + 4] <= key ? i + 4 : i;
+    i = r->keys[i + 2] <= key ? i + 2 : i;
+    i = r->keys[i + 1] <= key ? i + 1 : i;
+    return r->keys[i] == key ? (unsigned)i : KEYS;
 }
 
-static uint32_t clock_refusal(const struct receiver *r, size_t state_length, uint32_t tick)
+static inline uint32_t clock_refusal(const struct receiver *r, size_t state_length, uint32_t tick)
 {
     if (state_length != sizeof *r)
         return STATE_LENGTH;
     return tick - r->tick >= 0x80000000u ? CLOCK : ACCEPTED;
 }
 
-static unsigned expire(struct receiver *r, unsigned channel)
+static inline unsigned expire(struct receiver *r, unsigned channel)
 {
     unsigned n = 0;
     uint32_t tick = r->tick, timer = r->timer[channel];
     const uint32_t *since = r->since[channel];
     for (uint64_t rest = r->held[channel]; rest; rest &= rest - 1) {
         size_t i = (unsigned)__builtin_ctzll(rest);
-        if (tick - since[i] >= timer) {
+        if (__builtin_expect(tick - since[i] >= timer, 0)) { /* what is seldom stands aside, so that each turn jumps once */
             r->held[channel] &= ~(1ull << i);
             n++;
         }
@@ -712,7 +90,7 @@ static unsigned expire(struct receiver *r, unsigned channel)
 }
 
 /* The tick is taken and what ran out is dropped; the event's entries and own drops come after. */
-static void accept(struct receiver *r, uint32_t tick)
+static inline void accept(struct receiver *r, uint32_t tick)
 {
     r->tick = tick;
     r->expired = expire(r, NCH) + expire(r, FACCH) + expire(r, PCH);
@@ -721,7 +99,7 @@ static void accept(struct receiver *r, uint32_t tick)
     r->paged = 0;
 }
 
-static unsigned drop(struct receiver *r, unsigned channel, uint64_t but)
+static inline unsigned drop(struct receiver *r, unsigned channel, uint64_t but)
 {
     uint64_t gone = r->held[channel] & ~but;
     if (!gone)
@@ -730,15 +108,24 @@ static unsigned drop(struct receiver *r, unsigned channel, uint64_t but)
     return (unsigned)__builtin_popcountll(gone);
 }
 
-/* What a half is told; x is its record, and becomes the joined one where it is told that. */
-static uint8_t tell_half(struct receiver *r, unsigned channel, unsigned place, struct record *x, unsigned is_first)
+/* A first half with what it takes from the second, whose VSTK_RAND it has not itself. */
+INLINE struct record joined(struct record x, uint64_t second_random, uint64_t second_parts)
+{
+    x.random |= second_random & ((2ull << RAND_GIVEN) - 1);
+    if (second_parts >> COUNTED & 1)
+        x.parts = (x.parts & ~(uint64_t)COUNT_PARTS) | (second_parts & COUNT_PARTS);
+    return x;
+}
+
+/* What a half is told. It goes into the store, or, joined with the other one, into the entry. */
+INLINE uint8_t tell_half(struct receiver *r, struct told *t, unsigned channel, unsigned place, struct record x, unsigned is_first)
 {
     uint64_t bit = 1ull << place;
     struct record *held = &r->halves[channel][place];
     if (!(r->held[channel] & bit)) {
         if (channel == FACCH && !is_first)
             return SECOND_BEFORE_FIRST;
-        *held = *x;
+        *held = x;
         r->since[channel][place] = r->tick;
         r->held[channel] |= bit;
         r->first[channel] = is_first ? r->first[channel] | bit : r->first[channel] & ~bit;
@@ -746,204 +133,133 @@ static uint8_t tell_half(struct receiver *r, unsigned channel, unsigned place, s
     }
     if (((r->first[channel] & bit) != 0) == is_first)
         return HALF_HELD;
-    if (held->full && x->full && (held->acknowledged != x->acknowledged || held->priority != x->priority || held->cipher_key_number != x->cipher_key_number))
+    if (held->parts & x.parts & 1 << FULL && held->call.bits != x.call.bits)
         return UNUSABLE;
-    struct record second = is_first ? *held : *x;
-    if (!is_first)
-        *x = *held;
-    x->rand_given = 1;
-    x->vstk_rand = second.vstk_rand;
-    if (second.counted) {
-        x->counted = 1;
-        x->cell_global_count = second.cell_global_count;
-        x->b22_count = second.b22_count;
-    }
+    t->record = is_first ? joined(x, held->random, held->parts) : joined(*held, x.random, x.parts);
     r->held[channel] &= ~bit;
     return JOINED;
 }
 
-/* Whether a complete ciphered call can be followed. */
-static inline void tell_follow(const struct receiver *r, struct told *t)
+/* What an entry of ours is told. Only on the NCH do the halves have a Segment Id. */
+INLINE uint8_t tell_ours(struct receiver *r, struct told *t, unsigned channel, unsigned place, struct record x, unsigned ciphered)
 {
-    t->follow = t->kept = 0;
-    if (t->number != ONE_PIECE && t->number != JOINED)
-        return;
-    t->follow = !(r->sets[t->place] >> t->record.cipher_key_number & 1) ? NO_KEY : r->kept == NONE_KEPT ? NO_COUNT : FOLLOW;
-    if (t->follow == FOLLOW)
-        t->kept = r->kept;
-}
-
-static void call_parts(struct record *x, const struct plain_call *c)
-{
-    x->reference = c->reference;
-    x->channel = c->channel;
-    x->frequencies = c->frequencies;
-    x->full = 1;
-    x->vgcs = c->vgcs;
-    x->acknowledged = c->acknowledged;
-    x->described = c->described;
-    x->hops = c->hops;
-    x->short_list = c->short_list;
-    x->priority = c->priority;
-    x->cipher_key_number = c->cipher_key_number;
-    x->allocation_octets = c->allocation_octets;
-}
-
-static void nch_parts(struct record *x, const struct plain_nch *m, const struct plain_random *random)
-{
-    x->counted = m->counted;
-    x->cell_global_count = m->cell_global_count;
-    x->uplink_given = m->uplink_given;
-    x->uplink_access = m->uplink_access;
-    x->amr = m->amr;
-    x->fr_amr_given = m->fr_amr_given;
-    x->fr_amr_config = m->fr_amr_config;
-    x->hr_amr_given = m->hr_amr_given;
-    x->hr_amr_config = m->hr_amr_config;
-    x->sms = m->sms;
-    x->sms_confidentiality = m->sms_confidentiality;
-    x->sms_privacy = m->sms_privacy;
-    if (random) {
-        x->segmented = 1;
-        x->segment_id = random->segment_id;
-        x->rand_given = random->given;
-        x->vstk_rand = random->vstk_rand;
+    unsigned given = x.random >> RAND_GIVEN & 1, segment_id = x.random >> SEGMENT_ID & 1;
+    if (!x.call.description) {
+        if (!ciphered || !given || (channel == NCH && !segment_id))
+            return x.parts & 1 << FULL ? NO_CHANNEL : UNUSABLE;
+        return tell_half(r, t, channel, place, x, 0);
     }
+    if (ciphered && channel == NCH && (!x.random || segment_id))
+        return UNUSABLE;
+    if (ciphered && !given)
+        return tell_half(r, t, channel, place, x, 1);
+    t->record = x;
+    return ciphered ? ONE_PIECE : CLEAR;
 }
 
-static uint8_t tell_nch_call(struct receiver *r, struct told *t, const struct plain_nch *m, const struct plain_call *c, const struct plain_random *random, uint8_t emergency)
+/* Whether it is a complete ciphered call. */
+static inline int can_follow(const struct told *t)
 {
-    unsigned place = find(r, t->key);
-    if (place == KEYS)
-        return NOT_OURS;
-    t->place = (uint8_t)place;
-    unsigned second = c->cipher_key_number && random && random->segment_id && random->given;
-    if (!c->described && !second)
-        return NO_CHANNEL;
-    if (c->described && c->cipher_key_number && (!random || random->segment_id))
-        return UNUSABLE;
-    struct record *x = &t->record;
-    memset(x, 0, sizeof *x);
-    call_parts(x, c);
-    nch_parts(x, m, random);
-    x->emergency = emergency;
-    if (!c->described)
-        return tell_half(r, NCH, place, x, 0);
-    if (!c->cipher_key_number)
-        return CLEAR;
-    return random->given ? ONE_PIECE : tell_half(r, NCH, place, x, 1);
+    return t->number == ONE_PIECE || t->number == JOINED;
 }
 
-static uint8_t tell_reduced(struct receiver *r, struct told *t, const struct plain_nch *m, const struct plain_random *random)
+/* Tells an entry, and whether a complete ciphered call can be followed. */
+INLINE void tell(struct receiver *r, struct told *t, unsigned channel, struct record x, unsigned ciphered)
 {
-    unsigned place = find(r, t->key);
-    if (place == KEYS)
-        return NOT_OURS;
-    if (!random || !random->segment_id || !random->given)
-        return UNUSABLE;
+    uint32_t key = (uint32_t)(x.call.bits >> 8);
+    unsigned place = find(r, key);
+    t->key = key;
+    if (place == KEYS) {
+        t->number = NOT_OURS;
+        return;
+    }
     t->place = (uint8_t)place;
-    struct record *x = &t->record;
-    memset(x, 0, sizeof *x);
-    x->reference = t->key >> 1;
-    x->vgcs = t->key & 1;
-    nch_parts(x, m, random);
-    return tell_half(r, NCH, place, x, 0);
+    t->number = tell_ours(r, t, channel, place, x, ciphered);
+    if (!can_follow(t))
+        return;
+    t->follow = !(r->sets[place] >> (t->record.call.bits & 15) & 1) ? NO_KEY : r->kept == NONE_KEPT ? NO_COUNT : FOLLOW;
+    t->kept = t->follow == FOLLOW ? r->kept : 0;
+}
+
+/* The record by its numbers, so that they stay in registers: two that were just written one by one are waited for when they are loaded as one vector. On the NCH one function serves calls and
+ * reduced references; a random entry is 0 where there is none. */
+static __attribute__((noinline)) void tell_nch(struct receiver *r, struct told *t, uint64_t bits, uint64_t description, uint64_t frequencies, uint64_t random, uint64_t parts)
+{
+    struct record x = { { bits, description, frequencies }, random, parts };
+    tell(r, t, NCH, x, (bits & 15) != 0 || !(parts & 1 << FULL));
+}
+
+static __attribute__((noinline)) void tell_facch(struct receiver *r, struct told *t, uint64_t bits, uint64_t description, uint64_t frequencies, uint64_t random, uint64_t parts)
+{
+    struct record x = { { bits, description, frequencies }, random, parts };
+    tell(r, t, FACCH, x, (bits & 15) != 0);
+}
+
+static void tell_calls(struct receiver *r, const struct nch *m)
+{
+    struct told *t = r->entries;
+    unsigned randoms = 0, marks = 0;
+    for (unsigned i = 0; i < m->n_calls; i++, t++) {
+        const struct call *c = &m->calls[i];
+        uint64_t parts = m->parts | 1 << FULL;
+        if (c->description && marks < m->n_marks)
+            parts |= (uint64_t)(m->marks >> marks++ & 1) << EMERGENCY;
+        tell_nch(r, t, c->bits, c->description, c->frequencies, c->bits & 15 && randoms < m->n_random ? m->random[randoms++] : 0, parts);
+    }
+    for (unsigned i = 0; i < m->n_reduced; i++, t++)
+        tell_nch(r, t, (uint64_t)m->reduced[i] << 8, 0, 0, randoms < m->n_random ? m->random[randoms++] : 0, m->parts);
+    r->count = m->n_calls + m->n_reduced;
 }
 
 static uint32_t event_nch(uint8_t *state, size_t state_length, uint32_t tick, const uint8_t *octets, size_t n)
 {
     struct receiver *r = (struct receiver *)(void *)state;
-    struct plain_nch m;
+    struct plain_nch unread;
+    struct nch m;
     uint32_t refusal = clock_refusal(r, state_length, tick);
     if (!refusal)
-        refusal = read_nch(octets, n, &m);
+        refusal = read_nch(octets, n, &unread, &m);
     if (refusal)
         return refusal;
     accept(r, tick);
     if (m.nln_given) {
         if (r->nln != NLN_UNKNOWN && r->nln != m.nln)
             r->dropped = drop(r, NCH, 0);
-        r->nln = m.nln;
+        r->nln = (uint8_t)m.nln;
     }
-    if (m.counted)
-        r->kept = m.cell_global_count;
-    struct told *t = r->entries;
-    unsigned randoms = 0, marks = 0;
-    for (unsigned i = 0; i < m.n_calls; i++, t++) {
-        const struct plain_call *c = &m.calls[i];
-        const struct plain_random *random = c->cipher_key_number && randoms < m.n_random ? &m.random[randoms++] : NULL;
-        uint8_t emergency = c->described && marks < m.n_marks ? m.marks[marks++] : 0;
-        t->key = c->reference * 2 + c->vgcs;
-        t->number = tell_nch_call(r, t, &m, c, random, emergency);
-        tell_follow(r, t);
-    }
-    for (unsigned i = 0; i < m.n_reduced; i++, t++) {
-        const struct plain_random *random = randoms < m.n_random ? &m.random[randoms++] : NULL;
-        t->key = m.reduced[i];
-        t->number = tell_reduced(r, t, &m, random);
-        tell_follow(r, t);
-    }
-    r->count = m.n_calls + m.n_reduced;
+    if (m.parts >> COUNTED & 1)
+        r->kept = m.parts >> CELL_GLOBAL_COUNT & 3;
+    tell_calls(r, &m);
     return ACCEPTED;
-}
-
-static uint8_t tell_facch(struct receiver *r, struct told *t, const struct plain_facch *m)
-{
-    const struct plain_call *c = &m->call;
-    unsigned place = find(r, t->key);
-    if (place == KEYS)
-        return NOT_OURS;
-    if (!c->described && !(c->cipher_key_number && m->rand_given))
-        return NO_CHANNEL;
-    t->place = (uint8_t)place;
-    struct record *x = &t->record;
-    memset(x, 0, sizeof *x);
-    call_parts(x, c);
-    x->rand_given = m->rand_given;
-    x->vstk_rand = m->vstk_rand;
-    x->counted = m->counted;
-    x->cell_global_count = m->cell_global_count;
-    x->b22_count = m->b22_count;
-    x->uplink_given = m->release_7;
-    x->uplink_access = m->uplink_access;
-    x->emergency = m->emergency;
-    if (!c->described)
-        return tell_half(r, FACCH, place, x, 0);
-    if (!c->cipher_key_number)
-        return CLEAR;
-    return m->rand_given ? ONE_PIECE : tell_half(r, FACCH, place, x, 1);
 }
 
 static uint32_t event_facch(uint8_t *state, size_t state_length, uint32_t tick, const uint8_t *octets, size_t n)
 {
     struct receiver *r = (struct receiver *)(void *)state;
-    struct plain_facch m;
+    struct plain_facch unread;
+    struct facch m;
     uint32_t refusal = clock_refusal(r, state_length, tick);
     if (!refusal)
-        refusal = read_facch(octets, n, &m);
+        refusal = read_facch(octets, n, &unread, &m);
     if (refusal)
         return refusal;
     accept(r, tick);
-    if (m.counted && r->bit != BIT_UNKNOWN)
-        r->kept = (m.cell_global_count + (m.b22_count && !r->bit)) & 3;
+    if (m.parts >> COUNTED & 1 && r->bit != BIT_UNKNOWN)
+        r->kept = ((m.parts >> CELL_GLOBAL_COUNT & 3) + (m.parts >> B22_COUNT & 1 && !r->bit)) & 3;
     if (m.paging) {
         r->paged = 1;
-        r->cause_given = m.cause_given;
-        r->cause = m.cause;
         r->page = m.page;
+        r->page_parts = m.parts;
         return ACCEPTED;
     }
-    struct told *t = r->entries;
-    t->key = m.call.reference * 2 + m.call.vgcs;
-    t->number = tell_facch(r, t, &m);
-    tell_follow(r, t);
+    tell_facch(r, r->entries, m.call.bits, m.call.description, m.call.frequencies, m.random, m.parts | 1 << FULL);
     r->count = 1;
     return ACCEPTED;
 }
 
 /* The grounds of a PCH entry in their order: 0 key, 1 ciphered, 2 full, 3 its bits, 4 described, 5 channel, 6 hops, 7 short list, 8 length, 9 frequencies, 10 and 11 VSTK_RAND,
  * 12 and 13 the count. A flag above 1 counts as set before it is refused. */
-static uint32_t pch_refusal(const uint64_t *e)
+static inline uint32_t pch_refusal(const uint64_t *e)
 {
     unsigned described = e[4] != 0, hops = described && e[6], allocated = hops && !e[7];
     if (e[0] > LAST_KEY)
@@ -959,40 +275,25 @@ static uint32_t pch_refusal(const uint64_t *e)
     return e[2] && (e[3] >> 8 != e[0] || ((e[3] & 15) != 0) != e[1]) ? RANGE : ACCEPTED;
 }
 
-static uint8_t tell_pch(struct receiver *r, unsigned place, struct record *x, const uint64_t *e)
+/* An accepted entry as a record; what stands behind an absent flag is not looked at. */
+INLINE struct record pch_record(const uint64_t *e)
 {
-    if (place == KEYS)
-        return NOT_OURS;
-    if (!e[4] && !(e[1] && e[10]))
-        return e[2] ? NO_CHANNEL : UNUSABLE;
-    memset(x, 0, sizeof *x);
-    x->reference = (uint32_t)(e[0] >> 1);
-    x->vgcs = e[0] & 1;
+    struct record x = { { e[0] << 8, 0, 0 }, 0, 0 };
     if (e[2]) {
-        x->full = 1;
-        x->acknowledged = e[3] >> 7 & 1;
-        x->priority = e[3] >> 4 & 7;
-        x->cipher_key_number = e[3] & 15;
+        x.call.bits = e[3];
+        x.parts = 1 << FULL;
     }
-    if (e[4]) {
-        x->described = 1;
-        x->channel = (uint32_t)e[5];
-        x->hops = (uint8_t)e[6];
-        if (e[6]) {
-            x->short_list = (uint8_t)e[7];
-            x->allocation_octets = e[7] ? 0 : (uint8_t)e[8];
-            x->frequencies = e[9];
-        }
+    if (e[4])
+        x.call.description = 1ull << DESCRIBED | e[5] << 1 | e[6];
+    if (e[4] && e[6]) {
+        x.call.description |= e[7] ? 1ull << SHORT_LIST : e[8] << ALLOCATION_OCTETS;
+        x.call.frequencies = e[9];
     }
-    x->rand_given = (uint8_t)e[10];
-    x->vstk_rand = e[10] ? e[11] : 0;
-    x->counted = (uint8_t)e[12];
-    x->cell_global_count = e[12] ? (uint8_t)e[13] : 0;
-    if (!e[4])
-        return tell_half(r, PCH, place, x, 0);
-    if (!e[1])
-        return CLEAR;
-    return e[10] ? ONE_PIECE : tell_half(r, PCH, place, x, 1);
+    if (e[10])
+        x.random = 1ull << RAND_GIVEN | e[11];
+    if (e[12])
+        x.parts |= 1 << COUNTED | e[13] << CELL_GLOBAL_COUNT;
+    return x;
 }
 
 static uint32_t event_pch(uint8_t *state, size_t state_length, uint32_t tick, const uint64_t *entry, size_t n)
@@ -1006,15 +307,13 @@ static uint32_t event_pch(uint8_t *state, size_t state_length, uint32_t tick, co
     if (refusal)
         return refusal;
     accept(r, tick);
-    struct told *t = r->entries;
-    t->key = (uint32_t)entry[0];
-    unsigned place = find(r, t->key);
-    r->dropped = drop(r, PCH, place == KEYS ? 0 : 1ull << place);
+    if (r->held[PCH]) {
+        unsigned place = find(r, (uint32_t)entry[0]);
+        r->dropped = drop(r, PCH, place == KEYS ? 0 : 1ull << place);
+    }
     if (entry[12])
         r->kept = (uint8_t)entry[13];
-    t->number = tell_pch(r, place, &t->record, entry);
-    t->place = (uint8_t)place;
-    tell_follow(r, t);
+    tell(r, r->entries, PCH, pch_record(entry), entry[1] != 0);
     r->count = 1;
     return ACCEPTED;
 }
@@ -1120,7 +419,7 @@ static uint32_t setup(uint8_t *state, size_t state_length, const uint32_t *keys,
     r->timer[NCH] = t3206;
     r->timer[FACCH] = t3208;
     r->timer[PCH] = t3210;
-    r->n_keys = (uint32_t)n_keys;
+    memset(r->keys, 0xFF, sizeof r->keys);
     memcpy(r->keys, keys, n_keys * sizeof *keys);
     memcpy(r->sets, sets, n_keys * sizeof *sets);
     r->nln = NLN_UNKNOWN;
@@ -1129,59 +428,37 @@ static uint32_t setup(uint8_t *state, size_t state_length, const uint32_t *keys,
     return ACCEPTED;
 }
 
-/* The parts of asternhaken_read, in its order. */
+/* Where the parts 5 to 34 of asternhaken_read stand in a record: its word, the lowest bit, how many bits. */
 static uint64_t record_part(const struct record *x, uint32_t part)
 {
-    switch (part) {
-    case 5: return x->reference;
-    case 6: return x->channel;
-    case 7: return x->frequencies;
-    case 8: return x->vstk_rand;
-    case 9: return x->full;
-    case 10: return x->vgcs;
-    case 11: return x->acknowledged;
-    case 12: return x->described;
-    case 13: return x->hops;
-    case 14: return x->short_list;
-    case 15: return x->segmented;
-    case 16: return x->segment_id;
-    case 17: return x->rand_given;
-    case 18: return x->emergency;
-    case 19: return x->counted;
-    case 20: return x->b22_count;
-    case 21: return x->uplink_given;
-    case 22: return x->uplink_access;
-    case 23: return x->amr;
-    case 24: return x->fr_amr_given;
-    case 25: return x->hr_amr_given;
-    case 26: return x->sms;
-    case 27: return x->sms_confidentiality;
-    case 28: return x->sms_privacy;
-    case 29: return x->priority;
-    case 30: return x->cipher_key_number;
-    case 31: return x->allocation_octets;
-    case 32: return x->cell_global_count;
-    case 33: return x->fr_amr_config;
-    case 34: return x->hr_amr_config;
-    default: return 0;
-    }
+    enum { BITS, DESCRIPTION, FREQUENCIES, RANDOM, PARTS };
+    static const struct { uint8_t word, from, n; } places[] = {
+        { BITS, 9, 27 }, { DESCRIPTION, 1, 24 }, { FREQUENCIES, 0, 64 }, { RANDOM, 0, RAND_GIVEN }, { PARTS, FULL, 1 }, { BITS, 8, 1 }, { BITS, 7, 1 }, { DESCRIPTION, DESCRIBED, 1 },
+        { DESCRIPTION, 0, 1 }, { DESCRIPTION, SHORT_LIST, 1 }, { RANDOM, SEGMENTED, 1 }, { RANDOM, SEGMENT_ID, 1 }, { RANDOM, RAND_GIVEN, 1 }, { PARTS, EMERGENCY, 1 }, { PARTS, COUNTED, 1 },
+        { PARTS, B22_COUNT, 1 }, { PARTS, UPLINK_GIVEN, 1 }, { PARTS, UPLINK_ACCESS, 1 }, { PARTS, AMR, 1 }, { PARTS, FR_AMR_GIVEN, 1 }, { PARTS, HR_AMR_GIVEN, 1 }, { PARTS, SMS, 1 },
+        { PARTS, SMS_CONFIDENTIALITY, 1 }, { PARTS, SMS_PRIVACY, 1 }, { BITS, 4, 3 }, { BITS, 0, 4 }, { DESCRIPTION, ALLOCATION_OCTETS, 4 }, { PARTS, CELL_GLOBAL_COUNT, 2 },
+        { PARTS, FR_AMR_CONFIG, 4 }, { PARTS, HR_AMR_CONFIG, 4 }
+    };
+    if (part < 5 || part - 5 >= sizeof places / sizeof *places)
+        return 0;
+    const uint64_t words[] = { x->call.bits, x->call.description, x->call.frequencies, x->random, x->parts };
+    return words[places[part - 5].word] >> places[part - 5].from & ~0ull >> (64 - places[part - 5].n);
 }
 
 static uint64_t paged_part(const struct receiver *r, uint32_t part)
 {
-    const struct plain_page *p = &r->page;
     if (!r->paged)
         return 0;
     switch (part) {
     case 37: return 1;
-    case 38: return p->identity_octets;
-    case 39: return p->first_octet;
-    case 40: return p->other_octets;
-    case 41: return p->channel_first;
-    case 42: return p->priority_given;
-    case 43: return p->priority;
-    case 44: return r->cause_given;
-    default: return r->cause;
+    case 38: return r->page.bits >> IDENTITY_OCTETS & 255;
+    case 39: return r->page.bits >> FIRST_OCTET & 255;
+    case 40: return r->page.other_octets;
+    case 41: return r->page.bits >> CHANNEL_FIRST & 3;
+    case 42: return r->page.bits >> PRIORITY_GIVEN & 1;
+    case 43: return r->page.bits >> PAGE_PRIORITY & 7;
+    case 44: return r->page_parts >> CAUSE_GIVEN & 1;
+    default: return r->page_parts >> CAUSE & 1;
     }
 }
 
@@ -1206,9 +483,9 @@ static uint32_t read_part(const uint8_t *state, size_t state_length, uint32_t en
         else if (part == 4)
             *value = t->number;
         else if (part == 35)
-            *value = t->follow;
+            *value = can_follow(t) ? t->follow : 0;
         else if (part == 36)
-            *value = t->kept;
+            *value = can_follow(t) ? t->kept : 0;
         else if (t->number >= CLEAR && t->number <= JOINED)
             *value = record_part(&t->record, part);
     }
@@ -1368,11 +645,12 @@ static uint32_t yard_call_numbers(const uint8_t *state, size_t state_length, uin
         if (rest) {
             unsigned place = (unsigned)__builtin_ctz(rest);
             const struct told *t = &y->calls[place];
-            all[0] = t->key, all[1] = t->number, all[32] = t->follow, all[33] = t->kept, all[34] = y->r.tick - y->since[place];
+            all[0] = t->key, all[1] = t->number, all[32] = can_follow(t) ? t->follow : 0, all[33] = can_follow(t) ? t->kept : 0, all[34] = y->r.tick - y->since[place];
             for (uint32_t part = 5; part < 35; part++)
                 all[part - 3] = record_part(&t->record, part);
         }
     }
+    memset(numbers, 0, n * sizeof *numbers);
     hand_over(all, YARD_NUMBERS, numbers, n);
     return state_length == sizeof *y ? ACCEPTED : STATE_LENGTH;
 }
@@ -1381,7 +659,7 @@ static uint32_t yard_call_numbers(const uint8_t *state, size_t state_length, uin
 #define STRING(x) STRING_(x)
 const struct side PLAIN = {
     STRING(PLAIN), sizeof(struct receiver), setup, event_nch, event_facch, event_pch, event_joined, event_reselected, event_handed_over, event_reconfigured, event_left_idle, event_bit_22, event_tick,
-    read_part, read_nch_numbers, read_facch_numbers, write_facch, sizeof(struct uplink), uplink_setup, { uplink_free, uplink_busy, uplink_request, uplink_tick },
+    read_part, read_nch_numbers, read_facch_numbers, write_nch, write_facch, sizeof(struct uplink), uplink_setup, { uplink_free, uplink_busy, uplink_request, uplink_tick },
     sizeof(struct yard), yard_setup, yard_nch, yard_reselected, yard_tick, yard_count, yard_call_numbers
 };
-const struct readers JOIN(PLAIN, _readers) = { read_nch, read_facch, nch_numbers, facch_numbers };
+const struct readers JOIN(PLAIN, _readers) = { read_nch_record, read_facch_record };

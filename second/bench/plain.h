@@ -5,43 +5,51 @@
 #include <stddef.h>
 #include <stdint.h>
 
+/* The records have the numbers of the library's arrays in the order of asternhaken.h. A reader writes only what is there: as many places of a list as its count says, nothing behind a release
+ * of the NCH that is absent, of the FACCH a call or a page. A refused reading is all zeros. */
+
 /* Group call information with its channel description. */
 struct plain_call {
-    uint32_t reference, channel;
-    uint64_t frequencies;
-    uint8_t vgcs, acknowledged, priority, cipher_key_number, described, hops, short_list, allocation_octets;
+    uint64_t reference, vgcs, acknowledged, priority, cipher_key_number, described, channel, hops, short_list, allocation_octets, frequencies;
+};
+
+/* A reduced reference. */
+struct plain_reduced {
+    uint64_t reference, vgcs;
 };
 
 /* A random entry. */
 struct plain_random {
-    uint64_t vstk_rand;
-    uint8_t segment_id, given;
+    uint64_t segment_id, given, vstk_rand;
 };
 
 /* NT/N Rest Octets. */
 struct plain_nch {
+    uint64_t used, nln_given, nln, n_calls;
     struct plain_call calls[4];
-    uint32_t reduced[5]; /* 28 bits each, which are the call's key as they stand */
-    uint8_t n_calls, n_reduced, n_random, n_marks;
+    uint64_t release_6, counted, cell_global_count, n_reduced;
+    struct plain_reduced reduced[5];
+    uint64_t n_random;
     struct plain_random random[9];
-    uint8_t marks[4];
-    uint8_t nln_given, nln, release_6, counted, cell_global_count, release_7, uplink_given, uplink_access;
-    uint8_t amr, fr_amr_given, fr_amr_config, hr_amr_given, hr_amr_config, sms, sms_confidentiality, sms_privacy, used;
+    uint64_t release_7, n_marks, marks[4];
+    uint64_t uplink_given, uplink_access, amr, fr_amr_given, fr_amr_config, hr_amr_given, hr_amr_config, sms, sms_confidentiality, sms_privacy;
 };
 
 /* Paging Information: the mobile identity by its first octet and the others as one number, of which the first is the highest. */
 struct plain_page {
-    uint64_t other_octets;
-    uint8_t identity_octets, first_octet, channel_first, priority_given, priority;
+    uint64_t identity_octets, first_octet, other_octets, channel_first, priority_given, priority;
 };
 
 /* NOTIFICATION/FACCH: a call, or a page. */
 struct plain_facch {
+    uint64_t used, paging;
     struct plain_call call;
     struct plain_page page;
-    uint64_t vstk_rand;
-    uint8_t paging, release_6, counted, cell_global_count, b22_count, rand_given, release_7, uplink_access, emergency, cause_given, cause, used;
+    uint64_t release_6, counted, cell_global_count, b22_count, rand_given, vstk_rand, release_7, uplink_access, emergency, cause_given, cause;
 };
+
+enum { NCH_NUMBERS = sizeof(struct plain_nch) / sizeof(uint64_t), FACCH_NUMBERS = sizeof(struct plain_facch) / sizeof(uint64_t) };
+_Static_assert(NCH_NUMBERS == 106 && FACCH_NUMBERS == 30, "the records are the library's arrays");
 
 enum { UPLINK_FREE, UPLINK_BUSY, UPLINK_REQUEST, UPLINK_TICK, UPLINK_EVENTS };
 
@@ -63,6 +71,7 @@ struct side {
     uint32_t (*read)(const uint8_t *state, size_t state_length, uint32_t entry, uint32_t part, uint64_t *value);
     uint32_t (*nch_numbers)(const uint8_t *octets, size_t n, uint64_t *numbers, size_t n_numbers);
     uint32_t (*facch_numbers)(const uint8_t *octets, size_t n, uint64_t *numbers, size_t n_numbers);
+    uint32_t (*nch_write)(const uint64_t *numbers, size_t n_numbers, uint8_t *octets, size_t n);
     uint32_t (*facch_write)(const uint64_t *numbers, size_t n_numbers, uint8_t *octets, size_t n);
     size_t uplink_length;
     uint32_t (*uplink_setup)(uint8_t *uplink, size_t uplink_length, uint32_t tick, uint32_t t3128);
@@ -81,9 +90,6 @@ struct side {
 struct readers {
     uint32_t (*nch)(const uint8_t *octets, size_t n, struct plain_nch *record);
     uint32_t (*facch)(const uint8_t *octets, size_t n, struct plain_facch *record);
-    /* the records as the arrays of 106 and 30 numbers that the library hands over; not there bit by bit */
-    void (*nch_numbers)(uint64_t *to, const struct plain_nch *record);
-    void (*facch_numbers)(uint64_t *to, const struct plain_facch *record);
 };
 
 extern const struct side plain_gcc, plain_clang;

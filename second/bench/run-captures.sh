@@ -1,7 +1,7 @@
 #!/bin/sh
 # Replaying or mending a day: the proved program against plain C by gcc -O2 and clang -O3, on a made capture of about 30 MB, about one field in twenty of it refused, in one run. WHAT is replay or mend.
 #
-#   run-captures.sh WHAT           the table in markdown: MB and fields in a second, and the most memory, on 1 and on 30 MB
+#   run-captures.sh WHAT           the tables in markdown: MB and fields in a second and the most memory, on 1 and on 30 MB; ns for a field and the ratios, as run.sh has them
 #   run-captures.sh WHAT --quick   all write the same, the proved one takes at most 4 times what plain takes, and no more memory for 30 MB than for 1; ends in 'N passed, M failed'
 #   run-captures.sh WHAT --plain   the plain ones alone, where there is no proved program
 #
@@ -86,11 +86,16 @@ case $mode in
     *)
         echo "A made capture of $large fields, $octets octets:"
         echo
-        echo "| $what | MB/s | fields/s | ns for a field | beside plain, gcc -O2 | KB at most, 1 MB | KB at most, 30 MB |"
-        echo '|---|---|---|---|---|---|---|'
+        echo "| $what | MB/s | fields/s | KB at most, 1 MB | KB at most, 30 MB |"
+        echo '|---|---|---|---|---|'
         { [ "$mode" = --plain ] || echo proved; echo 'plain, gcc -O2'; echo 'plain, clang -O3'; } | paste -d '|' - "$build/both.times" |
-            awk -F '[| ]' -v octets="$octets" -v fields=$large '{ i = NF - 2; name[NR] = substr($0, 1, index($0, "|") - 1); s[NR] = $i; a[NR] = $(i + 1); b[NR] = $(i + 2); if (name[NR] ~ /gcc/) plain = $i }
-                END { for (k = 1; k <= NR; k++) printf "| %s | %.0f | %.0f | %.0f | %.2f | %d | %d |\n", name[k], octets / s[k] / 1e6, fields / s[k], s[k] / fields * 1e9, s[k] / plain, a[k], b[k] }'
+            awk -F '[| ]' -v octets="$octets" -v fields=$large '{ i = NF - 2; printf "| %s | %.0f | %.0f | %d | %d |\n", substr($0, 1, index($0, "|") - 1), octets / $i / 1e6, fields / $i, $(i + 1), $(i + 2) }'
+        echo
+        echo '| ns for a field | of a capture of | library | plain, gcc -O2 | ratio | plain, clang -O3 | ratio |'
+        echo '|---|---|---|---|---|---|---|'
+        awk -v what="$what" -v fields=$large -v octets="$octets" '{ ns[NR] = $1 / fields * 1e9 }
+            END { gcc = ns[NR - 1]; clang = ns[NR]; proved = NR > 2
+                printf "| %s | %.0f MB | %s | %.0f | %s | %.0f | %s |\n", what, octets / 1e6, proved ? sprintf("%.0f", ns[1]) : "-", gcc, proved ? sprintf("%.2f", ns[1] / gcc) : "-", clang, proved ? sprintf("%.2f", ns[1] / clang) : "-" }' "$build/both.times"
         ;;
     esac
     ;;

@@ -1,9 +1,9 @@
 #!/bin/sh
 # The benchmark: the proved archive against plain C by gcc -O2 and clang -O3, and against bit vectors, in one run.
 #
-#   run.sh                 the tables in ns, in markdown, and the archive's size (about a minute)
+#   run.sh                 the tables in ns, in markdown, what the ratios come to (summary.awk), and the archive's size (about a minute)
 #   run.sh --quick         the answers agree, and nothing takes 10 times what plain takes; ends in 'N passed, M failed' (under 10 s)
-#   run.sh --instructions  instructions per event; these repeat on a busy machine
+#   run.sh --instructions  the same in instructions per event; these repeat on a busy machine
 #   run.sh --plain         the plain sides alone, where there is no archive
 #   run.sh --digits FOLDER..   ns for one reading and one writing of digits by the archive of each folder in turn, so that two versions compare
 #
@@ -114,6 +114,8 @@ count()
     fi
 }
 
+tables() { awk -v gcc="$gcc_named" -f instructions.awk "$build/counts"; }
+
 sizes()
 {
     echo
@@ -123,7 +125,7 @@ sizes()
         size -t "$archive" | awk 'END { print "- the archive, all of it: text " $1 ", data " $2 ", bss " $3 }'
         echo "- what it asks of others (\`nm -u\`):$(nm -u "$archive" | awk '$1 == "U" && !seen[$2]++ { printf " %s", $2 }')"
     fi
-    size "$build/plain-gcc.o" | awk -v gcc="$gcc_named" 'END { print "- plain by " gcc ", without the GCC elements and the NCH writer: text " $1 }'
+    size "$build/plain-gcc.o" | awk -v gcc="$gcc_named" 'END { print "- plain by " gcc ", without the GCC elements: text " $1 }'
     size "$build/plain-clang.o" | awk 'END { print "- plain by clang -O3, likewise: text " $1 }'
 }
 
@@ -145,16 +147,17 @@ case $mode in
     ;;
 --instructions)
     count >"$build/counts"
-    awk -v gcc="$gcc_named" -f instructions.awk "$build/counts"
+    tables | awk -v gcc="$gcc_named" -f summary.awk
     ;;
 *)
     if [ "$emulated" ]; then
         run --answers --messages 100000 --sequences 2000
         count >"$build/counts"
-        awk -v gcc="$gcc_named" -f instructions.awk "$build/counts"
+        tables >"$build/tables"
     else
-        run
+        run >"$build/tables" || { cat "$build/tables"; exit 1; }
     fi
+    awk -v gcc="$gcc_named" -f summary.awk "$build/tables"
     sizes
     ;;
 esac
