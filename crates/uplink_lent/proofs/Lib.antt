@@ -1,3 +1,4 @@
+pub mod Standing
 pub mod Octets
 pub mod Calls
 pub mod Runs

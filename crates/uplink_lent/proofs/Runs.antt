@@ -20,16 +20,10 @@ use Rattle.uplink.proofs.Tests.{by-clock, by-signal}
 use Rattle.uplink.proofs.Sums.{late-step, timely-step, asks-keeps, timer-right, started}
 use Rattle.uplink_lent.specs.State.{uplinkLength, isUplink, uplinkOf, octetsOf, resultOf, setupCode, setupOctets, codeOf, octetsAfter}
 use Rattle.uplink_lent.specs.Promises.{leftAfter, Ticks}
+use Rattle.uplink_lent.proofs.Standing.{Wide}
 use Rattle.uplink_lent.proofs.Octets.{length-octets}
 
 -- ## What is written is read back
-
--- numbers of 32 bits
-pub record Wide (u : Uplink) : Type 0 where
-  pub tick : u .tick < 2 ^ 32
-  pub timer : u .t3128 < 2 ^ 32
-  pub free : u .free < 2 ^ 32
-  pub wait : u .wait < 2 ^ 32
 
 pub read-wide : (l : List ℕ) → Wide (uplinkOf l)
 unfolding uplinkOf

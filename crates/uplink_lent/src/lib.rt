@@ -1,44 +1,37 @@
 // The uplink's state as lent octets, and setup and events on it (docs/STATE.md has the layout). Four numbers of 32 bits are all there is: they are read, and written anew.
 ghost use mathlib.Core.Path.{_≡_};
-ghost use Prim.Native.Nat.{_+_, _*_, _≤_};
+ghost use mathlib.Core.Bool.{true, false};
+ghost use lib.Dec.{eqb};
 ghost use lib.ListN.{length};
-ghost use Rattle.bits.specs.Field.{field, setField};
+ghost use Rattle.arrays.specs.Runs.{stored};
+ghost use Rattle.uplink.specs.Uplink.{bySignal};
+ghost use Rattle.uplink_lent.specs.Inner.{fourOctets, Stands};
 ghost use Rattle.uplink_lent.specs.State.{uplinkLength, uplinkOf, octetsOf, endNumber, toldNumber, resultOf, setupCode, setupOctets, codeOf, octetsAfter};
-use bits::Got;
+use numbers::number_at;
+use numbers::put;
 use uplink::End;
 use uplink::Setup;
 use uplink::Signal;
 use uplink::Told;
 use uplink::Uplink;
 
+mod numbers;
+
 // The octets of a state. Another length is refusal 13.
 pub const LENGTH: usize = 16;
 
-// Where each number stands, in bits.
-const WIDTH: usize = 32;
-
+// Where each number stands.
 const TICK: usize = 0;
 
-const T3128: usize = TICK + WIDTH;
+const T3128: usize = TICK + 4;
 
-const FREE: usize = T3128 + WIDTH;
+const FREE: usize = T3128 + 4;
 
-const WAIT: usize = FREE + WIDTH;
-
-fn number_at(b: &[u8], at: usize) -> u32
-    requires { ⌜ at + 32 ≤ length (now b) * 8 ⌝ }
-    ensures { λ r. ⌜ r ≡ field (now (b .entry)) at 32 ⌝ }
-{
-    let got = bits::fetch(b, at, WIDTH);
-    match got {
-        Got::Bits(v) => v as u32,
-        Got::Short => 0,
-    }
-}
+const WAIT: usize = FREE + 4;
 
 fn uplink_of(b: &[u8]) -> Uplink
     requires { ⌜ length (now b) ≡ uplinkLength ⌝ }
-    ensures { λ r. ⌜ r ≡ uplinkOf (now (b .entry)) ⌝ }
+    ensures { λ r. ⌜ (r ≡ uplinkOf (now (b .entry))) × Stands (now (b .entry)) 8 (r .free) ⌝ }
 {
     Uplink {
         tick: number_at(b, TICK),
@@ -48,34 +41,38 @@ fn uplink_of(b: &[u8]) -> Uplink
     }
 }
 
-fn with_number(mut octets: [u8; LENGTH], at: usize, v: u32) -> [u8; LENGTH]
-    requires { ⌜ at + 32 ≤ 128 ⌝ }
-    ensures { λ r. ⌜ r ≡ setField octets at 32 v ⌝ }
+// Where time alone passes, a "free" that no longer counts stays as it is: most ticks find it so.
+fn free_stays(free: u32, signal: Signal) -> bool
+    ensures { λ r. ⌜ r ≡ bySignal signal false false false (eqb free 0) ⌝ }
 {
-    bits::put(&mut octets, at, WIDTH, v as u64);
-    octets
+    match signal {
+        Signal::Free => false,
+        Signal::Busy => false,
+        Signal::Request => false,
+        Signal::Tick => free == 0,
+    }
 }
 
-fn octets_of(u: Uplink) -> [u8; LENGTH]
-    ensures { λ r. ⌜ r ≡ octetsOf u ⌝ }
+// `stays` says that the number stands there already.
+fn put_free(b: &mut [u8], free: u32, stays: bool)
+    requires { ⌜ (length (now b) ≡ uplinkLength) × (stays ≡ true → Stands (now b) 8 free) ⌝ }
+    ensures { λ _. ⌜ now (b .exit) ≡ stored (now (b .entry)) 8 (fourOctets free) ⌝ }
 {
-    let none = [0u8; LENGTH];
-    let ticked = with_number(none, TICK, u.tick);
-    let timed = with_number(ticked, T3128, u.t3128);
-    let freed = with_number(timed, FREE, u.free);
-    with_number(freed, WAIT, u.wait)
+    if stays {
+        return;
+    }
+    put(b, FREE, free);
 }
 
-fn store(b: &mut [u8], u: Uplink)
-    requires { ⌜ length (now b) ≡ uplinkLength ⌝ }
+// T3128 never changes: the compiler finds that its octets are written as they were read, and writes none.
+fn store(b: &mut [u8], u: Uplink, stays: bool)
+    requires { ⌜ (length (now b) ≡ uplinkLength) × (stays ≡ true → Stands (now b) 8 (u .free)) ⌝ }
     ensures { λ _. ⌜ now (b .exit) ≡ octetsOf u ⌝ }
 {
-    let octets = octets_of(u);
-    let mut i: usize = 0;
-    while i < LENGTH {
-        b[i] = octets[i];
-        i += 1;
-    }
+    put(&mut *b, TICK, u.tick);
+    put(&mut *b, T3128, u.t3128);
+    put_free(&mut *b, u.free, stays);
+    put(&mut *b, WAIT, u.wait);
 }
 
 fn end_number(end: End) -> u32
@@ -118,7 +115,7 @@ pub fn setup(b: &mut [u8], s: Setup) -> u32
         return started.refusal as u32;
     }
     let u = started.uplink;
-    store(b, u);
+    store(b, u, false);
     0
 }
 
@@ -129,14 +126,15 @@ pub fn feed(b: &mut [u8], time: u32, signal: Signal) -> u32
     if b.len() != LENGTH {
         return 13;
     }
-    let answer = uplink_of(b).happens(time, signal);
+    let u = uplink_of(b);
+    let answer = u.happens(time, signal);
     let end = answer.end;
     let told = answer.told;
     let code = result(answer.refusal, end, told);
     if answer.refusal != 0 {
         return code;
     }
-    let u = answer.uplink;
-    store(b, u);
+    let v = answer.uplink;
+    store(b, v, free_stays(u.free, signal));
     code
 }

@@ -4,6 +4,7 @@ pub mod Leaving
 pub mod Coming
 pub mod Places
 pub mod Values
+pub mod Quiet
 pub mod Feeding
 pub mod Starting
 pub mod ShownCalls

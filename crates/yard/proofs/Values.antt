@@ -174,7 +174,7 @@ unfolding broughtRun
 length-brought-run zero l = refl
 length-brought-run (suc n) l = length-brought (broughtRun n l) n ∙ length-brought-run n l
 
-inside-brought-run : (n : ℕ) (l : List ℕ) → inside (broughtRun n l) ≡ inside l
+pub inside-brought-run : (n : ℕ) (l : List ℕ) → inside (broughtRun n l) ≡ inside l
 unfolding broughtRun
 inside-brought-run zero l = refl
 inside-brought-run (suc n) l = inside-brought (broughtRun n l) n ∙ inside-brought-run n l

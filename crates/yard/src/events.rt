@@ -8,6 +8,7 @@ ghost use Rattle.bits.specs.Field.{both, pick};
 ghost use Rattle.receiver.specs.Model.{noNln};
 use crate::LENGTH;
 use crate::settling::settle;
+use crate::settling::settle_aged;
 use layout::answer::cell_of;
 use receiver::NO_NLN;
 
@@ -49,7 +50,7 @@ pub fn joined(b: &mut [u8], time: u32, key: u32) -> u32
     if n != 0 {
         return n;
     }
-    settle(b, time, false);
+    settle_aged(b, time);
     0
 }
 
@@ -79,7 +80,7 @@ pub fn bit_22(b: &mut [u8], time: u32, value: u32) -> u32
     if n != 0 {
         return n;
     }
-    settle(b, time, false);
+    settle_aged(b, time);
     0
 }
 
@@ -94,7 +95,7 @@ pub fn tick(b: &mut [u8], time: u32) -> u32
     if n != 0 {
         return n;
     }
-    settle(b, time, false);
+    settle_aged(b, time);
     0
 }
 

@@ -2,6 +2,7 @@
 use native.Mathlib.Omega.{arith}
 use borrow.Author.Needs.{needs}
 use denote.Ref.{now}
+use Rattle.uplink_lent.proofs.Standing.{not-so}
 use Rattle.uplink_lent.proofs.Calls.{setup-strange, setup-refused, setup-accepted}
 use Rattle.uplink_lent.proofs.setup.Statement.{statement}
 use Rattle.uplink_lent.proofs.setup.Tie as tie
@@ -21,7 +22,7 @@ returns-2 c =
     setup-refused (now (a .b)) (a .s) (omega arith) (c .before .before .before .start .result) (c .before .before .before .start .ensures) (c .before .if2 .taken)
 
 store-requires : tie.Need-store-requires
-store-requires c κs = search needs
+store-requires c κs = (omega arith, λ t. absurd (not-so t))
 
 same-length : tie.Need-same-length
 same-length c = search needs

@@ -30,8 +30,8 @@ returns-2 c =
     let a = c5 .before .before .args in
     yard-refused (a .b .now) (tick (a .time)) (c5 .if1 .left) refl _ _ (c3 .tick .ensures) (c .if2 .taken)
 
-settle-requires : tie.Need-settle-requires
-settle-requires c κs =
+settle-aged-requires : tie.Need-settle-aged-requires
+settle-aged-requires c κs =
     let c4 = c .before .before .before .before in
     let c6 = c4 .before .before in
     let a = c6 .before .before .args in
@@ -47,7 +47,7 @@ returns-3 c =
     let c7 = c4 .before .before .before in
     let c9 = c7 .before .before in
     let a = c9 .before .before .args in
-    yard-accepted (a .b .now) (tick (a .time)) (c9 .if1 .left) refl _ _ (c7 .tick .ensures) (c4 .if2 .left) false refl _ (c2 .settle .ensures)
+    yard-accepted (a .b .now) (tick (a .time)) (c9 .if1 .left) refl _ _ (c7 .tick .ensures) (c4 .if2 .left) false refl _ (c2 .settle-aged .ensures)
 
 pub tick-spec : {M : Type 1} → statement M
 tick-spec =
@@ -59,6 +59,6 @@ tick-spec =
     tick-requires
     same-length
     returns-2
-    settle-requires
+    settle-aged-requires
     same-length-2
     returns-3)
