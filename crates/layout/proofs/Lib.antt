@@ -6,6 +6,7 @@ pub mod Finding
 pub mod Sweeps
 pub mod Runs
 pub mod NoneOut
+pub mod Left
 pub mod Fresh
 pub mod Reading
 pub mod Setting

@@ -128,13 +128,13 @@ spares-none : (rule : Rule) → takesNone rule ≡ true → (i : ℕ) → spares
 unfolding spares
 spares-none rule e i = rw (takes-none rule e (sideOf i))
 
-never : (a b : Bool) → both a (both b false) ≡ false
+pub never : (a b : Bool) → both a (both b false) ≡ false
 never true true = refl
 never true false = refl
 never false b = refl
 
 module _ (now : ℕ) (rule : Rule) (none : takesNone rule ≡ true) where
-  taken-none : (t i : ℕ) (s : Slot) → takenOf now t rule i s ≡ false
+  pub taken-none : (t i : ℕ) (s : Slot) → takenOf now t rule i s ≡ false
   unfolding takenOf
   taken-none t i s = rw (spares-none rule none i) (never (isHeld s) (not (ranOutOf now t s)))
 

@@ -3,17 +3,21 @@ ghost use mathlib.Core.Path.{_≡_};
 ghost use mathlib.Core.Bool.{true};
 ghost use Prim.Native.Nat.{ℕ, _+_, _*_, _/_, _%_, _<_, _≤_};
 ghost use lib.ListN.{length, getD};
-ghost use Rattle.receiver.specs.Channels.{places};
+ghost use Rattle.receiver.specs.Channels.{channels, keyCount, places, placeOn};
 ghost use Rattle.receiver.specs.Model.{ranOutOf};
 ghost use Rattle.layout.specs.Layout.{stateLength, kindPlace, slotNo};
 ghost use Rattle.layout.specs.Sweep.{timerNo};
-ghost use Rattle.layout.specs.Inner.{Running};
+ghost use Rattle.layout.specs.Inner.{Running, Leaves, Thirds};
 use crate::KINDS;
 use crate::SINCES;
 use crate::TIMERS;
 use crate::octets::u32_at;
 use crate::octets::u64_at;
 use receiver::PLACES;
+use receiver::Rule;
+use receiver::Setup;
+use receiver::channels;
+use receiver::channels::CHANNELS;
 
 // The places in whole groups of twenty-four: three numbers of eight kinds, and eight of each channel.
 const MANY: usize = PLACES / 24 * 24;
@@ -122,4 +126,103 @@ pub(crate) fn all_run(b: &[u8], tick: u32) -> bool
         j += 3;
     }
     rest_run(b, tick, t3206, t3208, t3210)
+}
+
+// Every third octet of a number of eight kinds, from its first, its second and its third on.
+const FIRST: u64 = 71776123339407615;
+
+const SECOND: u64 = 18374687574888349440;
+
+const THIRD: u64 = 280375481794560;
+
+// Whether every third octet is 0 in each of three numbers.
+fn thirds_empty(x: u64, y: u64, z: u64) -> bool
+    ensures { λ r. ⌜ (r ≡ true → Thirds x y z) ⌝ }
+{
+    x & FIRST | y & SECOND | z & THIRD == 0
+}
+
+// Whether the channels of which a rule takes halves hold none: the kinds of all places in three numbers, since 24 places have eight of each channel, and with no branch between them.
+fn bare(b: &[u8], rule: Rule) -> bool
+    requires { ⌜ length (now b) ≡ stateLength ⌝ }
+    ensures { λ r. ⌜ (r ≡ true → Leaves rule (now (b .entry))) ⌝ }
+{
+    let mut x: u64 = 0;
+    let mut y: u64 = 0;
+    let mut z: u64 = 0;
+    let mut i: usize = 0;
+    while i < MANY {
+        x = x | u64_at(b, KINDS + i);
+        y = y | u64_at(b, KINDS + i + 8);
+        z = z | u64_at(b, KINDS + i + 16);
+        i += 24;
+    }
+    x = x | u64_at(b, KINDS + MANY);
+    if rule.nch {
+        if !thirds_empty(x, y, z) {
+            return false;
+        }
+    }
+    if rule.facch {
+        if !thirds_empty(z, x, y) {
+            return false;
+        }
+    }
+    if rule.pch {
+        return thirds_empty(y, z, x);
+    }
+    true
+}
+
+// Whether the keys from one on to another hold nothing on a channel.
+fn none_held(b: &[u8], ch: usize, from: usize, to: usize) -> bool
+    requires { ⌜ (length (now b) ≡ stateLength) × ((ch < channels) × ((from ≤ to) × (to ≤ keyCount))) ⌝ }
+    ensures { λ r. ⌜ (r ≡ true → (key : ℕ) → from ≤ key → key < to → getD (now (b .entry)) (kindPlace (placeOn key ch)) 0 ≡ 0) ⌝ }
+{
+    let mut all: u8 = 0;
+    let mut key = from;
+    while key < to {
+        all = all | b[KINDS + (CHANNELS * key + ch)];
+        key += 1;
+    }
+    all == 0
+}
+
+// Whether no other key than one holds anything on a channel.
+fn alone(b: &[u8], ch: usize, but: usize) -> bool
+    requires { ⌜ (length (now b) ≡ stateLength) × (ch < channels) ⌝ }
+    ensures { λ r. ⌜ (r ≡ true → (key : ℕ) → key < keyCount → (key ≡ but → ⊥) → getD (now (b .entry)) (kindPlace (placeOn key ch)) 0 ≡ 0) ⌝ }
+{
+    if Setup::KEYS <= but {
+        return none_held(b, ch, 0, Setup::KEYS);
+    }
+    if !none_held(b, ch, 0, but) {
+        return false;
+    }
+    none_held(b, ch, but + 1, Setup::KEYS)
+}
+
+// Whether a rule takes nothing of what is held: as a rule none of its channels holds anything, or only the key does that it leaves.
+pub(crate) fn leaves_all(b: &[u8], rule: Rule) -> bool
+    requires { ⌜ length (now b) ≡ stateLength ⌝ }
+    ensures { λ r. ⌜ (r ≡ true → Leaves rule (now (b .entry))) ⌝ }
+{
+    if bare(b, rule) {
+        return true;
+    }
+    let but = rule.but;
+    if rule.nch {
+        if !alone(b, channels::NCH, but) {
+            return false;
+        }
+    }
+    if rule.facch {
+        if !alone(b, channels::FACCH, but) {
+            return false;
+        }
+    }
+    if rule.pch {
+        return alone(b, channels::PCH, but);
+    }
+    true
 }

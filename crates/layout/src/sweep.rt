@@ -16,6 +16,7 @@ use crate::SINCES;
 use crate::TIMERS;
 use crate::looking::all_run;
 use crate::looking::idle;
+use crate::looking::leaves_all;
 use crate::looking::quiet;
 use crate::octets::u32_at;
 use crate::places::empty;
@@ -208,6 +209,9 @@ pub fn sweep(b: &mut [u8], tick: u32, rule: Rule) -> Lost
         return none;
     }
     if takes_none(rule) {
+        return expire(b, tick);
+    }
+    if leaves_all(b, rule) {
         return expire(b, tick);
     }
     let taking = Rule {

@@ -8,7 +8,7 @@ ghost use Rattle.nch.specs.NotificationNumbers.{recordFrom, Fits};
 ghost use Rattle.receiver.specs.Channels.{keyCount, Channel, hasNln};
 ghost use Rattle.receiver.specs.Model.{noPaged, ruleFor, keep};
 ghost use Rattle.receiver.specs.Entries.{nchEntries, facchEntry, pagedOf, pchEntries};
-ghost use Rattle.receiver.specs.Count.{counting, countingOver, cellWith};
+ghost use Rattle.receiver.specs.Count.{bits, counting, countingOver, cellWith};
 ghost use Rattle.receiver.specs.Step.{changes, numbering, cellAfter, mostEntries, moved, nch, facch, pch, joined, reselected, handedOver, reconfigured, leftIdle, bit22, tick};
 ghost use Rattle.layout.specs.Layout.{stateLength, decodeOf};
 ghost use Rattle.lent.specs.Events.{Fed};
@@ -32,7 +32,6 @@ use receiver::count;
 use receiver::events;
 use receiver::meeting;
 use receiver::messages;
-use receiver::store;
 
 // The number that comes before the event's own: 13 for another length, then 9.
 fn early(b: &[u8], time: u32) -> u32
@@ -63,6 +62,16 @@ fn accept_tick(b: &mut [u8], time: u32)
 {
     let lost = pass(b, time);
     let cell = cell_of(b);
+    put_head(b, time, cell, lost.expired, lost.dropped, 0);
+}
+
+// An accepted value of bit 22. It takes no half, as a tick, and what is known of the cell is read behind the sweep too.
+fn accept_bit(b: &mut [u8], time: u32, value: u8)
+    requires { ⌜ length (now b) ≡ stateLength ⌝ }
+    ensures { λ _. ⌜ Accepted (now (b .entry)) time keep (cellWith (decodeOf (now (b .entry)) .cell) (bits value)) 0 [] noPaged (now (b .exit)) ⌝ }
+{
+    let lost = pass(b, time);
+    let cell = count::turned(cell_of(b), value);
     put_head(b, time, cell, lost.expired, lost.dropped, 0);
 }
 
@@ -255,8 +264,7 @@ pub fn bit_22(b: &mut [u8], time: u32, value: u32) -> u32
     if 1 < value {
         return 12;
     }
-    let cell = count::turned(cell_of(b), value as u8);
-    accept(b, time, store::keep(), cell);
+    accept_bit(b, time, value as u8);
     0
 }
 
