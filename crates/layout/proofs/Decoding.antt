@@ -30,7 +30,7 @@ use Rattle.layout.proofs.Wide.{Wide, wide-none}
 
 -- ## A record
 
-length-record : (r : Record) → length (recordOctets r) ≡ recordSize
+pub length-record : (r : Record) → length (recordOctets r) ≡ recordSize
 unfolding recordOctets lowOctets
 length-record r = refl
 
@@ -142,7 +142,7 @@ module _ (l : List ℕ) (at : ℕ) (r : Record) (h : at + recordSize ≤ length 
       wide-back 8 (r .rand) 16 32 (lowOctets 4 (r .call .reference) ++ (lowOctets 4 (r .call .description .channel) ++ lowOctets 8 (r .call .description .frequencies))) []
       (simp (append-assoc, append-nil)) (simp (length-append, length-octets)) refl refl lt
 
-  record-back : Wide r → recordAt (stored l at (recordOctets r)) at ≡ r
+  pub record-back : Wide r → recordAt (stored l at (recordOctets r)) at ≡ r
   unfolding recordAt recordOctets lowOctets
   record-back w = λ i.
       record {

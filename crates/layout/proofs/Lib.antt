@@ -2,6 +2,7 @@ pub mod States
 pub mod Numbers
 pub mod Wide
 pub mod Decoding
+pub mod Packing
 pub mod Finding
 pub mod Sweeps
 pub mod Runs

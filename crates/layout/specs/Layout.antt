@@ -224,6 +224,10 @@ unfoldable pub putSlot : List ℕ → ℕ → Slot → List ℕ
 putSlot l i s =
     stored (stored (set l (kindPlace i) (s .half)) (sincePlace i) (lowOctets 4 (s .since))) (recordPlace i) (recordOctets (s .«record»))
 
+-- the same of a record's octets
+unfoldable pub laidAt : List ℕ → ℕ → ℕ → ℕ → List ℕ → List ℕ
+laidAt l i half tick o = stored (stored (set l (kindPlace i) half) (sincePlace i) (lowOctets 4 tick)) (recordPlace i) o
+
 -- ## The answer
 
 abbrev pub isEntry : List ℕ → ℕ → Bool
@@ -293,6 +297,10 @@ putNumber l j t = stored (stored l (toldPlace j) (lowOctets 8 (t .key))) (toldPl
 
 unfoldable pub putCarried : List ℕ → ℕ → Told → List ℕ
 putCarried l j t = stored (putNumber l j t) (toldPlace j + 16) (recordOctets (t .«record»))
+
+-- the same of a record's octets
+unfoldable pub carriedAt : List ℕ → ℕ → Told → List ℕ → List ℕ
+carriedAt l j t o = stored (putNumber l j t) (toldPlace j + 16) o
 
 unfoldable pub putTold : List ℕ → ℕ → Told → List ℕ
 putTold l j t = pick (carries (t .number)) (putCarried l j t) (putNumber l j t)

@@ -7,11 +7,12 @@ ghost use Rattle.layout.specs.Octets.{leAt};
 ghost use Prim.Native.Nat.{_<_};
 ghost use lib.ListN.{length};
 ghost use Rattle.receiver.specs.Step.{mostEntries, toldOnly};
-ghost use Rattle.layout.specs.Layout.{tickFrom, stateLength, isState, isEntry, cellAt, putNumber, putCarried, pagedFrom, pagedOctets, putCounts, putHead};
+ghost use Rattle.layout.specs.Layout.{tickFrom, stateLength, isState, isEntry, cellAt, putNumber, putCarried, carriedAt, pagedFrom, pagedOctets, putCounts, putHead};
 use crate::ANSWER;
 use crate::CELL;
 use crate::LENGTH;
 use crate::PAGED;
+use crate::RECORD_LENGTH;
 use crate::TICK;
 use crate::TOLD_LENGTH;
 use crate::TOLDS;
@@ -20,6 +21,7 @@ use crate::octets::put_two;
 use crate::octets::put_u32;
 use crate::octets::put_u64;
 use crate::octets::u32_at;
+use crate::records::put_octets;
 use crate::records::put_record;
 use receiver::Cell;
 use receiver::MOST_ENTRIES;
@@ -92,6 +94,29 @@ pub fn put_told(b: &mut [u8], j: usize, key: u64, number: u8, follow: u8, kept: 
     }
     put_said(b, j, key, number, follow, kept);
     put_record(b, TOLDS + 16 + TOLD_LENGTH * j, e);
+}
+
+// An entry with its record as octets.
+pub fn put_laid(
+    b: &mut [u8],
+    j: usize,
+    key: u64,
+    number: u8,
+    follow: u8,
+    kept: u8,
+    o: &[u8; RECORD_LENGTH],
+)
+    ensures { λ _. ⌜ now (b .exit) ≡ pick (isEntry (now (b .entry)) j)
+        (carriedAt (now (b .entry)) j (record { key = key; number = number; «record» = noRecord; follow = follow; kept = kept }) (now (o .entry))) (now (b .entry)) ⌝ }
+{
+    if b.len() != LENGTH {
+        return;
+    }
+    if MOST_ENTRIES <= j {
+        return;
+    }
+    put_said(b, j, key, number, follow, kept);
+    put_octets(b, TOLDS + 16 + TOLD_LENGTH * j, o);
 }
 
 // The new tick, what is known of the cell then, and the answer's three numbers.

@@ -9,7 +9,7 @@ mod looking;
 mod octets;
 pub mod parts;
 pub mod places;
-mod records;
+pub mod records;
 pub mod setup;
 pub mod sweep;
 
@@ -38,7 +38,8 @@ const SINCES: usize = KINDS + (PLACES + 7) / 8 * 8;
 
 const RECORDS: usize = SINCES + 4 * PLACES;
 
-const RECORD_LENGTH: usize = 56;
+// The octets of a record.
+pub const RECORD_LENGTH: usize = 56;
 
 // Expiries, drops and the number of entries; then who is paged; then the entries.
 const ANSWER: usize = RECORDS + RECORD_LENGTH * PLACES;

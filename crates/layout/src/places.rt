@@ -7,7 +7,7 @@ ghost use Rattle.bits.specs.Field.{both, pick};
 ghost use Rattle.receiver.specs.Channels.{keyCount, places};
 ghost use Rattle.receiver.specs.Model.{noRecord, emptySlot, wrapSub, indexOf, storing};
 ghost use Rattle.layout.specs.Octets.{leAt, octetAt};
-ghost use Rattle.layout.specs.Layout.{tickFrom, stateLength, isState, isPlace, kindPlace, sincePlace, recordPlace, recordAt, keyNo, setNo, keysIn, putSlot};
+ghost use Rattle.layout.specs.Layout.{tickFrom, stateLength, isState, isPlace, kindPlace, sincePlace, recordPlace, recordAt, keyNo, setNo, keysIn, putSlot, laidAt};
 ghost use Rattle.layout.specs.Sweep.{timerNo};
 use crate::COUNT;
 use crate::KEYS_FROM;
@@ -21,6 +21,7 @@ use crate::TICK;
 use crate::TIMERS;
 use crate::octets::put_u32;
 use crate::octets::u32_at;
+use crate::records::put_octets;
 use crate::records::put_record;
 use crate::records::record_at;
 use receiver::PLACES;
@@ -133,6 +134,21 @@ pub fn store(b: &mut [u8], i: usize, half: u8, tick: u32, e: Record)
         return;
     }
     put(b, i, half, tick, e)
+}
+
+// A half comes to a place, its record as octets.
+pub fn lay(b: &mut [u8], i: usize, half: u8, tick: u32, o: &[u8; RECORD_LENGTH])
+    ensures { λ _. ⌜ now (b .exit) ≡ pick (isPlace (now (b .entry)) i) (laidAt (now (b .entry)) i half tick (now (o .entry))) (now (b .entry)) ⌝ }
+{
+    if b.len() != LENGTH {
+        return;
+    }
+    if PLACES <= i {
+        return;
+    }
+    b[KINDS + i] = half;
+    put_u32(b, SINCES + 4 * i, tick);
+    put_octets(b, RECORDS + RECORD_LENGTH * i, o);
 }
 
 pub fn clear(b: &mut [u8], i: usize)

@@ -1,11 +1,13 @@
-// A record in octets.
+// A record in octets: in those of a state, and in octets of its own, by which events hand it on. A struct of so many flags would be copied again and again, each time behind stores of single octets.
 ghost use mathlib.Core.Path.{_≡_};
 ghost use mathlib.Core.List.{[], _∷_, _++_};
 ghost use Prim.Native.Nat.{_+_, _≤_};
 ghost use lib.ListN.{length, replicate};
 ghost use Rattle.csn1.specs.Told.{asBit};
 ghost use Rattle.arrays.specs.Runs.{stored};
+ghost use Rattle.layout.specs.Octets.{leAt, lowOctets};
 ghost use Rattle.layout.specs.Layout.{recordSize, recordAt, entryFlags, messageFlags, smallNumbers, wideOctets, recordOctets};
+use crate::RECORD_LENGTH;
 use crate::octets::flag_at;
 use crate::octets::put_u32;
 use crate::octets::put_u64;
@@ -172,4 +174,77 @@ pub(crate) fn put_record(b: &mut [u8], at: usize, r: Record)
     put_entry(b, at + 24, r);
     put_message(b, at + 34, r);
     put_small(b, at + 44, r);
+}
+
+// Four flags as a number, so that one store puts them.
+fn four_flags(p: bool, q: bool, r: bool, s: bool) -> u32
+    ensures { λ x. ⌜ lowOctets 4 x ≡ asBit p ∷ asBit q ∷ asBit r ∷ asBit s ∷ [] ⌝ }
+{
+    p as u32 + (q as u32 + (r as u32 + s as u32 * 256) * 256) * 256
+}
+
+// Four octets, likewise.
+fn four(p: u8, q: u8, r: u8, s: u8) -> u32
+    ensures { λ x. ⌜ lowOctets 4 x ≡ p ∷ q ∷ r ∷ s ∷ [] ⌝ }
+{
+    p as u32 + (q as u32 + (r as u32 + s as u32 * 256) * 256) * 256
+}
+
+// A record as octets of its own. Its parts are put one by one: by functions of a record it would go through memory.
+pub fn octets_of(r: Record) -> [u8; RECORD_LENGTH]
+    ensures { λ o. ⌜ o ≡ recordOctets r ⌝ }
+{
+    let c = r.call;
+    let d = c.description;
+    let m = r.common;
+    let entry = four_flags(r.full, c.vgcs, c.acknowledged, c.hasDescription);
+    let channel = four_flags(d.hopping, d.shortlist, r.hasSegment, r.segment);
+    let random = four_flags(r.hasRandom, r.emergency, m.hasCount, m.b22);
+    let uplink = four_flags(m.hasUplink, m.uplink, m.hasAmr, m.hasFullrate);
+    let sms = four_flags(m.hasHalfrate, m.hasSms, m.confidential, m.private);
+    let small = four(c.priority, c.cipher, d.length, m.cellcount);
+    let rates = four(m.fullrate, m.halfrate, 0, 0);
+    let mut o = [0u8; RECORD_LENGTH];
+    put_u32(&mut o, 0, c.reference);
+    put_u32(&mut o, 4, d.channel);
+    put_u64(&mut o, 8, d.frequencies);
+    put_u64(&mut o, 16, r.rand);
+    put_u32(&mut o, 24, entry);
+    put_u32(&mut o, 28, channel);
+    put_u32(&mut o, 32, random);
+    put_u32(&mut o, 36, uplink);
+    put_u32(&mut o, 40, sms);
+    put_u32(&mut o, 44, small);
+    put_u32(&mut o, 48, rates);
+    put_u32(&mut o, 52, 0);
+    o
+}
+
+// The record that such octets are read as.
+pub fn record_in(o: &[u8; RECORD_LENGTH]) -> Record
+    ensures { λ r. ⌜ r ≡ recordAt (now (o .entry)) 0 ⌝ }
+{
+    record_at(o, 0)
+}
+
+// Eight octets, put at a place.
+fn put_eight(b: &mut [u8], at: usize, o: &[u8], from: usize)
+    requires { ⌜ (at + 8 ≤ length (now b)) × (from + 8 ≤ length (now o)) ⌝ }
+    ensures { λ _. ⌜ now (b .exit) ≡ stored (now (b .entry)) at (lowOctets 8 (leAt 8 (now (o .entry)) from)) ⌝ }
+{
+    put_u64(b, at, u64_at(o, from));
+}
+
+// All octets of a record.
+pub(crate) fn put_octets(b: &mut [u8], at: usize, o: &[u8])
+    requires { ⌜ (at + recordSize ≤ length (now b)) × (length (now o) ≡ recordSize) ⌝ }
+    ensures { λ _. ⌜ now (b .exit) ≡ stored (now (b .entry)) at (now (o .entry)) ⌝ }
+{
+    put_eight(b, at, o, 0);
+    put_eight(b, at + 8, o, 8);
+    put_eight(b, at + 16, o, 16);
+    put_eight(b, at + 24, o, 24);
+    put_eight(b, at + 32, o, 32);
+    put_eight(b, at + 40, o, 40);
+    put_eight(b, at + 48, o, 48);
 }

@@ -27,12 +27,13 @@ use Rattle.receiver.proofs.Cases.{by-test}
 use Rattle.receiver.proofs.Classes.{meet-whole, meet-none, meet-first, meet-second, meet-early, meet-stored, class-least}
 use Rattle.receiver.specs.Step.{mostEntries, setAt, toldAs, toldOnly, slotsAfter, toldOf}
 use Rattle.layout.specs.Octets.{octetAt}
-use Rattle.layout.specs.Layout.{stateLength, isState, isPlace, isEntry, recordAt, kindPlace, recordPlace, slotNo, decodeOf, carries, putSlot, putNumber, putCarried, toldNo, putTold, keysIn, setNo, setsIn}
+use Rattle.layout.specs.Layout.{stateLength, isState, isPlace, isEntry, recordAt, recordOctets, kindPlace, recordPlace, slotNo, decodeOf, carries, putSlot, putNumber, putCarried, toldNo, putTold, keysIn, setNo, setsIn}
 use Rattle.lent.specs.Events.{metOctets, tellOctets}
-use Rattle.lent.specs.Inner.{metHalf, Telling}
+use Rattle.lent.specs.Inner.{Packed, metHalf, Telling}
 use Rattle.layout.proofs.States.{at-state, at-one, at-place, at-entry}
 use Rattle.layout.proofs.Wide.{Octs, Wide, wide-none}
 use Rattle.layout.proofs.Decoding.{half-of, set-of, slot-held, length-put, told-with, told-without, decode-told, told-same}
+use Rattle.layout.proofs.Packing.{record-own}
 use Rattle.layout.proofs.Reading.{carries-high, carries-in}
 use Rattle.lent.proofs.Tellings.{telling}
 
@@ -259,3 +260,20 @@ module _ (l : List ℕ) (cell : Cell) (ch now j i : ℕ) (e : Record) (key : ℕ
   pub telling-ours : i < keyCount → Octs l → ch < channels → j < mostEntries → now < 4294967296 → Wide e
       → left ≡ metOctets l cell ch j i (keyOf (e .call)) (meetOf ch now (slotNo l (placeOn i ch)) e) → Telling l cell ch now j e left
   telling-ours h o b a t v p = rw (octets-ours h p) (telling l cell ch now j e whole o b a t v)
+
+-- ## Octets that are a record's own
+
+module _ (e : Record) (w : Wide e) (o : List ℕ) (p : o ≡ recordOctets e) where
+  own-record : recordAt o 0 ≡ e
+  own-record = ap (λ (x : List ℕ). recordAt x 0) p ∙ record-own e w
+
+  -- what they must be to be told
+  pub own-asked : (ch key c : ℕ) → key ≡ keyOf (e .call) → c ≡ classOf ch e → Packed o × ((key ≡ keyOf (recordAt o 0 .call)) × (c ≡ classOf ch (recordAt o 0)))
+  own-asked ch key c k q =
+      (p ∙ ap recordOctets (sym own-record), (k ∙ ap (λ (x : Record). keyOf (x .call)) (sym own-record), q ∙ ap (classOf ch) (sym own-record)))
+
+  -- and what telling them leaves
+  pub own-met : (l left : List ℕ) (cell : Cell) (ch now j i : ℕ)
+      → left ≡ metOctets l cell ch j i (keyOf (recordAt o 0 .call)) (meetOf ch now (slotNo l (placeOn i ch)) (recordAt o 0))
+      → left ≡ metOctets l cell ch j i (keyOf (e .call)) (meetOf ch now (slotNo l (placeOn i ch)) e)
+  own-met l left cell ch now j i h = h ∙ ap (λ (x : Record). metOctets l cell ch j i (keyOf (x .call)) (meetOf ch now (slotNo l (placeOn i ch)) x)) own-record

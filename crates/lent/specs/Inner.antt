@@ -20,7 +20,7 @@ use Rattle.receiver.specs.declared.Met.{Met}
 use Rattle.receiver.specs.Model.{late, joinedOf, only, meetHalf, withSlots}
 use Rattle.receiver.specs.Entries.{callWith, reducedWith}
 use Rattle.receiver.specs.Step.{noTold, slotsAfter, toldOf, allAfter, allTold, acceptedWith}
-use Rattle.layout.specs.Layout.{isState, decodeOf, keysIn, setsIn, toldNo, lastOf}
+use Rattle.layout.specs.Layout.{isState, recordAt, recordOctets, decodeOf, keysIn, setsIn, toldNo, lastOf}
 use Rattle.lent.specs.Events.{tellOctets, allOctets, acceptedOctets, answered}
 
 -- ## The entries of an NCH message by its numbers
@@ -46,6 +46,10 @@ pub record EntryFits (ns : List ℕ) (full : Bool) (at mark : ℕ) : Type 0 wher
   pub reduced : full ≡ false → ReducedFits ns at
 
 -- ## An entry, and all of them, told in place
+
+-- octets that are those of the record they are read as
+abbrev pub Packed : List ℕ → Type 0
+Packed o = o ≡ recordOctets (recordAt o 0)
 
 -- a half that comes where one is held
 abbrev pub metHalf : ℕ → Slot → Record → Met

@@ -6,22 +6,26 @@ ghost use lib.ListN.{length};
 ghost use Rattle.nch.specs.Places.{mostRandoms};
 ghost use Rattle.nch.specs.NotificationNumbers.{recordFrom, Fits};
 ghost use Rattle.receiver.specs.Channels.{channels, keyCount, places, placeOn};
-ghost use Rattle.receiver.specs.Model.{keyOf, meetOf};
+ghost use Rattle.receiver.specs.Model.{keyOf, classOf, meetOf};
 ghost use Rattle.bits.specs.Field.{pick};
 ghost use Rattle.receiver.specs.Step.{mostEntries, toldAs};
 ghost use Rattle.receiver.specs.Entries.{nchEntries, facchEntry, pchEntries};
-ghost use Rattle.layout.specs.Layout.{stateLength, isEntry, slotNo, putCarried};
+ghost use Rattle.layout.specs.Layout.{stateLength, isEntry, recordAt, slotNo, putCarried};
 ghost use Rattle.lent.specs.Events.{metOctets};
-ghost use Rattle.lent.specs.Inner.{metHalf, Telling, AllTold, entryFrom, EntryFits};
+ghost use Rattle.lent.specs.Inner.{Packed, metHalf, Telling, AllTold, entryFrom, EntryFits};
 use crate::entries::entry_at;
+use layout::RECORD_LENGTH;
+use layout::answer::put_laid;
 use layout::answer::put_number;
 use layout::answer::put_told;
 use layout::places::clear;
 use layout::places::half_at;
 use layout::places::held_at;
 use layout::places::index_of;
+use layout::places::lay;
 use layout::places::set_at;
-use layout::places::store;
+use layout::records::octets_of;
+use layout::records::record_in;
 use nch::places;
 use receiver::Cell;
 use receiver::Record;
@@ -48,18 +52,46 @@ fn put_complete(b: &mut [u8], set: u32, cell: Cell, j: usize, key: u64, number: 
     put_told(b, j, key, number, follow, count::beside(follow, cell), e);
 }
 
+// The same of a call whose record is at hand as octets.
+fn put_whole(
+    b: &mut [u8],
+    set: u32,
+    cell: Cell,
+    j: usize,
+    key: u64,
+    number: u8,
+    o: &[u8; RECORD_LENGTH],
+)
+    requires { ⌜ Packed (now o) ⌝ }
+    ensures { λ _. ⌜ now (b .exit) ≡ pick (isEntry (now (b .entry)) j) (putCarried (now (b .entry)) j (toldAs set cell key number (recordAt (now (o .entry)) 0))) (now (b .entry)) ⌝ }
+{
+    let e = record_in(o);
+    let follow = count::follow(set, cell, number, e.call.cipher);
+    put_laid(b, j, key, number, follow, count::beside(follow, cell), o);
+}
+
 // A half, the first (1) or the second (2), that comes where another is held: the same one again, or the opposite one, with which it joins if their references agree.
-fn met_half(b: &mut [u8], cell: Cell, ch: usize, j: usize, i: usize, half: u8, e: Record)
-    requires { ⌜ (length (now b) ≡ stateLength) × ((ch < channels) × ((j < mostEntries) × ((i < keyCount) × ((slotNo (now b) (placeOn i ch) .half ≡ 0 → ⊥) × ((1 ≤ half) × (half ≤ 2)))))) ⌝ }
-    ensures { λ _. ⌜ now (b .exit) ≡ metOctets (now (b .entry)) cell ch j i (keyOf (e .call)) (metHalf half (slotNo (now (b .entry)) (placeOn i ch)) e) ⌝ }
+fn met_half(
+    b: &mut [u8],
+    cell: Cell,
+    ch: usize,
+    j: usize,
+    i: usize,
+    key: u64,
+    half: u8,
+    o: &[u8; RECORD_LENGTH],
+)
+    requires { ⌜ (length (now b) ≡ stateLength) × ((ch < channels) × ((j < mostEntries) × ((i < keyCount) × ((slotNo (now b) (placeOn i ch) .half ≡ 0 → ⊥) × ((1 ≤ half) × ((half ≤ 2)
+        × (key ≡ keyOf (recordAt (now o) 0 .call)))))))) ⌝ }
+    ensures { λ _. ⌜ now (b .exit) ≡ metOctets (now (b .entry)) cell ch j i (keyOf (recordAt (now (o .entry)) 0 .call))
+        (metHalf half (slotNo (now (b .entry)) (placeOn i ch)) (recordAt (now (o .entry)) 0)) ⌝ }
 {
     let at = place_on(i, ch);
-    let call = e.call;
-    let key = meeting::key_of(call);
     if half_at(b, at) == half {
         put_number(b, j, key, 5);
         return;
     }
+    let e = record_in(o);
     let h = held_at(b, at);
     if !meeting::agrees(h, e) {
         put_number(b, j, key, 7);
@@ -67,24 +99,34 @@ fn met_half(b: &mut [u8], cell: Cell, ch: usize, j: usize, i: usize, half: u8, e
     }
     let set = set_at(b, i);
     clear(b, at);
-    if half == 1 {
-        put_complete(b, set, cell, j, key, 3, meeting::join(e, h));
-        return;
-    }
-    put_complete(b, set, cell, j, key, 3, meeting::join(h, e));
+    let y = if half == 1 {
+        meeting::join(e, h)
+    } else {
+        meeting::join(h, e)
+    };
+    put_complete(b, set, cell, j, key, 3, y);
 }
 
-// An entry under the key of subscription i meets its place on channel ch, with what is known of the cell.
-fn ours(b: &mut [u8], cell: Cell, ch: usize, tick: u32, j: usize, i: usize, e: Record)
-    requires { ⌜ (length (now b) ≡ stateLength) × ((ch < channels) × ((j < mostEntries) × (i < keyCount))) ⌝ }
-    ensures { λ _. ⌜ now (b .exit) ≡ metOctets (now (b .entry)) cell ch j i (keyOf (e .call)) (meetOf ch tick (slotNo (now (b .entry)) (placeOn i ch)) e) ⌝ }
+// An entry of class c under the key of subscription i meets its place on channel ch, with what is known of the cell.
+fn ours(
+    b: &mut [u8],
+    cell: Cell,
+    ch: usize,
+    tick: u32,
+    j: usize,
+    i: usize,
+    key: u64,
+    c: u8,
+    o: &[u8; RECORD_LENGTH],
+)
+    requires { ⌜ (length (now b) ≡ stateLength) × ((ch < channels) × ((j < mostEntries) × ((i < keyCount) × (Packed (now o) × ((key ≡ keyOf (recordAt (now o) 0 .call))
+        × (c ≡ classOf ch (recordAt (now o) 0))))))) ⌝ }
+    ensures { λ _. ⌜ now (b .exit) ≡ metOctets (now (b .entry)) cell ch j i (keyOf (recordAt (now (o .entry)) 0 .call))
+        (meetOf ch tick (slotNo (now (b .entry)) (placeOn i ch)) (recordAt (now (o .entry)) 0)) ⌝ }
 {
-    let call = e.call;
-    let key = meeting::key_of(call);
-    let c = meeting::class(ch, e);
     if c < 3 {
         let set = set_at(b, i);
-        put_complete(b, set, cell, j, key, c, e);
+        put_whole(b, set, cell, j, key, c, o);
         return;
     }
     if 4 < c {
@@ -93,7 +135,7 @@ fn ours(b: &mut [u8], cell: Cell, ch: usize, tick: u32, j: usize, i: usize, e: R
     }
     let at = place_on(i, ch);
     if half_at(b, at) != 0 {
-        met_half(b, cell, ch, j, i, c - 2, e);
+        met_half(b, cell, ch, j, i, key, c - 2, o);
         return;
     }
     if c == 4 {
@@ -102,7 +144,7 @@ fn ours(b: &mut [u8], cell: Cell, ch: usize, tick: u32, j: usize, i: usize, e: R
             return;
         }
     }
-    store(b, at, c - 2, tick, e);
+    lay(b, at, c - 2, tick, o);
     put_number(b, j, key, 4);
 }
 
@@ -118,15 +160,10 @@ pub(crate) fn tell_facch(b: &mut [u8], cell: Cell, tick: u32, m: facch::Notifica
         put_number(b, 0, key, 0);
         return;
     }
-    ours(
-        b,
-        cell,
-        channels::FACCH,
-        tick,
-        0,
-        i,
-        messages::facch_entry(m),
-    );
+    let e = messages::facch_entry(m);
+    let class = meeting::class(channels::FACCH, e);
+    let o = octets_of(e);
+    ours(b, cell, channels::FACCH, tick, 0, i, key, class, &o);
 }
 
 // An entry of the PCH, likewise.
@@ -141,7 +178,10 @@ pub(crate) fn tell_pch(b: &mut [u8], cell: Cell, tick: u32, p: pch::Entry)
         put_number(b, 0, key, 0);
         return;
     }
-    ours(b, cell, channels::PCH, tick, 0, i, messages::pch_entry(p));
+    let e = messages::pch_entry(p);
+    let class = meeting::class(channels::PCH, e);
+    let o = octets_of(e);
+    ours(b, cell, channels::PCH, tick, 0, i, key, class, &o);
 }
 
 // The j-th entry of an NCH message, whose numbers stand at a place: told 0 where its key is not ours; its record is made only where it is. Calls and reduced references
@@ -166,7 +206,10 @@ fn tell_numbers(
         put_number(b, j, key, 0);
         return;
     }
-    ours(b, cell, 0, tick, j, i, entry_at(m, full, at, random, mark));
+    let e = entry_at(m, full, at, random, mark);
+    let class = meeting::class(0, e);
+    let o = octets_of(e);
+    ours(b, cell, 0, tick, j, i, key, class, &o);
 }
 
 // All entries of an NCH message, calls then reduced references, from its numbers, and how many they are.

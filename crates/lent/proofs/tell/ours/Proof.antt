@@ -1,26 +1,26 @@
 -- `lent::tell::ours` meets its contract. Assumes nothing.
-use mathlib.Core.Path.{_≡_, refl, sym, _∙_}
+use mathlib.Core.Path.{_≡_, refl, sym, ap, _∙_}
 use mathlib.Core.Bool.{true}
+use mathlib.Core.List.{List}
 use mathlib.Core.Logic.{⊎-elim}
+use Prim.Native.Nat.{ℕ}
 use native.Mathlib.Omega.{arith}
+use denote.Ref.{now}
 use borrow.Author.Tests.{not-true, not-false}
 use borrow.Author.Needs.{needs}
+use Rattle.bits.specs.Field.{pick}
 use Rattle.receiver.specs.Channels.{leads}
+use Rattle.layout.specs.Layout.{isPlace, recordAt}
+use Rattle.layout.proofs.Packing.{laid-slot}
 use Rattle.lent.proofs.Outcomes.{left-whole, left-none, place-held, left-half, left-early, left-stored}
 use Rattle.lent.proofs.tell.ours.Statement.{statement}
 use Rattle.lent.proofs.tell.ours.Tie as tie
 
-key-of-requires : tie.Need-key-of-requires
-key-of-requires c κs = tt
-
-class-requires : tie.Need-class-requires
-class-requires c κs = tt
-
 set-at-requires : tie.Need-set-at-requires
 set-at-requires c κs = tt
 
-put-complete-requires : tie.Need-put-complete-requires
-put-complete-requires c κs = tt
+put-whole-requires : tie.Need-put-whole-requires
+put-whole-requires c κs = search needs
 
 same-length : tie.Need-same-length
 same-length c = search needs
@@ -30,13 +30,12 @@ returns c =
     let c2 = c .before .before in
     let c4 = c2 .before .before in
     let c6 = c4 .before .before in
-    let c7 = c6 .before in
-    let c8 = c7 .before in
-    let c11 = c8 .before .before .before in
-    let a = c11 .args in
-    let p = c11 .pre in
-    left-whole (a .b .now) (a .cell) (a .ch) (a .tick) (a .j) (a .i) (a .e) (p .0) (p .1 .1 .0) _ _ (c8 .key-of .ensures) (c7 .class .ensures) _
-    (c6 .if1 .taken) (p .1 .1 .1) _ (c4 .set-at .ensures) _ refl (c2 .put-complete .ensures)
+    let c8 = c6 .before .before in
+    let a = c8 .args in
+    let p = c8 .pre in
+    let q = p .1 .1 .1 in
+    left-whole (a .b .now) (a .cell) (a .ch) (a .tick) (a .j) (a .i) (recordAt (now (a .o)) 0) (p .0) (p .1 .1 .0) _ _ (q .1 .1 .0) (q .1 .1 .1) _
+    (c6 .if1 .taken) (q .0) _ (c4 .set-at .ensures) _ refl (c2 .put-whole .ensures)
 
 put-number-requires : tie.Need-put-number-requires
 put-number-requires c κs = tt
@@ -48,12 +47,11 @@ returns-2 : tie.Need-returns-2
 returns-2 c =
     let c2 = c .before .before in
     let c4 = c2 .before .before in
-    let c6 = c4 .before .before in
-    let c7 = c6 .before in
-    let c10 = c7 .before .before .before in
-    let a = c10 .args in
-    let p = c10 .pre in
-    left-none (a .b .now) (a .cell) (a .ch) (a .tick) (a .j) (a .i) (a .e) (p .0) (p .1 .1 .0) _ _ (c7 .key-of .ensures) (c6 .class .ensures) _
+    let c7 = c4 .before .before .before in
+    let a = c7 .args in
+    let p = c7 .pre in
+    let q = p .1 .1 .1 in
+    left-none (a .b .now) (a .cell) (a .ch) (a .tick) (a .j) (a .i) (recordAt (now (a .o)) 0) (p .0) (p .1 .1 .0) _ _ (q .1 .1 .0) (q .1 .1 .1) _
     (c4 .if2 .taken) (c2 .put-number .ensures)
 
 place-on-requires : tie.Need-place-on-requires
@@ -72,16 +70,15 @@ met-half-requires c κs =
     let c4 = c2 .before .before in
     let c5 = c4 .before in
     let c6 = c5 .before in
-    let c7 = c6 .before in
-    let c8 = c7 .before in
-    let c11 = c8 .before .before .before in
-    let a = c11 .args in
-    let p = c11 .pre in
+    let c8 = c6 .before .before in
+    let a = c8 .args in
+    let p = c8 .pre in
+    let q = p .1 .1 .1 in
     let n =
-    place-held (a .b .now) (a .cell) (a .ch) (a .tick) (a .j) (a .i) (a .e) (p .0) (p .1 .1 .0) _ _ (c8 .key-of .ensures) (c7 .class .ensures) _ (c4 .place-on .ensures)
+    place-held (a .b .now) (a .cell) (a .ch) (a .tick) (a .j) (a .i) (recordAt (now (a .o)) 0) (p .0) (p .1 .1 .0) _ _ (q .1 .1 .0) (q .1 .1 .1) _ (c4 .place-on .ensures)
     (c6 .if1 .left) (c5 .if2 .left) _ (c2 .half-at .ensures) (c1 .if3 .taken)
     in
-    (p .0, (p .1 .0, (p .1 .1 .0, (p .1 .1 .1, (n, (omega (arith, c6 .if1 .left), omega (arith, c5 .if2 .left)))))))
+    (p .0, (p .1 .0, (p .1 .1 .0, (q .0, (n, (omega (arith, c6 .if1 .left), (omega (arith, c5 .if2 .left), q .1 .1 .0)))))))
 
 same-length-3 : tie.Need-same-length-3
 same-length-3 c = search needs
@@ -94,12 +91,11 @@ returns-3 c =
     let c7 = c5 .before .before in
     let c8 = c7 .before in
     let c9 = c8 .before in
-    let c10 = c9 .before in
-    let c11 = c10 .before in
-    let c14 = c11 .before .before .before in
-    let a = c14 .args in
-    let p = c14 .pre in
-    left-half (a .b .now) (a .cell) (a .ch) (a .tick) (a .j) (a .i) (a .e) (p .0) (p .1 .1 .0) _ _ (c11 .key-of .ensures) (c10 .class .ensures) _
+    let c11 = c9 .before .before in
+    let a = c11 .args in
+    let p = c11 .pre in
+    let q = p .1 .1 .1 in
+    left-half (a .b .now) (a .cell) (a .ch) (a .tick) (a .j) (a .i) (recordAt (now (a .o)) 0) (p .0) (p .1 .1 .0) _ _ (q .1 .1 .0) (q .1 .1 .1) _
     (c7 .place-on .ensures) (c9 .if1 .left) (c8 .if2 .left) _ (c5 .half-at .ensures) _ (c4 .if3 .taken) (c2 .met-half .ensures)
 
 leads-requires : tie.Need-leads-requires
@@ -122,20 +118,19 @@ returns-4 c =
     let c10 = c8 .before .before in
     let c11 = c10 .before in
     let c12 = c11 .before in
-    let c13 = c12 .before in
-    let c14 = c13 .before in
-    let c17 = c14 .before .before .before in
-    let a = c17 .args in
-    let p = c17 .pre in
-    left-early (a .b .now) (a .cell) (a .ch) (a .tick) (a .j) (a .i) (a .e) (p .0) (p .1 .1 .0) _ _ (c14 .key-of .ensures) (c13 .class .ensures) _
+    let c14 = c12 .before .before in
+    let a = c14 .args in
+    let p = c14 .pre in
+    let q = p .1 .1 .1 in
+    left-early (a .b .now) (a .cell) (a .ch) (a .tick) (a .j) (a .i) (recordAt (now (a .o)) 0) (p .0) (p .1 .1 .0) _ _ (q .1 .1 .0) (q .1 .1 .1) _
     (c10 .place-on .ensures) (c12 .if1 .left) (c11 .if2 .left) _ (c8 .half-at .ensures) (c7 .if3 .left) _ (c6 .if4 .taken)
     (sym (c5 .leads .ensures) ∙ not-true (c5 .leads .result) (c4 .if5 .taken)) (c2 .put-number2 .ensures)
 
-sub-store : tie.Need-sub-store
-sub-store c = search needs
+sub-lay : tie.Need-sub-lay
+sub-lay c = search needs
 
-store-requires : tie.Need-store-requires
-store-requires c κs = tt
+lay-requires : tie.Need-lay-requires
+lay-requires c κs = tt
 
 put-number-requires-3 : tie.Need-put-number-requires-3
 put-number-requires-3 c κs = tt
@@ -153,25 +148,25 @@ returns-5 c =
     let c12 = c10 .before .before in
     let c13 = c12 .before in
     let c14 = c13 .before in
-    let c15 = c14 .before in
-    let c16 = c15 .before in
-    let c19 = c16 .before .before .before in
-    let a = c19 .args in
-    let p = c19 .pre in
-    let f : c15 .class .result ≡ 4 → leads (a .ch) ≡ true =
-    λ q. ⊎-elim (λ w. sym (w .1 .ensures) ∙ not-false (w .1 .result) (w .2 .left)) (λ w. absurd (w .left q)) (c8 .if4 .came)
+    let c16 = c14 .before .before in
+    let a = c16 .args in
+    let p = c16 .pre in
+    let q = p .1 .1 .1 in
+    let l = a .b .now in
+    let at = c12 .place-on .result in
+    let f : a .c ≡ 4 → leads (a .ch) ≡ true =
+    λ u. ⊎-elim (λ w. sym (w .1 .ensures) ∙ not-false (w .1 .result) (w .2 .left)) (λ w. absurd (w .left u)) (c8 .if4 .came)
     in
-    left-stored (a .b .now) (a .cell) (a .ch) (a .tick) (a .j) (a .i) (a .e) (p .0) (p .1 .1 .0) _ _ (c16 .key-of .ensures) (c15 .class .ensures) _ (c12 .place-on .ensures)
-    (c14 .if1 .left) (c13 .if2 .left) _ (c10 .half-at .ensures) (c9 .if3 .left) _ _ f (c6 .store .ensures) (c2 .put-number3 .ensures)
+    let d = c6 .lay .ensures ∙ ap (λ (x : List ℕ). pick (isPlace l at) x l) (laid-slot l at _ (a .tick) (recordAt (now (a .o)) 0) (now (a .o)) (q .1 .0)) in
+    left-stored l (a .cell) (a .ch) (a .tick) (a .j) (a .i) (recordAt (now (a .o)) 0) (p .0) (p .1 .1 .0) _ _ (q .1 .1 .0) (q .1 .1 .1) _ (c12 .place-on .ensures)
+    (c14 .if1 .left) (c13 .if2 .left) _ (c10 .half-at .ensures) (c9 .if3 .left) _ _ f d (c2 .put-number3 .ensures)
 
 pub ours-spec : {M : Type 1} → statement M
 ours-spec =
     tie.close
     (tie.spec
-    key-of-requires
-    class-requires
     set-at-requires
-    put-complete-requires
+    put-whole-requires
     same-length
     returns
     put-number-requires
@@ -187,8 +182,8 @@ ours-spec =
     put-number-requires-2
     same-length-4
     returns-4
-    sub-store
-    store-requires
+    sub-lay
+    lay-requires
     put-number-requires-3
     same-length-5
     returns-5)

@@ -7,7 +7,7 @@ use Rattle.receiver.specs.declared.Record.{Record}
 use Rattle.receiver.specs.Model.{keyOf}
 use Rattle.receiver.specs.Entries.{facchEntry}
 use Rattle.lent.proofs.Tellings.{all-one-told}
-use Rattle.lent.proofs.Outcomes.{wide-value, telling-other, telling-ours}
+use Rattle.lent.proofs.Outcomes.{wide-value, telling-other, telling-ours, own-asked, own-met}
 use Rattle.lent.proofs.tell.tell_facch.Statement.{statement}
 use Rattle.lent.proofs.tell.tell_facch.Tie as tie
 
@@ -41,8 +41,24 @@ returns c =
 facch-entry-requires : tie.Need-facch-entry-requires
 facch-entry-requires c κs = tt
 
+class-requires : tie.Need-class-requires
+class-requires c κs = tt
+
+octets-of-requires : tie.Need-octets-of-requires
+octets-of-requires c κs = tt
+
 ours-requires : tie.Need-ours-requires
-ours-requires c κs = search needs
+unfolding facchEntry
+ours-requires c κs =
+    let c2 = c .before .before in
+    let c3 = c2 .before in
+    let c4 = c3 .before in
+    let c5 = c4 .before in
+    let c8 = c5 .before .before .before in
+    let c11 = c8 .before .before .before in
+    let f = c4 .facch-entry in
+    let k = c8 .key-of .ensures ∙ ap (λ (r : Record). keyOf (r .call)) (sym (f .ensures)) in
+    (c11 .pre, (lit< tt, (lit< tt, (omega (arith, c5 .if1 .left), own-asked (f .result) (wide-value _ _ (f .ok)) _ (c2 .octets-of .ensures) 1 _ _ k (c3 .class .ensures)))))
 
 same-length-2 : tie.Need-same-length-2
 same-length-2 c = search needs
@@ -51,20 +67,23 @@ returns-2 : tie.Need-returns-2
 unfolding facchEntry
 returns-2 c =
     let c2 = c .before .before in
-    let c3 = c2 .before in
-    let c5 = c3 .before .before in
-    let c6 = c5 .before in
-    let c8 = c6 .before .before in
-    let c10 = c8 .before .before in
-    let c11 = c10 .before in
-    let a = c11 .args in
+    let c5 = c2 .before .before .before in
+    let c7 = c5 .before .before in
+    let c8 = c7 .before in
+    let c9 = c8 .before in
+    let c11 = c9 .before .before in
+    let c13 = c11 .before .before in
+    let c14 = c13 .before in
+    let a = c14 .args in
     let l = a .b .now in
-    let f = c3 .facch-entry in
+    let f = c7 .facch-entry in
     let e = f .result in
-    let k : c8 .key-of .result ≡ keyOf (e .call) = c8 .key-of .ensures ∙ ap (λ (r : Record). keyOf (r .call)) (sym (f .ensures)) in
+    let w = wide-value _ _ (f .ok) in
+    let k : c11 .key-of .result ≡ keyOf (e .call) = c11 .key-of .ensures ∙ ap (λ (r : Record). keyOf (r .call)) (sym (f .ensures)) in
+    let m = own-met e w _ (c5 .octets-of .ensures) l _ (a .cell) 1 (a .tick) 0 _ (c2 .ours .ensures) in
     let t =
-    telling-ours l (a .cell) 1 (a .tick) 0 _ e _ k (c11 .pre) (c6 .index-of .ensures) _ (omega (arith, c5 .if1 .left)) (λ x. omega (arith, c10 .slice-known .given x)) (lit< tt)
-    (lit< tt) (omega arith) (wide-value _ _ (f .ok)) (c2 .ours .ensures)
+    telling-ours l (a .cell) 1 (a .tick) 0 _ e _ k (c14 .pre) (c9 .index-of .ensures) _ (omega (arith, c8 .if1 .left))
+    (λ x. omega (arith, c13 .slice-known .given x)) (lit< tt) (lit< tt) (omega arith) w m
     in
     rw (sym (f .ensures)) (all-one-told l (a .cell) 1 (a .tick) e _ (lit< tt) t)
 
@@ -78,6 +97,8 @@ tell-facch-spec =
     same-length
     returns
     facch-entry-requires
+    class-requires
+    octets-of-requires
     ours-requires
     same-length-2
     returns-2)

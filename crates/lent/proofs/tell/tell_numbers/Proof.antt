@@ -8,7 +8,7 @@ use Rattle.receiver.specs.declared.Record.{Record}
 use Rattle.receiver.specs.Model.{keyOf}
 use Rattle.lent.specs.Inner.{entryFrom}
 use Rattle.lent.proofs.FromNumbers.{key-from}
-use Rattle.lent.proofs.Outcomes.{wide-value, telling-other, telling-ours}
+use Rattle.lent.proofs.Outcomes.{wide-value, telling-other, telling-ours, own-asked, own-met}
 use Rattle.lent.proofs.tell.tell_numbers.Statement.{statement}
 use Rattle.lent.proofs.tell.tell_numbers.Tie as tie
 
@@ -58,8 +58,24 @@ returns c =
 entry-at-requires : tie.Need-entry-at-requires
 entry-at-requires c κs = search needs
 
+class-requires : tie.Need-class-requires
+class-requires c κs = tt
+
+octets-of-requires : tie.Need-octets-of-requires
+octets-of-requires c κs = tt
+
 ours-requires : tie.Need-ours-requires
-ours-requires c κs = search needs
+ours-requires c κs =
+    let c2 = c .before .before in
+    let c3 = c2 .before in
+    let c4 = c3 .before in
+    let c5 = c4 .before in
+    let c12 = c5 .before .before .before .before .before .before .before in
+    let a = c12 .args in
+    let p = c12 .pre in
+    let e = c4 .entry-at in
+    let k = key-from (now (a .m)) (a .full) (a .at) (a .random) (a .mark) (p .1 .1 .1 .1 .service) ∙ ap (λ (r : Record). keyOf (r .call)) (sym (e .ensures)) in
+    (p .0, (lit< tt, (p .1 .0, (omega (arith, c5 .if1 .left), own-asked (e .result) (wide-value _ _ (e .ok)) _ (c2 .octets-of .ensures) 0 _ _ k (c3 .class .ensures)))))
 
 same-length-2 : tie.Need-same-length-2
 same-length-2 c = search needs
@@ -67,18 +83,21 @@ same-length-2 c = search needs
 returns-2 : tie.Need-returns-2
 returns-2 c =
     let c2 = c .before .before in
-    let c3 = c2 .before in
-    let c5 = c3 .before .before in
-    let c6 = c5 .before in
-    let c11 = c6 .before .before .before .before .before in
-    let c12 = c11 .before in
-    let a = c12 .args in
-    let p = c12 .pre in
-    let e = c3 .entry-at in
+    let c5 = c2 .before .before .before in
+    let c7 = c5 .before .before in
+    let c8 = c7 .before in
+    let c9 = c8 .before in
+    let c14 = c9 .before .before .before .before .before in
+    let c15 = c14 .before in
+    let a = c15 .args in
+    let p = c15 .pre in
+    let e = c7 .entry-at in
+    let w = wide-value _ _ (e .ok) in
     let k = key-from (now (a .m)) (a .full) (a .at) (a .random) (a .mark) (p .1 .1 .1 .1 .service) ∙ ap (λ (r : Record). keyOf (r .call)) (sym (e .ensures)) in
+    let m = own-met (e .result) w _ (c5 .octets-of .ensures) (a .b .now) _ (a .cell) 0 (a .tick) (a .j) _ (c2 .ours .ensures) in
     rw (sym (e .ensures))
-    (telling-ours (a .b .now) (a .cell) 0 (a .tick) (a .j) _ (e .result) _ k (p .0) (c6 .index-of .ensures) _ (omega (arith, c5 .if1 .left))
-    (λ x. omega (arith, c11 .slice-known .given x)) (lit< tt) (p .1 .0) (omega arith) (wide-value _ _ (e .ok)) (c2 .ours .ensures))
+    (telling-ours (a .b .now) (a .cell) 0 (a .tick) (a .j) _ (e .result) _ k (p .0) (c9 .index-of .ensures) _ (omega (arith, c8 .if1 .left))
+    (λ x. omega (arith, c14 .slice-known .given x)) (lit< tt) (p .1 .0) (omega arith) w m)
 
 pub tell-numbers-spec : {M : Type 1} → statement M
 tell-numbers-spec =
@@ -96,6 +115,8 @@ tell-numbers-spec =
     same-length
     returns
     entry-at-requires
+    class-requires
+    octets-of-requires
     ours-requires
     same-length-2
     returns-2)
