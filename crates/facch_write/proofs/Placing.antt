@@ -4,27 +4,24 @@ use mathlib.Core.List.{List, [], _∷_, _++_, append-assoc, append-nil}
 use mathlib.Core.Bool.{Bool, true, false}
 use mathlib.Core.Option.{Option, none, some}
 use mathlib.Core.Logic.{_⊎_, inl, inr}
-use Prim.Native.Nat.{ℕ, zero, suc, _+_, _-_, _*_, _^_, _≤_, _<_}
-use native.Mathlib.Numerals.{add-one}
+use Prim.Native.Nat.{ℕ, _+_, _-_, _*_, _^_, _≤_, _<_}
 use native.Mathlib.Omega.{arith}
-use lib.ListN.{length, take, set, replicate, length-append}
-use lib.Seq.{take-all, take-suc-set}
+use lib.ListN.{length, replicate, length-append}
 use lib.Dec.{eqb}
 use borrow.Author.Tests.{le-leb, lt-leb, eq-eqb, ne-eqb}
 use mir.Val.{boolByte}
-use Rattle.bits.specs.Field.{both, pick, afterPut}
+use Rattle.bits.specs.Field.{pick}
 use Rattle.csn1.specs.Format.{num, numBits, rowBits, opt, eitherBits, release, putBits, _⨟_}
 use Rattle.csn1.specs.Grammar.{format}
-use Rattle.csn1.specs.Inner.{Put}
 use Rattle.csn1.specs.Told.{there, asBit}
 use Rattle.csn1.proofs.Holding.{length-numBits}
-use Rattle.csn1.proofs.Putting.{Laid, laid-then, laid-number, laid-row, bits}
 use Rattle.csn1.proofs.Writing.{flag-byte, flag-lt}
 use Rattle.call.specs.Call.{CallValue, callGrammar, groupCall, callValue}
-use Rattle.call.specs.Write.{callSize, afterPutCall}
+use Rattle.call.specs.Write.{callSize}
 use Rattle.call.proofs.Laws.{call-anywhere}
-use Rattle.call.proofs.Put.{call-laid}
-use Rattle.call.specs.Write.{callInRange, callIsLow, callLengthRight, callHopsRight}
+use Rattle.pen.specs.declared.Words.{Words}
+use Rattle.pen.specs.Words.{whole, wholeAfter, storedIn, Adds}
+use Rattle.pen.proofs.Adding.{adds-as, adds-number, adds-row, adds-then, stored-bits}
 use Rattle.facch.specs.declared.Page.{Page}
 use Rattle.facch.specs.declared.Notification.{Notification}
 use Rattle.facch.specs.Message.{PagingValue, identity, paging, release6, release7, notification}
@@ -37,20 +34,6 @@ use Rattle.facch_write.proofs.Records.{one-more}
 -- a strip is as wide as its bits are many
 pub width-is : {s : Strip} {bs : List ℕ} → Says s bs → s .width ≡ length bs
 width-is {s} f = sym (length-numBits (s .width) (s .value)) ∙ ap length (f .bits)
-
--- ## Padding
-
-pub padded-next : (b : List ℕ) (i : ℕ) → i < length b → take i b ≡ replicate i 43 → take (i + 1) (set b i 43) ≡ replicate (i + 1) 43
-padded-next b i h e = rw (add-one i) (take-suc-set b i 43 h ∙ ap (λ (l : List ℕ). l ++ (43 ∷ [])) e ∙ one-more-of i)
-  where
-    one-more-of : (k : ℕ) → _++_ {A = ℕ} (replicate k 43) (43 ∷ []) ≡ replicate (suc k) 43
-    one-more-of zero = refl
-    one-more-of (suc k) = ap (λ (l : List ℕ). 43 ∷ l) (one-more-of k)
-
-pub padded-all : (b : List ℕ) (i n : ℕ) → length b ≡ n → length b ≤ i → i ≤ length b → take i b ≡ replicate i 43 → b ≡ replicate n 43
-padded-all b i n e h l t =
-    let k : i ≡ n = omega arith in
-    sym (take-all i b h) ∙ t ∙ ap (λ (j : ℕ). replicate j 43) k
 
 -- ## Parts whose bits are the same at every place
 
@@ -101,11 +84,11 @@ regrouped : (a b c d : List ℕ) → (a ++ (b ++ [])) ++ (c ++ d) ≡ (a ++ (b +
 regrouped a b c d = simp (append-assoc, append-nil)
 
 -- the length and the first octet, the other octets, and what stands behind them
-module _ {n : ℕ} (p : Page) (b d e g : List ℕ) (size : length b * 8 ≡ n) (size1 : length d ≡ length b) (size2 : length e ≡ length d)
-    (some-octets : 1 ≤ p .identityLength) (few : p .identityLength ≤ 9) (first : p .identityFirst < 2 ^ 8) (rest : p .identityRest < 2 ^ (8 * (p .identityLength - 1)))
-    (x : d ≡ afterPut b 9 16 (p .identityLength * 256 + p .identityFirst)) (y : e ≡ afterPut d 25 (8 * (p .identityLength - 1)) (p .identityRest))
+module _ (p : Page) (a b c d : ℕ) (some-octets : 1 ≤ p .identityLength) (few : p .identityLength ≤ 9) (first : p .identityFirst < 2 ^ 8)
+    (rest : p .identityRest < 2 ^ (8 * (p .identityLength - 1)))
+    (x : b ≡ wholeAfter a 16 (p .identityLength * 256 + p .identityFirst)) (y : c ≡ wholeAfter b (8 * (p .identityLength - 1)) (p .identityRest))
     (s : Strip) (f : Says s ((num 2 ⨟ opt (num 3)) .bits 0 0 (p .channelFirst, there (p .hasPriority) (p .priority))))
-    (z : g ≡ afterPut e (17 + 8 * p .identityLength) (s .width) (s .value))
+    (z : d ≡ wholeAfter c (s .width) (s .value))
   where
     abbrev octets : List ℕ
     octets = numBits (8 * (p .identityLength - 1)) (p .identityRest)
@@ -113,63 +96,44 @@ module _ {n : ℕ} (p : Page) (b d e g : List ℕ) (size : length b * 8 ≡ n) (
     abbrev last : List ℕ
     last = (num 2 ⨟ opt (num 3)) .bits 0 0 (p .channelFirst, there (p .hasPriority) (p .priority))
 
-    one : Laid n 9 (rowBits (8 ∷ 8 ∷ []) (p .identityLength ∷ p .identityFirst ∷ [])) 25 b d
+    one : Adds a b (rowBits (8 ∷ 8 ∷ []) (p .identityLength ∷ p .identityFirst ∷ []))
     one =
-        laid-row b d 9 size (8 ∷ 8 ∷ []) (p .identityLength ∷ p .identityFirst ∷ []) (p .identityLength * 256 + p .identityFirst) x (omega arith) (omega arith)
+        adds-row (8 ∷ 8 ∷ []) (p .identityLength ∷ p .identityFirst ∷ []) (p .identityLength * 256 + p .identityFirst) x (omega arith) (omega arith)
         ((omega arith, (first, tt)))
 
-    two : Laid n 25 octets (25 + 8 * (p .identityLength - 1)) d e
-    two = laid-number d e 25 (omega arith) (8 * (p .identityLength - 1)) (p .identityRest) y (omega arith) rest
+    two : Adds b c octets
+    two = adds-number (8 * (p .identityLength - 1)) (p .identityRest) y (omega arith) rest
 
-    three : Laid n (25 + 8 * (p .identityLength - 1)) last (25 + 8 * (p .identityLength - 1) + s .width) e g
-    three =
-        let k : 17 + 8 * p .identityLength ≡ 25 + 8 * (p .identityLength - 1) = omega arith in
-        rw (← f .bits)
-        (laid-number e g (25 + 8 * (p .identityLength - 1)) (omega arith) (s .width) (s .value) (rw k at z) (omega (arith, f .few)) (f .small))
+    three : Adds c d last
+    three = adds-as (f .bits) (adds-number (s .width) (s .value) z (omega (arith, f .few)) (f .small))
 
-    tails : last ≡ (num 2 ⨟ opt (num 3)) .bits n (9 + length (format identity .bits n 9 (pagingValue p .0))) (p .channelFirst, there (p .hasPriority) (p .priority))
-    tails = sym (tail-anywhere n (9 + length (format identity .bits n 9 (pagingValue p .0))) (p .channelFirst) (there (p .hasPriority) (p .priority)))
+    tails : last ≡ (num 2 ⨟ opt (num 3)) .bits 0 (0 + length (format identity .bits 0 0 (pagingValue p .0))) (p .channelFirst, there (p .hasPriority) (p .priority))
+    tails = sym (tail-anywhere 0 (0 + length (format identity .bits 0 0 (pagingValue p .0))) (p .channelFirst) (there (p .hasPriority) (p .priority)))
 
-    joined : rowBits (8 ∷ 8 ∷ []) (p .identityLength ∷ p .identityFirst ∷ []) ++ (octets ++ last) ≡ format paging .bits n 9 (pagingValue p)
+    joined : rowBits (8 ∷ 8 ∷ []) (p .identityLength ∷ p .identityFirst ∷ []) ++ (octets ++ last) ≡ format paging .bits 0 0 (pagingValue p)
     joined =
         regrouped (numBits 8 (p .identityLength)) (numBits 8 (p .identityFirst)) octets last
         ∙ ap (λ (t : List ℕ). (numBits 8 (p .identityLength) ++ (numBits 8 (p .identityFirst) ++ (octets ++ []))) ++ t) tails
 
-    pub page-put : Put (format paging) n 9 (pagingValue p) (9 + length (format paging .bits 0 0 (pagingValue p))) b g
-    page-put =
-        let l = laid-then one (laid-then two three) in
-        let k = ap length joined in
-        let a = ap length (page-anywhere n 9 (pagingValue p)) in
-        record {
-          next = omega arith;
-          same = λ h. l .same (omega (arith, l .next)) ∙ ap (putBits b 9) joined;
-        }
+    pub page-put : Adds a d (format paging .bits 0 0 (pagingValue p))
+    page-put = adds-as joined (adds-then one (adds-then two three))
 
 -- ## What `put_head` leaves
 
--- d is b after the first octet and the bit that says which of the two follows were put
-module _ {n : ℕ} (m : Notification) (b d e : List ℕ) (size : length b * 8 ≡ n) (kept : length d ≡ length b) (x : d ≡ afterPut b 0 9 (boolByte (m .paging)))
-    (room : length (headBits m 0) ≤ n)
-  where
-    led : Laid n 0 (rowBits (8 ∷ 1 ∷ []) (0 ∷ asBit (m .paging) ∷ [])) 9 b d
-    led =
-        laid-row b d 0 size (8 ∷ 1 ∷ []) (0 ∷ asBit (m .paging) ∷ []) (boolByte (m .paging)) x (omega (arith, flag-byte (m .paging))) (omega arith)
-        ((omega arith, (flag-lt (m .paging), tt)))
+-- y is what is there after the first octet and the bit that says which of the two follows
+module _ (m : Notification) (y z : ℕ) (x : y ≡ wholeAfter 0 9 (boolByte (m .paging))) where
+  led : Adds 0 y (rowBits (8 ∷ 1 ∷ []) (0 ∷ asBit (m .paging) ∷ []))
+  led =
+      adds-row (8 ∷ 1 ∷ []) (0 ∷ asBit (m .paging) ∷ []) (boolByte (m .paging)) x (omega (arith, flag-byte (m .paging))) (omega arith)
+      ((omega arith, (flag-lt (m .paging), tt)))
 
-    pub call-put : m .paging ≡ false → length b ≤ 23 → both (callInRange (m .call)) (both (callIsLow (m .call)) (both (callLengthRight (m .call)) (callHopsRight (m .call)))) ≡ true
-        → e ≡ afterPutCall d 9 (m .call) → e ≡ putBits b 0 (headBits m n)
-    unfolding numBits groupCall
-    call-put f few r y =
-        let l = laid-then (rw f at led) (call-laid (m .call) r d e 9 (omega arith) (omega arith) y) in
-        rw f (l .same (omega (arith, head-call m f)))
+  pub call-put : m .paging ≡ false → Adds y z (groupCall .bits 0 0 (callValue (m .call))) → Adds 0 z (headBits m 0)
+  unfolding numBits groupCall
+  call-put f g = rw f (adds-then (rw f at led) (adds-as (sym (call-anywhere 0 9 (callValue (m .call)))) g))
 
-    pub paged-put : m .paging ≡ true → Put (format paging) (length d * 8) 9 (pagingValue (m .page)) (9 + length (format paging .bits 0 0 (pagingValue (m .page)))) d e
-        → e ≡ putBits b 0 (headBits m n)
-    unfolding numBits
-    paged-put f y =
-        let k : length d * 8 ≡ n = omega arith in
-        let l = laid-then (rw f at led) (bits {F = format paging} (rw k at y)) in
-        rw f (l .same (omega (arith, head-page m f)))
+  pub paged-put : m .paging ≡ true → Adds y z (format paging .bits 0 0 (pagingValue (m .page))) → Adds 0 z (headBits m 0)
+  unfolding numBits
+  paged-put f g = rw f (adds-then (rw f at led) (adds-as (sym (page-anywhere 0 9 (pagingValue (m .page)))) g))
 
 -- ## The whole form
 
@@ -202,18 +166,16 @@ module _ (m : Notification) (n : ℕ) where
         sym (ap length parts ∙ length-append (headBits m (n * 8)) (six a ++ seven (a + x .width))
         ∙ omega (arith, length-append (six a) (seven (a + x .width)), head-end, width-is ex, width-is ey))
 
-    -- octets of padding, with the head, with Release 6, and with Release 7
-    pub all-put : (b d e g : List ℕ) → b ≡ replicate n 43 → length b ≡ n → length d ≡ n → length e ≡ n → d ≡ putBits b 0 (headBits m (length b * 8))
-        → e ≡ afterPut d a (x .width) (x .value) → g ≡ afterPut e (a + x .width) (y .width) (y .value) → a + x .width + y .width ≤ n * 8 → g ≡ written m n
+    -- the head, Release 6 and Release 7 were put, and stored
+    pub all-put : (w : Words) (h g : ℕ) (s d : List ℕ) → length s ≡ n → n ≤ 23 → Adds 0 h (headBits m 0) → g ≡ wholeAfter h (x .width) (x .value) → whole w ≡ wholeAfter g (y .width) (y .value)
+        → a + x .width + y .width ≤ n * 8 → d ≡ storedIn w (a + x .width + y .width) s → d ≡ written m n
     unfolding written
-    all-put b d e g o sb sd se hd he hg fit =
-        let k : length b * 8 ≡ n * 8 = ap (λ (z : ℕ). z * 8) sb in
-        let one : Laid (n * 8) 0 (headBits m (n * 8)) a b d = record { next = head-end ∙ omega arith; same = λ h. hd ∙ ap (λ (z : ℕ). putBits b 0 (headBits m z)) k } in
-        let two : Laid (n * 8) a (six a) (a + x .width) d e =
-        rw (← ex .bits) (laid-number d e a (ap (λ (z : ℕ). z * 8) sd) (x .width) (x .value) he (omega (arith, ex .few)) (ex .small)) in
-        let three : Laid (n * 8) (a + x .width) (seven (a + x .width)) (a + x .width + y .width) e g =
-        rw (← ey .bits) (laid-number e g (a + x .width) (ap (λ (z : ℕ). z * 8) se) (y .width) (y .value) hg (omega (arith, ey .few)) (ey .small)) in
-        laid-then one (laid-then two three) .same fit ∙ ap₂ (λ (s t : List ℕ). putBits s 0 t) o (sym parts)
+    all-put w h g s d size few hd hx hy fit e =
+        let one : Adds 0 h (headBits m (n * 8)) = adds-as (sym (head-anywhere m (n * 8))) hd in
+        let two : Adds h g (six a) = adds-as (ex .bits) (adds-number (x .width) (x .value) hx (omega (arith, ex .few)) (ex .small)) in
+        let three : Adds g (whole w) (seven (a + x .width)) = adds-as (ey .bits) (adds-number (y .width) (y .value) hy (omega (arith, ey .few)) (ey .small)) in
+        let all : Adds 0 (whole w) (form m n) = adds-as (sym parts) (adds-then one (adds-then two three)) in
+        e ∙ stored-bits w (a + x .width + y .width) s (form m n) all used-is (omega arith) (omega arith) ∙ ap (λ (k : ℕ). putBits (replicate k 43) 0 (form m n)) size
 
 -- ## What `write` answers
 

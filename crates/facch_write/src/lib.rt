@@ -1,17 +1,17 @@
-// The writer of NOTIFICATION/FACCH. The written form's length is known before a bit is put: a form that does not fit leaves the buffer as it is.
+// The writer of NOTIFICATION/FACCH. The form is put together in words, and its length is known before: the buffer is touched last, and a form that does not fit leaves it as it is.
 ghost use mathlib.Core.Path.{_≡_};
 ghost use mathlib.Core.Bool.{true};
-ghost use Prim.Native.Nat.{_+_, _*_, _≤_};
-ghost use lib.ListN.{length, replicate};
-ghost use Rattle.csn1.specs.Format.{putBits};
+ghost use Prim.Native.Nat.{_≤_};
+ghost use lib.ListN.{length};
 ghost use Rattle.csn1.specs.Grammar.{format};
-ghost use Rattle.csn1.specs.Inner.{Put};
+ghost use Rattle.pen.specs.Words.{whole, Adds};
 ghost use Rattle.facch.specs.Message.{oneToNine, paging};
 ghost use Rattle.facch.specs.Back.{pagingValue};
 ghost use Rattle.facch_write.specs.Write.{pageInRange, recordRefusal, answerOf, afterWrite};
 ghost use Rattle.facch_write.specs.Inner.{headBits};
 use facch::Notification;
 use facch::Page;
+use pen::Words;
 
 pub mod checks;
 mod strips;
@@ -20,17 +20,6 @@ mod strips;
 pub struct Written {
     pub refusal: u8,
     pub used: usize,
-}
-
-// Padding in every octet.
-fn pad(buffer: &mut [u8])
-    ensures { λ _. ⌜ now (buffer .exit) ≡ replicate (length (now (buffer .entry))) 43 ⌝ }
-{
-    let mut i: usize = 0;
-    while i < buffer.len() {
-        buffer[i] = 43;
-        i += 1;
-    }
 }
 
 // The place behind the first octet and what is notified.
@@ -49,33 +38,31 @@ fn head_size(m: Notification) -> usize
     octets
 }
 
-// <Paging Information>, from bit 9 on.
-fn put_page(buffer: &mut [u8], p: Page)
-    requires { ⌜ (length (now buffer) ≤ 23) × ((pageInRange p ≡ true) × (oneToNine (p .identityLength) ≡ true)) ⌝ }
-    ensures { λ _. ⌜ Put (format paging) (length (now (buffer .entry)) * 8) 9 (pagingValue p) (9 + length (format paging .bits 0 0 (pagingValue p)))
-        (now (buffer .entry)) (now (buffer .exit)) ⌝ }
+// <Paging Information>
+fn put_page(w: Words, p: Page) -> Words
+    requires { ⌜ (pageInRange p ≡ true) × (oneToNine (p .identityLength) ≡ true) ⌝ }
+    ensures { λ r. ⌜ Adds (whole w) (whole r) (format paging .bits 0 0 (pagingValue p)) ⌝ }
 {
-    let n = p.identityLength as usize;
     let length_and_first = p.identityLength as u64 * 256 + p.identityFirst as u64;
-    bits::put(&mut *buffer, 9, 16, length_and_first);
-    bits::put(&mut *buffer, 25, 8 * (n - 1), p.identityRest);
+    let first = pen::put(w, 16, length_and_first);
+    let n = p.identityLength as usize;
+    let rest = pen::put(first, 8 * (n - 1), p.identityRest);
     let s = strips::channel(p);
-    bits::put(&mut *buffer, 17 + 8 * n, s.width, s.value);
+    pen::put(rest, s.width, s.value)
 }
 
 // The first octet, which is zero, the bit that says which of the two follows, and the call or the page.
-fn put_head(buffer: &mut [u8], m: Notification)
-    requires { ⌜ (length (now buffer) ≤ 23) × ((recordRefusal m ≡ 0) × (length (headBits m 0) ≤ length (now buffer) * 8)) ⌝ }
-    ensures { λ _. ⌜ now (buffer .exit) ≡ putBits (now (buffer .entry)) 0 (headBits m (length (now (buffer .entry)) * 8)) ⌝ }
+fn put_head(m: Notification) -> Words
+    requires { ⌜ recordRefusal m ≡ 0 ⌝ }
+    ensures { λ r. ⌜ Adds 0 (whole r) (headBits m 0) ⌝ }
 {
-    bits::put(&mut *buffer, 0, 9, m.paging as u64);
+    let w = pen::put(pen::none(), 9, m.paging as u64);
     if m.paging {
         let p = m.page;
-        put_page(&mut *buffer, p);
-        return;
+        return put_page(w, p);
     }
     let c = m.call;
-    call::writer::put(&mut *buffer, 9, c);
+    pen::calls::put(w, c)
 }
 
 // Writes the record into 2 to 23 octets and says how many bits it took, or says the number of the refusal and leaves the buffer as it is.
@@ -112,9 +99,9 @@ pub fn write(m: Notification, buffer: &mut [u8]) -> Written
             used: 0,
         };
     }
-    pad(&mut *buffer);
-    put_head(&mut *buffer, m);
-    bits::put(&mut *buffer, a, six.width, six.value);
-    bits::put(&mut *buffer, b, seven.width, seven.value);
+    let head = put_head(m);
+    let later = pen::put(head, six.width, six.value);
+    let all = pen::put(later, seven.width, seven.value);
+    pen::octets::store(all, used, &mut *buffer);
     Written { refusal: 0, used }
 }

@@ -1,9 +1,11 @@
 -- `facch_write::write` meets its contract. Assumes nothing.
-use mathlib.Core.Path.{_≡_, sym, _∙_}
+use mathlib.Core.Path.{_≡_, refl, sym, _∙_}
 use mathlib.Core.List.{List}
 use Prim.Native.Nat.{ℕ, _+_, _≤_}
 use lib.ListN.{length}
 use denote.Ref.{now}
+use Rattle.pen.specs.Words.{whole}
+use Rattle.pen.proofs.Numbers.{put-whole}
 use Rattle.facch.specs.declared.Notification.{Notification}
 use Rattle.facch_write.specs.Write.{recordRefusal, form}
 use Rattle.facch_write.proofs.Placing.{used-is, all-put, write-refused, write-small, write-large, write-long, write-done}
@@ -23,8 +25,8 @@ lent k = now (k .before .before .before .before .before .args .buffer)
 no-refusal : (k : tie.Else3) → recordRefusal (message k) ≡ 0
 no-refusal k = sym (k .before .before .before .refusal .ensures) ∙ k .before .before .if1 .left
 
-two : (k : tie.Else3) → 2 ≤ length (lent k)
-two k = omega arith
+two-octets : (k : tie.Else3) → 2 ≤ length (lent k)
+two-octets k = omega arith
 
 most : (k : tie.Else3) → length (lent k) ≤ 23
 most k = omega arith
@@ -98,18 +100,10 @@ returns-4 c =
     let s = c .before in
     let k = sized s in
     let r = k .before .before .before .refusal in
-    write-long (message k) (lent k) (r .result) (r .ensures) (k .before .before .if1 .left) (two k) (most k) (end s) (end-is s) (omega arith)
-
-pad-requires : tie.Need-pad-requires
-pad-requires c κs = search needs
+    write-long (message k) (lent k) (r .result) (r .ensures) (k .before .before .if1 .left) (two-octets k) (most k) (end s) (end-is s) (omega arith)
 
 put-head-requires : tie.Need-put-head-requires
-put-head-requires c κs =
-    let s = c .before .before .before .before .before .before in
-    let k = sized s in
-    let b = c .before .before .before .pad .kept .0 in
-    let h = s .before .before .before .before .before .before .head-size .ensures .0 in
-    (omega (arith, b, most k), (no-refusal k, omega (arith, b, h, c .before .before .before .before .before .if4 .left)))
+put-head-requires c κs = no-refusal (sized (c .before))
 
 put-requires : tie.Need-put-requires
 put-requires c κs = search needs
@@ -117,33 +111,33 @@ put-requires c κs = search needs
 put-requires-2 : tie.Need-put-requires-2
 put-requires-2 c κs = search needs
 
+store-requires : tie.Need-store-requires
+store-requires c κs = search needs
+
 same-length : tie.Need-same-length
-same-length c =
-    let c6 = c .before .before .before .before .before .before in
-    let c10 = c6 .before .before .before .before in
-    c .before .before .put2 .kept .0 ∙ c6 .put .kept .0 ∙ c10 .put-head .kept .0 ∙ c10 .before .before .before .before .pad .kept .0
+same-length c = search needs
 
 returns-5 : tie.Need-returns-5
 returns-5 c =
-    let c6 = c .before .before .before .before .before .before in
-    let c10 = c6 .before .before .before .before in
-    let c14 = c10 .before .before .before .before in
-    let s = c14 .before .before .before in
+    let c4 = c .before .before .before .before in
+    let c7 = c4 .before .before .before in
+    let s = c7 .before in
     let k = sized s in
     let r = k .before .before .before .refusal in
     let h = s .before .before .before .before .before .before .head-size in
     let x = s .before .before .before .before .release62 in
     let y = s .before .release72 in
-    let b = c14 .pad in
-    let d = c10 .put-head in
-    let e = c6 .put in
-    let g = c .before .before .put2 in
-    let fit = c14 .before .before .if4 .left in
-    let sd = d .kept .0 ∙ b .kept .0 in
+    let one = c4 .before .before .put-head in
+    let two = c4 .before .put in
+    let three = c4 .put2 in
+    let d = c .before .before .store in
+    let fit = c7 .if4 .left in
     let all =
     all-put (message k) (length (lent k)) (h .result) (x .result) (y .result) (h .ensures .0) (x .ensures) (y .ensures)
-    (b .last .0) (d .last .0) (e .last .0) (g .last .0) (b .ensures) (b .kept .0) sd (e .kept .0 ∙ sd) (d .ensures) (e .ensures .1) (g .ensures .1) fit in
-    write-done (message k) (lent k) (r .result) (r .ensures) (k .before .before .if1 .left) (two k) (most k) (end s) (end-is s) fit (g .last .0) all
+    (three .result) (whole (one .result)) (whole (two .result)) (lent k) (d .last .1 .1 .0) refl (most k) (one .ensures)
+    (put-whole (one .result) (two .result) (x .result .width) (x .result .value) (omega (arith, x .ensures .few)) (two .ensures))
+    (put-whole (two .result) (three .result) (y .result .width) (y .result .value) (omega (arith, y .ensures .few)) (three .ensures)) fit (d .ensures) in
+    write-done (message k) (lent k) (r .result) (r .ensures) (k .before .before .if1 .left) (two-octets k) (most k) (end s) (end-is s) fit (d .last .1 .1 .0) all
 
 pub write-spec : {M : Type 1} → statement M
 write-spec =
@@ -162,9 +156,9 @@ write-spec =
     add-used
     mul-if4
     returns-4
-    pad-requires
     put-head-requires
     put-requires
     put-requires-2
+    store-requires
     same-length
     returns-5)

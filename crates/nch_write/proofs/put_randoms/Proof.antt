@@ -1,92 +1,69 @@
 -- `nch_write::put_randoms` meets its contract. Assumes nothing.
-use Rattle.csn1.proofs.Flags.{flag-limit}
-use Rattle.csn1.proofs.Writing.{flag-lt}
-use mathlib.Core.Path.{_≡_, _∙_}
+use mathlib.Core.Path.{_≡_}
 use mathlib.Core.List.{map}
-use Prim.Native.Nat.{_+_, _-_, _*_, _^_, _≤_}
+use Prim.Native.Nat.{_+_, _-_, _*_, _≤_}
 use lib.ListN.{length, getD, take}
-use Rattle.csn1.proofs.Putting.{Items, items-begin, items-next, items-end, used-next, used-end}
+use Rattle.csn1.proofs.Holding.{length-numBits}
+use Rattle.csn1.proofs.Putting.{used-next, used-end}
 use Rattle.csn1.specs.Grammar.{format}
 use Rattle.nch.specs.Octets.{random}
 use Rattle.nch.specs.Told.{randomValue, noRandom}
 use Rattle.nch.specs.Write.{randomInRange}
-use Rattle.nch_write.proofs.Putting.{all-at, random-put}
+use Rattle.nch_write.proofs.Putting.{all-at, Items, items-begin, items-next, items-end}
 use native.Mathlib.Omega.{arith}
+use borrow.Author.Needs.{needs}
 use Rattle.nch_write.proofs.put_randoms.Statement.{statement}
 use Rattle.nch_write.proofs.put_randoms.Tie as tie
 
 abbrev Inv-loop : tie.InvT-loop
-Inv-loop buf₀ from count items at₀ i₀ buf at i = (i ≤ count) × ((at ≤ from + 39 * i) × Items (format random) 160 from (map randomValue (take count items)) buf₀ i at buf)
+Inv-loop count items q₀ i₀ q i = (i ≤ count) × ((q .at ≤ q₀ .at + 39 * i) × Items (format random) q₀ (map randomValue (take count items)) i q)
 
 abbrev μ-loop : tie.MeasureT-loop
-μ-loop buf₀ from count items at₀ i₀ buf at i = count - i
+μ-loop count items q₀ i₀ q i = count - i
 
 loop-holds : tie.Need-loop-holds Inv-loop μ-loop
-loop-holds c = (omega arith, (omega arith, items-begin {F = format random}))
+loop-holds c =
+    (omega arith, (omega arith, items-begin (format random)))
 
 mul-c : tie.Need-mul-c Inv-loop μ-loop
-mul-c c = omega arith
+mul-c c = search needs
 
 array-copy-out-c : tie.Need-array-copy-out-c Inv-loop μ-loop
-array-copy-out-c c = omega arith
+array-copy-out-c c = search needs
 
-bit-of-requires : tie.Need-bit-of-requires Inv-loop μ-loop
-bit-of-requires c κs = omega arith
-
-add-put : tie.Need-add-put Inv-loop μ-loop
-add-put c = omega (arith, c .bit-of .ensures, flag-lt ((getD (c .before .before .before .before .before .before .args .t3) (c .before .before .before .before .loop .i) noRandom) .segment))
-
-put-requires : tie.Need-put-requires Inv-loop μ-loop
-put-requires c κs = omega arith
-
-add-put-flagged : tie.Need-add-put-flagged Inv-loop μ-loop
-add-put-flagged c = omega arith
-
-put-flagged-requires : tie.Need-put-flagged-requires Inv-loop μ-loop
-put-flagged-requires c κs =
-    let a = c .before .before .before .before .before .before .before .before .before .before .args in
-    let l = c .before .before .before .before .before .before .before .before .loop in
-    let x = getD (a .t3) (l .i) noRandom in
-    let size : length (a .t3) ≡ 9 = c .before .before .before .before .before .before .before .before .before .before .good .1 .1 .0 .1 .0 .1 in
-    let r = all-at randomInRange noRandom (a .t3) (a .count) (l .i) (c .before .before .before .before .before .before .before .before .before .before .pre .1 .1 .1) (omega arith) (omega arith) in
-    (omega arith, (omega arith, (c .before .before .before .put .kept .0 ∙ l .inv .1 .1 .kept ∙ c .before .before .before .before .before .before .before .before .before .before .pre .1 .1 .0, flag-limit (x .hasRandom) (x .rand) (2 ^ 36) r (omega arith))))
+put-random-requires : tie.Need-put-random-requires Inv-loop μ-loop
+put-random-requires c κs =
+    let l = c .before .before .loop in
+    let s = c .before .before .before in
+    let size : length (s .args .t2) ≡ 9 = s .good .1 .0 .1 .0 .1 in
+    (omega (arith, s .pre .1 .0, l .inv .1 .0), all-at randomInRange noRandom (s .args .t2) (s .args .count) (l .i) (s .pre .1 .1) (omega arith) (omega arith))
 
 add-i : tie.Need-add-i Inv-loop μ-loop
-add-i c = omega arith
+add-i c = search needs
 
 loop-less : tie.Need-loop-less Inv-loop μ-loop
-loop-less c = omega arith
+loop-less c =
+    omega arith
 
 loop-again : tie.Need-loop-again Inv-loop μ-loop
 loop-again c =
-    let a = c .before .before .before .before .before .before .before .before .before .before .before .before .before .args in
-    let l = c .before .before .before .before .before .before .before .before .before .before .before .loop in
-    let x = getD (a .t3) (l .i) noRandom in
-    let size : length (a .t3) ≡ 9 = c .before .before .before .before .before .before .before .before .before .before .before .before .before .good .1 .1 .0 .1 .0 .1 in
-    let n : length (l .buf) ≡ 20 = l .inv .1 .1 .kept ∙ c .before .before .before .before .before .before .before .before .before .before .before .before .before .pre .1 .1 .0 in
-    let f = c .before .before .put-flagged in (
-      omega arith,
-      (
-        omega (arith, f .ensures .1),
-        items-next {F = format random} (randomValue x) (l .inv .1 .1) (used-next randomValue noRandom (a .t3) (a .count) (l .i) (omega arith) (omega arith)) (f .kept .0 ∙ c .before .before .before .before .before .before .put .kept .0)
-            (random-put (l .buf) (c .before .before .before .before .before .before .put .last .0) (l .at) (omega arith) x (2 + c .before .before .before .before .before .before .before .bit-of .result) (f .result) (f .last .0) (c .before .before .before .before .before .before .put .ensures .1) (omega (arith, c .before .before .before .before .before .before .before .bit-of .ensures)) (f .ensures .0)),
-      ),
-    )
+    let l = c .before .before .before .loop in
+    let s = c .before .before .before .before in
+    let size : length (s .args .t2) ≡ 9 = s .good .1 .0 .1 .0 .1 in
+    let f = c .put-random .ensures in
+    let next = used-next randomValue noRandom (s .args .t2) (s .args .count) (l .i) (omega arith) (omega arith) in
+    (omega arith, (omega (arith, l .inv .1 .0, f .1), items-next (format random) (randomValue (getD (s .args .t2) (l .i) noRandom)) (l .inv .1 .1) next (f .0)))
 
-put-requires-2 : tie.Need-put-requires-2 Inv-loop μ-loop
-put-requires-2 c κs = omega arith
-
-add-result : tie.Need-add-result Inv-loop μ-loop
-add-result c = omega arith
-
-same-length : tie.Need-same-length Inv-loop μ-loop
-same-length c = c .before .before .put2 .kept .0 ∙ c .before .before .before .before .before .loop .inv .1 .1 .kept
+put-requires : tie.Need-put-requires Inv-loop μ-loop
+put-requires c κs =
+    let s = c .before .before in (omega arith, (omega (arith, s .pre .1 .0, c .before .loop .inv .1 .0), omega arith))
 
 returns : tie.Need-returns Inv-loop μ-loop
 returns c =
-    let a = c .before .before .before .before .before .before .before .args in
-    let l = c .before .before .before .before .before .loop in
-    (items-end {F = format random} (l .inv .1 .1) (used-end randomValue noRandom (a .t3) (a .count) (l .i) (omega arith)) (omega arith) (c .before .before .put2 .ensures .1), omega arith)
+    let l = c .before .before .loop in
+    let s = c .before .before .before in
+    let f = c .put .ensures in
+    (items-end (format random) (l .inv .1 .1) (used-end randomValue noRandom (s .args .t2) (s .args .count) (l .i) (omega arith)) f, omega (arith, l .inv .1 .0, f .next, length-numBits 1 0))
 
 pub put-randoms-spec : {M : Type 1} → statement M
 put-randoms-spec =
@@ -97,15 +74,9 @@ put-randoms-spec =
     loop-holds
     mul-c
     array-copy-out-c
-    bit-of-requires
-    add-put
-    put-requires
-    add-put-flagged
-    put-flagged-requires
+    put-random-requires
     add-i
     loop-less
     loop-again
-    put-requires-2
-    add-result
-    same-length
+    put-requires
     returns)

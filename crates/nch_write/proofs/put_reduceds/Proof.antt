@@ -1,92 +1,69 @@
 -- `nch_write::put_reduceds` meets its contract. Assumes nothing.
-use borrow.Author.Tests.{ltb-true}
-use Rattle.csn1.proofs.Writing.{flag-lt}
-use mathlib.Core.Path.{_≡_, _∙_}
+use mathlib.Core.Path.{_≡_}
 use mathlib.Core.List.{map}
-use Prim.Native.Nat.{_+_, _-_, _*_, _^_, _≤_}
+use Prim.Native.Nat.{_+_, _-_, _*_, _≤_}
 use lib.ListN.{length, getD, take}
-use Rattle.csn1.proofs.Putting.{Items, items-begin, items-next, items-end, used-next, used-end}
+use Rattle.csn1.proofs.Holding.{length-numBits}
+use Rattle.csn1.proofs.Putting.{used-next, used-end}
 use Rattle.csn1.specs.Grammar.{format}
 use Rattle.nch.specs.Octets.{reduced}
 use Rattle.nch.specs.Told.{reducedValue, noReduced}
 use Rattle.nch.specs.Write.{reducedInRange}
-use Rattle.nch_write.proofs.Putting.{all-at, reduced-put}
+use Rattle.nch_write.proofs.Putting.{all-at, Items, items-begin, items-next, items-end}
 use native.Mathlib.Omega.{arith}
+use borrow.Author.Needs.{needs}
 use Rattle.nch_write.proofs.put_reduceds.Statement.{statement}
 use Rattle.nch_write.proofs.put_reduceds.Tie as tie
 
 abbrev Inv-loop : tie.InvT-loop
-Inv-loop buf₀ from count items at₀ i₀ buf at i = (i ≤ count) × ((at ≤ from + 29 * i) × Items (format reduced) 160 from (map reducedValue (take count items)) buf₀ i at buf)
+Inv-loop count items q₀ i₀ q i = (i ≤ count) × ((q .at ≤ q₀ .at + 29 * i) × Items (format reduced) q₀ (map reducedValue (take count items)) i q)
 
 abbrev μ-loop : tie.MeasureT-loop
-μ-loop buf₀ from count items at₀ i₀ buf at i = count - i
+μ-loop count items q₀ i₀ q i = count - i
 
 loop-holds : tie.Need-loop-holds Inv-loop μ-loop
-loop-holds c = (omega arith, (omega arith, items-begin {F = format reduced}))
+loop-holds c =
+    (omega arith, (omega arith, items-begin (format reduced)))
 
 mul-c : tie.Need-mul-c Inv-loop μ-loop
-mul-c c = omega arith
+mul-c c = search needs
 
 array-copy-out-c : tie.Need-array-copy-out-c Inv-loop μ-loop
-array-copy-out-c c = omega arith
+array-copy-out-c c = search needs
 
-cast-item : tie.Need-cast-item Inv-loop μ-loop
-cast-item c = omega arith
-
-mul-item : tie.Need-mul-item Inv-loop μ-loop
-mul-item c = omega arith
-
-add-item : tie.Need-add-item Inv-loop μ-loop
-add-item c = omega arith
-
-bit-of-requires : tie.Need-bit-of-requires Inv-loop μ-loop
-bit-of-requires c κs = omega arith
-
-add-item-2 : tie.Need-add-item-2 Inv-loop μ-loop
-add-item-2 c = omega (arith, c .bit-of .ensures, flag-lt ((getD (c .before .before .before .before .before .before .args .t3) (c .before .before .before .before .loop .i) noReduced) .vgcs))
-
-put-requires : tie.Need-put-requires Inv-loop μ-loop
-put-requires c κs = omega arith
-
-add-at : tie.Need-add-at Inv-loop μ-loop
-add-at c = omega arith
+put-reduced-requires : tie.Need-put-reduced-requires Inv-loop μ-loop
+put-reduced-requires c κs =
+    let l = c .before .before .loop in
+    let s = c .before .before .before in
+    let size : length (s .args .t2) ≡ 5 = s .good .1 .0 .1 .0 .1 in
+    (omega (arith, s .pre .1 .0, l .inv .1 .0), all-at reducedInRange noReduced (s .args .t2) (s .args .count) (l .i) (s .pre .1 .1) (omega arith) (omega arith))
 
 add-i : tie.Need-add-i Inv-loop μ-loop
-add-i c = omega arith
+add-i c = search needs
 
 loop-less : tie.Need-loop-less Inv-loop μ-loop
-loop-less c = omega arith
+loop-less c =
+    omega arith
 
 loop-again : tie.Need-loop-again Inv-loop μ-loop
 loop-again c =
-    let a = c .before .before .before .before .before .before .before .before .before .before .args in
-    let l = c .before .before .before .before .before .before .before .before .loop in
-    let x = getD (a .t3) (l .i) noReduced in
-    let size : length (a .t3) ≡ 5 = c .before .before .before .before .before .before .before .before .before .before .good .1 .1 .0 .1 .0 .1 in
-    let r = all-at reducedInRange noReduced (a .t3) (a .count) (l .i) (c .before .before .before .before .before .before .before .before .before .before .pre .1 .1 .1) (omega arith) (omega arith) in
-    let n : length (l .buf) ≡ 20 = l .inv .1 .1 .kept ∙ c .before .before .before .before .before .before .before .before .before .before .pre .1 .1 .0 in (
-      omega arith,
-      (
-        omega arith,
-        items-next {F = format reduced} (reducedValue x) (l .inv .1 .1) (used-next reducedValue noReduced (a .t3) (a .count) (l .i) (omega arith) (omega arith)) (c .before .before .put .kept .0)
-            (reduced-put (l .buf) (c .before .before .put .last .0) (l .at) (omega arith) x (268435456 + x .reference * 2 + c .before .before .before .before .bit-of .result) (ltb-true (x .reference) (2 ^ 27) r) (c .before .before .put .ensures .1) (omega (arith, c .before .before .before .before .bit-of .ensures))),
-      ),
-    )
+    let l = c .before .before .before .loop in
+    let s = c .before .before .before .before in
+    let size : length (s .args .t2) ≡ 5 = s .good .1 .0 .1 .0 .1 in
+    let f = c .put-reduced .ensures in
+    let next = used-next reducedValue noReduced (s .args .t2) (s .args .count) (l .i) (omega arith) (omega arith) in
+    (omega arith, (omega (arith, l .inv .1 .0, f .1), items-next (format reduced) (reducedValue (getD (s .args .t2) (l .i) noReduced)) (l .inv .1 .1) next (f .0)))
 
-put-requires-2 : tie.Need-put-requires-2 Inv-loop μ-loop
-put-requires-2 c κs = omega arith
-
-add-result : tie.Need-add-result Inv-loop μ-loop
-add-result c = omega arith
-
-same-length : tie.Need-same-length Inv-loop μ-loop
-same-length c = c .before .before .put2 .kept .0 ∙ c .before .before .before .before .before .loop .inv .1 .1 .kept
+put-requires : tie.Need-put-requires Inv-loop μ-loop
+put-requires c κs =
+    let s = c .before .before in (omega arith, (omega (arith, s .pre .1 .0, c .before .loop .inv .1 .0), omega arith))
 
 returns : tie.Need-returns Inv-loop μ-loop
 returns c =
-    let a = c .before .before .before .before .before .before .before .args in
-    let l = c .before .before .before .before .before .loop in
-    (items-end {F = format reduced} (l .inv .1 .1) (used-end reducedValue noReduced (a .t3) (a .count) (l .i) (omega arith)) (omega arith) (c .before .before .put2 .ensures .1), omega arith)
+    let l = c .before .before .loop in
+    let s = c .before .before .before in
+    let f = c .put .ensures in
+    (items-end (format reduced) (l .inv .1 .1) (used-end reducedValue noReduced (s .args .t2) (s .args .count) (l .i) (omega arith)) f, omega (arith, l .inv .1 .0, f .next, length-numBits 1 0))
 
 pub put-reduceds-spec : {M : Type 1} → statement M
 put-reduceds-spec =
@@ -97,17 +74,9 @@ put-reduceds-spec =
     loop-holds
     mul-c
     array-copy-out-c
-    cast-item
-    mul-item
-    add-item
-    bit-of-requires
-    add-item-2
-    put-requires
-    add-at
+    put-reduced-requires
     add-i
     loop-less
     loop-again
-    put-requires-2
-    add-result
-    same-length
+    put-requires
     returns)

@@ -1,12 +1,14 @@
 -- `nch_write::write` meets its contract. Assumes nothing.
+use mathlib.Core.Path.{sym, _∙_}
 use denote.Ref.{now}
 use Rattle.nch_write.proofs.Putting.{write-refused, write-long, write-elsewhere, write-done}
 use native.Mathlib.Omega.{arith}
+use borrow.Author.Needs.{needs}
 use Rattle.nch_write.proofs.write.Statement.{statement}
 use Rattle.nch_write.proofs.write.Tie as tie
 
 refusal-requires : tie.Need-refusal-requires
-refusal-requires c κs = omega arith
+refusal-requires c κs = search needs
 
 returns : tie.Need-returns
 returns c =
@@ -14,41 +16,40 @@ returns c =
     let f = c .before .refusal in
     write-refused (a .m) (now (a .octets)) (f .result) (f .ensures) (c .if1 .taken)
 
-slice-aggregate-put-all : tie.Need-slice-aggregate-put-all
-slice-aggregate-put-all c = omega arith
-
 put-all-requires : tie.Need-put-all-requires
-put-all-requires c κs = omega arith
+put-all-requires c κs = sym (c .before .refusal .ensures) ∙ c .if1 .left
 
 returns-2 : tie.Need-returns-2
 returns-2 c =
-    let a = c .before .before .before .before .before .before .before .args in
-    let f = c .before .before .before .before .before .refusal in
-    let p = c .before .before .put-all in
-    write-long (a .m) (now (a .octets)) (f .result) (f .ensures) (c .before .before .before .before .if1 .left) (p .result) (p .last .0) (p .ensures) (omega arith)
+    let c2 = c .before .before in
+    let a = c2 .before .before .before .args in
+    let f = c2 .before .refusal in
+    let p = c .before .put-all in
+    write-long (a .m) (now (a .octets)) (f .result) (f .ensures) (c2 .if1 .left) (p .result) (p .ensures) (omega arith)
 
 returns-3 : tie.Need-returns-3
 returns-3 c =
-    let a = c .before .before .before .before .before .before .before .before .args in
-    let f = c .before .before .before .before .before .before .refusal in
-    let p = c .before .before .before .put-all in
-    write-elsewhere (a .m) (now (a .octets)) (f .result) (f .ensures) (c .before .before .before .before .before .if1 .left) (p .result) (p .last .0) (p .ensures) (omega arith) (c .if3 .taken)
+    let c3 = c .before .before .before in
+    let a = c3 .before .before .before .args in
+    let f = c3 .before .refusal in
+    let p = c .before .before .put-all in
+    write-elsewhere (a .m) (now (a .octets)) (f .result) (f .ensures) (c3 .if1 .left) (p .result) (p .ensures) (omega arith) (c .if3 .taken)
 
-slice-aggregate-copy : tie.Need-slice-aggregate-copy
-slice-aggregate-copy c = omega arith
-
-copy-requires : tie.Need-copy-requires
-copy-requires c κs = omega arith
+store-requires : tie.Need-store-requires
+store-requires c κs = search needs
 
 same-length : tie.Need-same-length
-same-length c = omega arith
+same-length c = search needs
 
 returns-4 : tie.Need-returns-4
 returns-4 c =
-    let a = c .before .before .before .before .before .before .before .before .before .before .before .before .before .args in
-    let f = c .before .before .before .before .before .before .before .before .before .before .before .refusal in
-    let p = c .before .before .before .before .before .before .before .before .put-all in
-    write-done (a .m) (now (a .octets)) (f .result) (f .ensures) (c .before .before .before .before .before .before .before .before .before .before .if1 .left) (p .result) (p .last .0) (p .ensures) (omega arith) (c .before .before .before .before .before .if3 .left) (c .before .before .copy .last .1 .0) (c .before .before .copy .ensures)
+    let c5 = c .before .before .before .before .before in
+    let c8 = c5 .before .before .before in
+    let a = c8 .before .before .before .args in
+    let f = c8 .before .refusal in
+    let p = c5 .before .before .put-all in
+    let d = c .before .before .store in
+    write-done (a .m) (now (a .octets)) (f .result) (f .ensures) (c8 .if1 .left) (p .result) (p .ensures) (omega arith) (c5 .if3 .left) (d .last .1 .1 .0) (d .ensures)
 
 pub write-spec : {M : Type 1} → statement M
 write-spec =
@@ -56,11 +57,9 @@ write-spec =
     (tie.spec
     refusal-requires
     returns
-    slice-aggregate-put-all
     put-all-requires
     returns-2
     returns-3
-    slice-aggregate-copy
-    copy-requires
+    store-requires
     same-length
     returns-4)

@@ -1,0 +1,5 @@
+pub mod Numbers
+pub mod Digits
+pub mod Adding
+pub mod CallBits
+pub mod Promises
