@@ -161,34 +161,34 @@ module _ (s : List ℕ) (p : ℕ) where
 
 -- ## Octets and places, in words and not
 
-pub too-short : (s : List ℕ) (p : ℕ) → length s < 17 → noneTaken ≡ takenAt s p
-too-short s p h = rw (lt-leb 17 (length s) h) refl
+pub too-short : (s : List ℕ) (p : ℕ) → length s < 9 → noneTaken ≡ takenAt s p
+too-short s p h = rw (lt-leb 9 (length s) h) refl
 
 pub too-long : (s : List ℕ) (p : ℕ) → 24 < length s → noneTaken ≡ takenAt s p
-too-long s p h = rw (le-leb 17 (length s) (omega arith), lt-leb (length s) 24 h) refl
+too-long s p h = rw (le-leb 9 (length s) (omega arith), lt-leb (length s) 24 h) refl
 
-module _ (s : List ℕ) (p : ℕ) (h : 17 ≤ length s) (l : length s ≤ 24) where
+module _ (s : List ℕ) (p : ℕ) (h : 9 ≤ length s) (l : length s ≤ 24) where
   pub too-far : 192 < p → noneTaken ≡ takenAt s p
-  too-far m = rw (le-leb 17 (length s) h, le-leb (length s) 24 l, lt-leb p 192 m) refl
+  too-far m = rw (le-leb 9 (length s) h, le-leb (length s) 24 l, lt-leb p 192 m) refl
 
   pub in-words : p ≤ 192 → takenOf s (taken callGrammar s p) ≡ takenAt s p
-  in-words m = rw (le-leb 17 (length s) h, le-leb (length s) 24 l, le-leb p 192 m) refl
+  in-words m = rw (le-leb 9 (length s) h, le-leb (length s) 24 l, le-leb p 192 m) refl
 
 -- what was done says
 pub record Done (s : List ℕ) (p : ℕ) (c : TakenCall) : Type 0 where
-  pub long : 17 ≤ length s
+  pub long : 9 ≤ length s
   pub value : CallValue
   pub is : taken callGrammar s p ≡ took value (c .at)
   pub told : c .call ≡ callOf value
   pub next : c .next ≡ field s (c .at) 64
 
 pub done-says : (s : List ℕ) (p : ℕ) (c : TakenCall) → c ≡ takenAt s p → c .done ≡ true → Done s p c
-done-says s p c e d = go (leb 17 (length s)) (leb (length s) 24) (leb p 192) refl e
+done-says s p c e d = go (leb 9 (length s)) (leb (length s) 24) (leb p 192) refl e
   where
     none-done : c ≡ noneTaken → Done s p c
     none-done e = absurd (let y : false ≡ true = sym (ap (λ (x : TakenCall). x .done) e) ∙ d in let z : _≡_ {A = ℕ} 0 1 = cc in omega arith)
 
-    some-done : 17 ≤ length s → (x : Took CallValue) → taken callGrammar s p ≡ x → c ≡ takenOf s x → Done s p c
+    some-done : 9 ≤ length s → (x : Took CallValue) → taken callGrammar s p ≡ x → c ≡ takenOf s x → Done s p c
     some-done l unmet f e = none-done e
     some-done l (took v q) f e =
         let at : c .at ≡ q = ap (λ (x : TakenCall). x .at) e in
@@ -200,8 +200,8 @@ done-says s p c e d = go (leb 17 (length s)) (leb (length s) 24) (leb p 192) ref
           next = ap (λ (x : TakenCall). x .next) e ∙ ap (λ z. field s z 64) (sym at);
         }
 
-    go : (t u v : Bool) → leb 17 (length s) ≡ t → c ≡ pick (both t (both u v)) (takenOf s (taken callGrammar s p)) noneTaken → Done s p c
+    go : (t u v : Bool) → leb 9 (length s) ≡ t → c ≡ pick (both t (both u v)) (takenOf s (taken callGrammar s p)) noneTaken → Done s p c
     go false u v k e = none-done e
     go true false v k e = none-done e
     go true true false k e = none-done e
-    go true true true k e = some-done (leb-true 17 (length s) k) (taken callGrammar s p) refl e
+    go true true true k e = some-done (leb-true 9 (length s) k) (taken callGrammar s p) refl e

@@ -17,9 +17,9 @@ abbrev pub takenOf : List ℕ → Took CallValue → TakenCall
 takenOf s (took v q) = record { done = true; call = callOf v; at = q; next = field s q 64 }
 takenOf s unmet = noneTaken
 
--- three words are 17 to 24 octets, and a place in them
+-- three words have 9 to 24 octets, and a place in them
 abbrev pub inWords : List ℕ → ℕ → Bool
-inWords s p = both (leb 17 (length s)) (both (leb (length s) 24) (leb p 192))
+inWords s p = both (leb 9 (length s)) (both (leb (length s) 24) (leb p 192))
 
 -- what `words::take` answers for any octets and any place
 abbrev pub takenAt : List ℕ → ℕ → TakenCall

@@ -190,11 +190,11 @@ fn take_from(s: &[u8], w: Words, at: usize) -> TakenCall
     }
 }
 
-// The call at a place of 17 to 24 octets, whether its bits are there or not; of other octets none.
+// The call at a place of 9 to 24 octets, whether its bits are there or not; of other octets none.
 pub fn take(s: &[u8], at: usize) -> TakenCall
     ensures { λ r. ⌜ r ≡ takenAt (now (s .entry)) at ⌝ }
 {
-    if s.len() < 17 {
+    if s.len() < 9 {
         return no_call();
     }
     if 24 < s.len() {

@@ -40,12 +40,19 @@ fn eight(s: &[u8], i: usize) -> u64
     four(s, i + 4) + four(s, i) * 4294967296
 }
 
-// The words of 17 to 24 octets. The last one overlaps the one before it, shifted, so that each is one load.
+// The words of 9 to 24 octets. The last one that has octets overlaps the one before it, shifted, so that each is one load.
 pub(crate) fn load(s: &[u8]) -> Words
-    requires { ⌜ (17 ≤ length (now s)) × (length (now s) ≤ 24) ⌝ }
+    requires { ⌜ (9 ≤ length (now s)) × (length (now s) ≤ 24) ⌝ }
     ensures { λ r. ⌜ Loaded r (now (s .entry)) ⌝ }
 {
     let n = s.len();
+    if n < 17 {
+        return Words {
+            a: eight(s, 0),
+            b: eight(s, n - 8) << (128 - n * 8),
+            c: 0,
+        };
+    }
     Words {
         a: eight(s, 0),
         b: eight(s, 8),
