@@ -147,7 +147,7 @@ pub fn nch(b: &mut [u8], time: u32, octets: &[u8]) -> u32
         return n;
     }
     let mut m = [0u64; places::LENGTH];
-    let r = nch::reader::read_into(octets, &mut m);
+    let r = nch_words::read_into(octets, &mut m);
     if r.number != 0 {
         return csn1::code(r);
     }

@@ -13,7 +13,7 @@ pub fn read(octets: &[u8], numbers: &mut [u64]) -> Refusal
     ensures { λ r. ⌜ (r ≡ readOf (now (octets .entry)) .refusal)
         × (now (numbers .exit) ≡ padded 0 (length (now (numbers .entry))) (readNumbers (now (octets .entry)))) ⌝ }
 {
-    nch::reader::read_into(octets, numbers)
+    nch_words::read_into(octets, numbers)
 }
 
 // Writes the record that the numbers are into twenty octets and says 0, or says the number of the refusal and leaves the octets as they are. The first number, the

@@ -1,6 +1,6 @@
 -- The laws of fields that are taken from words. Assumes nothing.
 use mathlib.Core.Path.{_≡_, refl, sym, ap, ap₂, _∙_, subst}
-use mathlib.Core.List.{List}
+use mathlib.Core.List.{List, [], _∷_}
 use Prim.Native.Nat.{ℕ, zero, suc, _+_, _-_, _*_, _/_, _%_, _^_, _≤_, _<_}
 use native.Mathlib.Nat.{add-zero, mod-lt, div-eq-of-lt}
 use native.Mathlib.Omega.{arith}
@@ -10,7 +10,9 @@ use lib.Pow.{pow-pos, pow-add, high, low, shl-shr, shr-shr, shr-lt, mod-pow-add}
 use Rattle.bits.specs.Field.{bit, field}
 use Rattle.bits.proofs.Laws.{field-lt, field-split}
 use Rattle.bits.proofs.Octets.{cut}
-use Rattle.words.specs.Inner.{Part}
+use borrow.Author.Tests.{eq-eqb, ne-eqb}
+use Rattle.words.specs.Inner.{Part, Twenty}
+use Rattle.words.specs.Array.{wordsOf, windowOf}
 
 zero-shr : (k : ℕ) → 0 / 2 ^ k ≡ 0
 zero-shr k = div-eq-of-lt (pow-pos k)
@@ -89,3 +91,40 @@ part-cut x k w h s p e = cut s p 64 (p + k) w k x (omega arith) (omega arith) (o
 -- and its first
 pub part-first : (x w r : ℕ) → Part x 0 w r → (s : List ℕ) (p : ℕ) → x ≡ field s p 64 → r ≡ field s p w
 part-first x w r h s p e = h s p e ∙ ap (λ (z : ℕ). field s z w) (add-zero p)
+
+-- ## Words in an array
+
+pub other-words : (s : List ℕ) → (length s ≡ 20 → ⊥) → 0 ∷ 0 ∷ 0 ∷ 0 ∷ 0 ∷ [] ≡ wordsOf s
+unfolding wordsOf
+other-words s n = rw (ne-eqb (length s) 20 n) refl
+
+-- twenty octets are two words and a half
+module _ (s : List ℕ) where
+  half : (c : ℕ) → length s ≡ 20 → c ≡ field s 128 32 → c * 4294967296 ≡ field s 128 64
+  half c l g = sym (field-split s 128 32 32 ∙ ap₂ (λ (x y : ℕ). x * 4294967296 + y) (sym g) (behind s 160 32 (omega arith)) ∙ add-zero (c * 4294967296))
+
+  pub twenty-words : (a b c : ℕ) → length s ≡ 20 → a ≡ field s 0 64 → b ≡ field s 64 64 → c ≡ field s 128 32 → a ∷ b ∷ c * 4294967296 ∷ 0 ∷ 0 ∷ [] ≡ wordsOf s
+  unfolding wordsOf
+  twenty-words a b c l e f g = rw (eq-eqb (length s) 20 l, e, f, half c l g) refl
+
+  pub words-are : {w : List ℕ} → w ≡ wordsOf s → length s ≡ 20 → Twenty w s
+  unfolding wordsOf
+  words-are {w} e l = record { long = l; each = λ k h. ap (λ (v : List ℕ). getD v k 0) (rw (eq-eqb (length s) 20 l) at e) ∙ go k h }
+    where
+      go : (k : ℕ) → k < 5 → getD (field s 0 64 ∷ field s 64 64 ∷ field s 128 64 ∷ 0 ∷ 0 ∷ []) k 0 ≡ field s (k * 64) 64
+      go zero h = refl
+      go (suc zero) h = refl
+      go (suc (suc zero)) h = refl
+      go (suc (suc (suc zero))) h = sym (behind s 192 64 (omega arith))
+      go (suc (suc (suc (suc zero)))) h = sym (behind s 256 64 (omega arith))
+      go (suc (suc (suc (suc (suc k))))) h = absurd (omega arith)
+
+-- a window of them
+pub seen : {w : List ℕ} {p r : ℕ} → r ≡ windowOf w p → p < 256 → (s : List ℕ) → Twenty w s → r ≡ field s p 64
+unfolding windowOf
+seen {w} {p} e h s t =
+    let i : ℕ = p / 64 % 4 in
+    let n : (i + 1) * 64 ≡ i * 64 + 64 = omega arith in
+    let q : i * 64 + p % 64 ≡ p = omega arith in
+    e ∙ spans s (i * 64) (p % 64) (getD w i 0) (getD w (i + 1) 0) (omega arith) (t .each i (omega arith)) (t .each (i + 1) (omega arith) ∙ ap (λ (z : ℕ). field s z 64) n)
+    ∙ ap (λ (z : ℕ). field s z 64) q

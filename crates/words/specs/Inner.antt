@@ -4,8 +4,8 @@ use mathlib.Core.List.{List}
 use mathlib.Core.Bool.{true, false}
 use mathlib.Core.Option.{some}
 use mathlib.Core.Logic.{_⊎_, inl, inr}
-use Prim.Native.Nat.{ℕ, _+_, _≤_}
-use lib.ListN.{length}
+use Prim.Native.Nat.{ℕ, _+_, _*_, _≤_, _<_}
+use lib.ListN.{length, getD}
 use Rattle.bits.specs.Field.{field}
 use Rattle.call.specs.Call.{DescriptionValue, allocationLength, allocationOctets, noDescription, descriptionOf}
 use Rattle.words.specs.Unasked.{Took, took, unmet}
@@ -29,6 +29,11 @@ Spans x y k r = (s : List ℕ) (p : ℕ) → x ≡ field s p 64 → y ≡ field 
 -- r is the field of w bits from bit k on, wherever x is the 64 bits from a place on
 abbrev pub Part : ℕ → ℕ → ℕ → ℕ → Type 0
 Part x k w r = (s : List ℕ) (p : ℕ) → x ≡ field s p 64 → r ≡ field s (p + k) w
+
+-- the words of an array are the octets' first 320 bits, of which there are 160
+pub record Twenty (w s : List ℕ) : Type 0 where
+  pub long : length s ≡ 20
+  pub each : (k : ℕ) → k < 5 → getD w k 0 ≡ field s (k * 64) 64
 
 -- ## What is taken of a part, and the place behind it
 

@@ -1,4 +1,5 @@
 pub mod Unasked
 pub mod Taking
+pub mod Array
 pub mod Inner
 pub mod Promises

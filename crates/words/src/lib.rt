@@ -10,6 +10,7 @@ use call::Call;
 use call::Description;
 use window::Words;
 
+pub mod array;
 mod window;
 
 // What was taken of the frequencies of a channel that hops, and the place behind them; not done where a test was not met.

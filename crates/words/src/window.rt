@@ -3,6 +3,7 @@ ghost use mathlib.Core.Path.{_≡_};
 ghost use Prim.Native.Nat.{_+_, _*_, _≤_, _<_};
 ghost use lib.ListN.{length};
 ghost use Rattle.bits.specs.Field.{field};
+ghost use Rattle.words.specs.Array.{spanned};
 ghost use Rattle.words.specs.Inner.{Loaded, Spans, Part};
 
 pub(crate) struct Words {
@@ -26,14 +27,14 @@ fn two(s: &[u8], i: usize) -> u64
     wide(s[i + 1]) + wide(s[i]) * 256
 }
 
-fn four(s: &[u8], i: usize) -> u64
+pub(crate) fn four(s: &[u8], i: usize) -> u64
     requires { ⌜ i + 4 ≤ length (now s) ⌝ }
     ensures { λ r. ⌜ r ≡ field (now (s .entry)) (i * 8) 32 ⌝ }
 {
     two(s, i + 2) + two(s, i) * 65536
 }
 
-fn eight(s: &[u8], i: usize) -> u64
+pub(crate) fn eight(s: &[u8], i: usize) -> u64
     requires { ⌜ i + 8 ≤ length (now s) ⌝ }
     ensures { λ r. ⌜ r ≡ field (now (s .entry)) (i * 8) 64 ⌝ }
 {
@@ -61,9 +62,9 @@ pub(crate) fn load(s: &[u8]) -> Words
 }
 
 // The 64 bits from bit k on of two words.
-fn funnel(x: u64, y: u64, k: usize) -> u64
+pub(crate) fn funnel(x: u64, y: u64, k: usize) -> u64
     requires { ⌜ k < 64 ⌝ }
-    ensures { λ r. ⌜ Spans x y k r ⌝ }
+    ensures { λ r. ⌜ (r ≡ spanned x y k) × Spans x y k r ⌝ }
 {
     (x << k) + (y >> 1 >> (63 - k))
 }

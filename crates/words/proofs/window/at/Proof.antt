@@ -17,7 +17,7 @@ returns c =
     let a = c .before .before .before .args in
     let s = now (a .s) in
     let l : Loaded (a .w) s = c .before .before .before .pre in
-    c .funnel .ensures s 0 (l .first) (l .second) ∙ ap (λ z. field s z 64) (omega arith)
+    c .funnel .ensures .1 s 0 (l .first) (l .second) ∙ ap (λ z. field s z 64) (omega arith)
 
 funnel-requires-2 : tie.Need-funnel-requires-2
 funnel-requires-2 c κs = search needs
@@ -27,7 +27,7 @@ returns-2 c =
     let a = c .before .before .before .before .args in
     let s = now (a .s) in
     let l : Loaded (a .w) s = c .before .before .before .before .pre in
-    c .funnel2 .ensures s 64 (l .second) (l .third) ∙ ap (λ z. field s z 64) (omega arith)
+    c .funnel2 .ensures .1 s 64 (l .second) (l .third) ∙ ap (λ z. field s z 64) (omega arith)
 
 funnel-requires-3 : tie.Need-funnel-requires-3
 funnel-requires-3 c κs = search needs
@@ -37,7 +37,7 @@ returns-3 c =
     let a = c .before .before .before .before .before .args in
     let s = now (a .s) in
     let l : Loaded (a .w) s = c .before .before .before .before .before .pre in
-    c .funnel3 .ensures s 128 (l .third) (sym (behind s 192 64 (omega (arith, l .short)))) ∙ ap (λ z. field s z 64) (omega arith)
+    c .funnel3 .ensures .1 s 128 (l .third) (sym (behind s 192 64 (omega (arith, l .short)))) ∙ ap (λ z. field s z 64) (omega arith)
 
 returns-4 : tie.Need-returns-4
 returns-4 c =

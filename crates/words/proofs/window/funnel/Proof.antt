@@ -1,4 +1,5 @@
 -- `words::window::funnel` meets its contract. Assumes nothing.
+use mathlib.Core.Path.{refl}
 use Rattle.words.proofs.Windows.{spans, spans-lt}
 use native.Mathlib.Omega.{arith}
 use borrow.Author.Needs.{needs}
@@ -20,7 +21,7 @@ add-result c =
 
 returns : tie.Need-returns
 returns c =
-    λ s p e f. spans s p (c .args .k) (c .args .x) (c .args .y) (omega arith) e f
+    (refl, λ s p e f. spans s p (c .args .k) (c .args .x) (c .args .y) (omega arith) e f)
 
 pub funnel-spec : {M : Type 1} → statement M
 funnel-spec = tie.close (tie.spec shl-result sub-result shr-result add-result returns)

@@ -1,0 +1,4 @@
+pub mod Puts
+pub mod OneCall
+pub mod Listing
+pub mod Adding
