@@ -4,4 +4,3 @@ pub mod Clip
 pub mod Promises
 pub mod Told
 pub mod Write
-pub mod Inner

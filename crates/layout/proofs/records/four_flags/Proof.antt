@@ -1,5 +1,4 @@
 -- `layout::records::four_flags` meets its contract. Assumes nothing.
-use mathlib.Core.Path.{_∙_}
 use native.Mathlib.Omega.{arith}
 use borrow.Author.Needs.{needs}
 use Rattle.csn1.specs.Told.{asBit}

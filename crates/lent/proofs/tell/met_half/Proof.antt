@@ -7,7 +7,6 @@ use denote.Ref.{now}
 use borrow.Author.Tests.{not-true, not-false, eq-eqb, ne-eqb}
 use borrow.Author.Needs.{needs}
 use Rattle.bits.specs.Field.{pick}
-use Rattle.receiver.specs.declared.Record.{Record}
 use Rattle.receiver.specs.Model.{agree, joinedOf}
 use Rattle.layout.specs.Layout.{recordAt}
 use Rattle.lent.proofs.Outcomes.{left-again, left-apart, left-joined}
