@@ -10,7 +10,8 @@ note() { if [ "$1" = 0 ]; then passed=$((passed + 1)); else failed=$((failed + 1
 # A refusal that says nothing of the error: a name that is not known, or a text that cannot be parsed.
 unread='is not in scope|not a field of|[Pp]arse error|[Ss]yntax error|^rattle: no verdict'
 # seen LOG: the prover refused, by its last word, and knew what it read.
-seen() { [ -s "$1" ] && grep -q '^logic=not-proved' "$1" && ! grep -qE "$unread" "$1"; }
+# (Beside a type that does not fit stands, now and then, that a name in the type as it is shown is not in scope: the prover's hint, and no error.)
+seen() { [ -s "$1" ] && grep -q '^logic=not-proved' "$1" && ! grep -v '^  .* is not in scope here, so what is shown does not paste back as it stands' "$1" | grep -qE "$unread"; }
 
 sample() { # 0|1 LABEL LINE..
     printf '%s\n' "${@:3}" > "$tmp/log"
@@ -19,6 +20,8 @@ sample() { # 0|1 LABEL LINE..
     note $? "a sample is not taken as it must be: $2"
 }
 sample 0 'a type that does not fit' 'One.antt:5:1: error: `stays`: expected type `a ≡ b`' 'logic=not-proved functions=3'
+sample 0 'a type that does not fit, with a hint' 'One.antt:5:1: error: `stays`: expected type `a ≡ b`' '  `A` is not in scope here, so what is shown does not paste back as it stands; name it there first' 'logic=not-proved functions=3'
+sample 1 'a hint, and a name that is not known' '  `A` is not in scope here, so what is shown does not paste back as it stands; name it there first' 'One.antt:6:1: error: `stay` is not in scope' 'logic=not-proved functions=3'
 sample 1 'a name that is not known' 'One.antt:5:1: error: `stays`: `stored` is not in scope' 'logic=not-proved functions=3'
 sample 1 'no verdict' 'rattle: no verdict: out of memory'
 sample 1 'proved' 'logic=proved functions=3'
