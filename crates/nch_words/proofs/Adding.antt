@@ -112,7 +112,8 @@ module _ (s : List ℕ) (t : length s ≡ 20) (at : ℕ) (l : List ℕ) (y : Zer
   count-read : flag s at 0 2 countedAt q (set l release6At 1) l1 o ≡ flaggedOf (flaggedAt s at 2)
   count-read = flag-read s at 0 2 countedAt q (set l release6At 1) l1 o (omega arith) t h ∙ ap (λ (z : ℕ). flaggedOf (flaggedAt s z 2)) (add-zero at)
 
-  references : Left listPassed reducedsRun reducedsAt (list (format reduced) .read s (at + q)) (listDone d) (set (set (set l release6At 1) countedAt (boolByte (isThere (o .value)))) (countedAt + 1) (orZero (o .value))) l2
+  references : Left listPassed reducedsRun reducedsAt (list (format reduced) .read s (at + q)) (listDone d)
+      (set (set (set l release6At 1) countedAt (boolByte (isThere (o .value)))) (countedAt + 1) (orZero (o .value))) l2
   references = subst (λ (x : List ℕ). Left listPassed reducedsRun reducedsAt (list (format reduced) .read s (at + q)) (listDone d) x l2) (o .left) f
 
   pub zeros-reduceds : Zeros l2 randomsAt

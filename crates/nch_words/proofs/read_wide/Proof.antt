@@ -48,7 +48,8 @@ returns-2 c =
     let s = now (b .args .octets) in
     let r = k .take-all in
     let f = r .ensures (was-true _ (c .before .if1 .left)) in
-    (c .no-refusal .ensures ∙ refusal-read s (partDone (r .result .at)) (f .0), filled-in s (length (now (b .args .numbers))) _ _ (partDone (r .result .at)) (k .before .before .before .before .clear .ensures) f refl)
+    let d = partDone (r .result .at) in
+    (c .no-refusal .ensures ∙ refusal-read s d (f .0), filled-in s (length (now (b .args .numbers))) _ _ d (k .before .before .before .before .clear .ensures) f refl)
 
 pub read-wide-spec : {M : Type 1} → statement M
 read-wide-spec =

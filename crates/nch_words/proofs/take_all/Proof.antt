@@ -13,18 +13,26 @@ use borrow.Author.Needs.{needs}
 use Rattle.nch_words.proofs.take_all.Statement.{statement}
 use Rattle.nch_words.proofs.take_all.Tie as tie
 
--- where the function began
+-- where the first flag was read, and where the function began
+abbrev flagged : tie.After-struct-known2 → tie.After-read-flagged
+flagged k = k .before .before .before .before .before .before .before
+
 abbrev start : tie.After-struct-known2 → tie.Start
-start k = k .before .before .before .before .before .before .before .before .before .before .before .before
+start k = flagged k .before .before .before .before .before
+
+-- where the calls were taken
+abbrev called : tie.After-struct-known3 → tie.After-struct-known2
+called m = m .before .before .before .before .before .before .before
 
 -- the array keeps its length
-calls-length : (k : tie.After-struct-known2) → length (k .before .before .before .take-calls .last .1 .1 .1 .0) ≡ length (now (k .before .before .before .before .before .before .before .before .before .before .before .before .args .numbers))
-calls-length k = k .before .before .before .take-calls .kept .1 .1 .1 .0 ∙ length-led (now (k .before .before .before .before .before .before .before .before .before .before .before .before .args .numbers)) (k .before .before .before .before .before .before .before .read-flagged .result)
+calls-length : (k : tie.After-struct-known2) → length (k .before .before .before .take-calls .last .1 .1 .1 .0) ≡ length (now (start k .args .numbers))
+calls-length k = k .before .before .before .take-calls .kept .1 .1 .1 .0 ∙ length-led (now (start k .args .numbers)) (flagged k .read-flagged .result)
 
-six-length : (m : tie.After-struct-known3) → length (m .before .before .before .take-release6 .last .1 .1 .1 .0) ≡ length (now (start (m .before .before .before .before .before .before .before) .args .numbers))
-six-length m = m .before .before .before .take-release6 .kept .1 .1 .1 .0 ∙ calls-length (m .before .before .before .before .before .before .before)
+six-length : (m : tie.After-struct-known3) → length (m .before .before .before .take-release6 .last .1 .1 .1 .0) ≡ length (now (start (called m) .args .numbers))
+six-length m = m .before .before .before .take-release6 .kept .1 .1 .1 .0 ∙ calls-length (called m)
 
-seven-length : (q : tie.After-struct-known4) → length (q .before .before .before .take-release7 .last .1 .1 .1 .0) ≡ length (now (start (q .before .before .before .before .before .before .before .before .before .before .before .before .before .before) .args .numbers))
+seven-length : (q : tie.After-struct-known4)
+    → length (q .before .before .before .take-release7 .last .1 .1 .1 .0) ≡ length (now (start (called (q .before .before .before .before .before .before .before)) .args .numbers))
 seven-length q = q .before .before .before .take-release7 .kept .1 .1 .1 .0 ∙ six-length (q .before .before .before .before .before .before .before)
 
 no-part-requires : tie.Need-no-part-requires
@@ -67,12 +75,13 @@ returns-2 c = part-untaken _ (c .no-part2 .ensures)
 take-release6-requires : tie.Need-take-release6-requires
 take-release6-requires c κs =
     let k = c .before .before .before in
-    let b = k .before .before .before .before .before .before .before .before .before .before .before .before in
+    let k7 = k .before .before .before .before .before .before .before in
+    let b = k7 .before .before .before .before .before in
     let a = b .args in
-    let n = k .before .before .before .before .before .before .before .read-flagged in
-    let x = k .before .before .before .take-calls in
-    let t = k .before .before .before .before .before .before .before .before .before .if1 .left in (
-      (words-are _ (k .before .before .before .before .before .before .before .before .load .ensures) t, x .ensures .0),
+    let t = k7 .before .before .if1 .left in
+    let n = k7 .read-flagged in
+    let x = k .before .before .before .take-calls in (
+      (words-are _ (k7 .before .load .ensures) t, x .ensures .0),
       (
         omega (arith, calls-length k, b .pre .0),
         zeros-calls (now (a .s)) t (now (a .numbers)) (b .pre .1) (n .result) (n .ensures) (callsDone (x .result)) _ (x .ensures .1 (was-true _ (c .before .before .if2 .left))) refl,
@@ -92,17 +101,19 @@ take-release7-requires : tie.Need-take-release7-requires
 take-release7-requires c κs =
     let m = c .before .before .before in
     let k = m .before .before .before .before .before .before .before in
-    let b = k .before .before .before .before .before .before .before .before .before .before .before .before in
+    let k7 = k .before .before .before .before .before .before .before in
+    let b = k7 .before .before .before .before .before in
     let a = b .args in
-    let n = k .before .before .before .before .before .before .before .read-flagged in
+    let t = k7 .before .before .if1 .left in
+    let n = k7 .read-flagged in
     let x = k .before .before .before .take-calls in
     let ec = x .ensures .1 (was-true _ (m .before .before .before .before .before .before .if2 .left)) in
     let y = m .before .before .before .take-release6 in
     let ea = y .ensures .1 (was-true _ (c .before .before .if3 .left)) in (
-      (words-are _ (k .before .before .before .before .before .before .before .before .load .ensures) (k .before .before .before .before .before .before .before .before .before .if1 .left), y .ensures .0),
+      (words-are _ (k7 .before .load .ensures) t, y .ensures .0),
       (
         omega (arith, six-length m, b .pre .0),
-        zeros-six (now (a .s)) (k .before .before .before .before .before .before .before .before .before .if1 .left) (now (a .numbers)) (b .pre .1) (n .result) (n .ensures) (callsDone (x .result)) _ ec refl (sixDone (y .result)) _ ea refl,
+        zeros-six (now (a .s)) t (now (a .numbers)) (b .pre .1) (n .result) (n .ensures) (callsDone (x .result)) _ ec refl (sixDone (y .result)) _ ea refl,
       ),
     )
 
@@ -120,15 +131,20 @@ add-if5 c =
     let q = c .before .before .before in
     let m = q .before .before .before .before .before .before .before in
     let k = m .before .before .before .before .before .before .before in
-    let b = k .before .before .before .before .before .before .before .before .before .before .before .before in
+    let k7 = k .before .before .before .before .before .before .before in
+    let b = k7 .before .before .before .before .before in
     let a = b .args in
-    let n = k .before .before .before .before .before .before .before .read-flagged in
+    let t = k7 .before .before .if1 .left in
+    let n = k7 .read-flagged in
     let x = k .before .before .before .take-calls in
     let ec = x .ensures .1 (was-true _ (m .before .before .before .before .before .before .if2 .left)) in
     let y = m .before .before .before .take-release6 in
     let ea = y .ensures .1 (was-true _ (q .before .before .before .before .before .before .if3 .left)) in
     let z = q .before .before .before .take-release7 in
-    omega (arith, few (now (a .s)) (k .before .before .before .before .before .before .before .before .before .if1 .left) (now (a .numbers)) (b .pre .1) (n .result) (n .ensures) (callsDone (x .result)) _ ec refl (sixDone (y .result)) _ ea refl (listDone (z .result)) _ (z .ensures .1 (was-true _ (c .before .before .if4 .left))) refl)
+    let ez = z .ensures .1 (was-true _ (c .before .before .if4 .left)) in
+    let e =
+    few (now (a .s)) t (now (a .numbers)) (b .pre .1) (n .result) (n .ensures) (callsDone (x .result)) _ ec refl (sixDone (y .result)) _ ea refl (listDone (z .result)) _ ez refl in
+    omega (arith, e)
 
 no-part-requires-5 : tie.Need-no-part-requires-5
 no-part-requires-5 c κs = search needs
@@ -153,19 +169,23 @@ same-length-6 c = seven-length (c .before .before .before .before .before .befor
 
 returns-7 : tie.Need-returns-7
 returns-7 c =
-    let q = c .before .before .before .before .before .before .before .before in
+    let c7 = c .before .before .before .before .before .before .before in
+    let q = c7 .before in
     let m = q .before .before .before .before .before .before .before in
     let k = m .before .before .before .before .before .before .before in
-    let b = k .before .before .before .before .before .before .before .before .before .before .before .before in
+    let k7 = k .before .before .before .before .before .before .before in
+    let b = k7 .before .before .before .before .before in
     let a = b .args in
-    let n = k .before .before .before .before .before .before .before .read-flagged in
+    let t = k7 .before .before .if1 .left in
+    let n = k7 .read-flagged in
     let x = k .before .before .before .take-calls in
     let ec = x .ensures .1 (was-true _ (m .before .before .before .before .before .before .if2 .left)) in
     let y = m .before .before .before .take-release6 in
     let ea = y .ensures .1 (was-true _ (q .before .before .before .before .before .before .if3 .left)) in
     let z = q .before .before .before .take-release7 in
+    let ez = z .ensures .1 (was-true _ (c7 .if4 .left)) in
     λ d.
-    all-filled (now (a .s)) (k .before .before .before .before .before .before .before .before .before .if1 .left) (now (a .numbers)) (b .pre .1) (n .result) (n .ensures) (callsDone (x .result)) _ ec refl (sixDone (y .result)) _ ea refl (listDone (z .result)) _ (z .ensures .1 (was-true _ (c .before .before .before .before .before .before .before .if4 .left))) refl
+    all-filled (now (a .s)) t (now (a .numbers)) (b .pre .1) (n .result) (n .ensures) (callsDone (x .result)) _ ec refl (sixDone (y .result)) _ ea refl (listDone (z .result)) _ ez refl
     (omega (arith, c .before .before .before .if5 .left)) (omega (arith, c .if6 .left)) noRefusal refl
 
 pub take-all-spec : {M : Type 1} → statement M

@@ -62,7 +62,8 @@ returns-2 c =
       (
         omega arith,
         λ s p e h.
-            sms-some s p (a .from) _ (c .before .before .before .part .ensures s p e) (c .before .before .if1 .left) _ _ (c .before .part2 .ensures s p e) (c .part3 .ensures s p e) (now (a .numbers)) h,
+            sms-some s p (a .from) _ (c .before .before .before .part .ensures s p e) (c .before .before .if1 .left) _ _
+            (c .before .part2 .ensures s p e) (c .part3 .ensures s p e) (now (a .numbers)) h,
       ),
     )
 

@@ -49,8 +49,9 @@ no-six-requires-2 c κs = search needs
 
 same-length : tie.Need-same-length
 same-length c =
-    let c9 = c .before .before .before .before .before .before .before .before .before in
-    c .before .before .before .before .before .take-reduceds .kept .1 .1 .1 .0 ∙ c9 .put-flagged .kept .1 .1 .1 .0 ∙ length-set (now (c9 .before .before .before .before .before .before .args .numbers)) release6At 1
+    let c5 = c .before .before .before .before .before in
+    let c9 = c5 .before .before .before .before in
+    c5 .take-reduceds .kept .1 .1 .1 .0 ∙ c9 .put-flagged .kept .1 .1 .1 .0 ∙ length-set (now (c9 .before .before .before .before .before .before .args .numbers)) release6At 1
 
 returns-2 : tie.Need-returns-2
 returns-2 c = six-untaken _ (c .no-six2 .ensures)
@@ -78,16 +79,22 @@ no-six-requires-3 c κs = search needs
 
 same-length-2 : tie.Need-same-length-2
 same-length-2 c =
-    let c9 = c .before .before .before .before .before .before .before .before .before in
-    c .before .before .before .before .before .take-randoms .kept .1 .1 .1 .0 ∙ c9 .before .before .take-reduceds .kept .1 .1 .1 .0 ∙ c9 .before .before .before .before .before .before .put-flagged .kept .1 .1 .1 .0 ∙ length-set (now (c9 .before .before .before .before .before .before .before .before .before .before .before .before .args .numbers)) release6At 1
+    let c5 = c .before .before .before .before .before in
+    let c11 = c5 .before .before .before .before .before .before in
+    let c15 = c11 .before .before .before .before in
+    let l = now (c15 .before .before .before .before .before .before .args .numbers) in
+    c5 .take-randoms .kept .1 .1 .1 .0 ∙ c11 .take-reduceds .kept .1 .1 .1 .0 ∙ c15 .put-flagged .kept .1 .1 .1 .0 ∙ length-set l release6At 1
 
 returns-3 : tie.Need-returns-3
 returns-3 c = six-untaken _ (c .no-six3 .ensures)
 
 same-length-3 : tie.Need-same-length-3
 same-length-3 c =
-    let c8 = c .before .before .before .before .before .before .before .before in
-    c .before .before .before .before .take-randoms .kept .1 .1 .1 .0 ∙ c8 .before .before .take-reduceds .kept .1 .1 .1 .0 ∙ c8 .before .before .before .before .before .before .put-flagged .kept .1 .1 .1 .0 ∙ length-set (now (c8 .before .before .before .before .before .before .before .before .before .before .before .before .args .numbers)) release6At 1
+    let c4 = c .before .before .before .before in
+    let c10 = c4 .before .before .before .before .before .before in
+    let c14 = c10 .before .before .before .before in
+    let l = now (c14 .before .before .before .before .before .before .args .numbers) in
+    c4 .take-randoms .kept .1 .1 .1 .0 ∙ c10 .take-reduceds .kept .1 .1 .1 .0 ∙ c14 .put-flagged .kept .1 .1 .1 .0 ∙ length-set l release6At 1
 
 returns-4 : tie.Need-returns-4
 returns-4 c =

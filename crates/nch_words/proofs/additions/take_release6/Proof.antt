@@ -26,7 +26,8 @@ returns c =
       h .ensures .0,
       λ d.
           release-left-none (format release6) release6Passed release6Run release6At (now (a .s)) (a .at) (omega (arith, b .pre .0 .0 .long))
-          (record { refusal = noRefusal; high = h .result .high; at = h .result .at }) (h .ensures .1) refl (was-false _ (c .if1 .taken)) _ refl release6Length no-numbers6 (now (a .numbers)) (b .pre .1 .1),
+          (record { refusal = noRefusal; high = h .result .high; at = h .result .at }) (h .ensures .1) refl (was-false _ (c .if1 .taken)) _ refl
+          release6Length no-numbers6 (now (a .numbers)) (b .pre .1 .1),
     )
 
 take-parts6-requires : tie.Need-take-parts6-requires

@@ -12,11 +12,14 @@ use borrow.Author.Needs.{needs}
 use Rattle.nch_words.proofs.calls.take_call.Statement.{statement}
 use Rattle.nch_words.proofs.calls.take_call.Tie as tie
 
--- the 36 bits, and the flag behind them
+-- where the function began, the 36 bits there, and the flag behind them
+abbrev start : tie.After-part2 → tie.Start
+start f = f .before .before .before .before .before .before .before .before .before
+
 head-got : (k : tie.After-part) → k .part .result ≡ field (now (k .before .before .before .args .s)) (k .before .before .before .args .at + 1) 36
 head-got k = k .part .ensures (now (k .before .before .before .args .s)) (k .before .before .before .args .at) (k .before .before .before .pre .0 .1)
 
-flag-got : (f : tie.After-part2) → f .part2 .result ≡ field (now (f .before .before .before .before .before .before .before .before .before .args .s)) (f .before .before .before .before .before .before .before .before .before .args .at + 1 + 36) 1
+flag-got : (f : tie.After-part2) → f .part2 .result ≡ field (now (start f .args .s)) (start f .args .at + 1 + 36) 1
 flag-got f =
     let b = f .before .before .before .before .before .before .before .before .before in
     f .part2 .ensures (now (b .args .s)) (b .args .at) (b .pre .0 .1) ∙ ap (λ (z : ℕ). field (now (b .args .s)) z 1) (omega arith)
@@ -86,7 +89,8 @@ returns-3 c =
     let k = f .before .before .before .before .before .before in
     let a = k .before .before .before .args in
     let d = c .before .before .before .before .before .take-description in
-    described-unmet (now (a .s)) (a .at + 1) _ (head-got k) (a .place) (now (a .numbers)) (omega arith) _ (flag-got f) _ (f .before .before .before .put-head .ensures) (c .before .before .before .before .before .before .before .before .if2 .left)
+    described-unmet (now (a .s)) (a .at + 1) _ (head-got k) (a .place) (now (a .numbers)) (omega arith) _ (flag-got f) _
+    (f .before .before .before .put-head .ensures) (c .before .before .before .before .before .before .before .before .if2 .left)
     (d .result) _ (omega arith) _ (d .ensures) (was-false _ (c .before .if3 .taken)) _ (c .no-one2 .ensures)
 
 same-length-3 : tie.Need-same-length-3
@@ -98,7 +102,8 @@ returns-4 c =
     let k = f .before .before .before .before .before .before in
     let a = k .before .before .before .args in
     let d = c .before .before .before .before .take-description in
-    described-put (now (a .s)) (a .at + 1) _ (head-got k) (a .place) (now (a .numbers)) (omega arith) _ (flag-got f) _ (f .before .before .before .put-head .ensures) (c .before .before .before .before .before .before .before .if2 .left)
+    described-put (now (a .s)) (a .at + 1) _ (head-got k) (a .place) (now (a .numbers)) (omega arith) _ (flag-got f) _
+    (f .before .before .before .put-head .ensures) (c .before .before .before .before .before .before .before .if2 .left)
     (d .result) _ (omega arith) _ (d .ensures) (was-true _ (c .if3 .left))
 
 pub take-call-spec : {M : Type 1} → statement M

@@ -91,34 +91,41 @@ cast-ciphered c = search needs
 
 add-ciphered : tie.Need-add-ciphered Inv-entries μ-entries
 add-ciphered c =
-    let l = c .before .before .before .before .before .before .before .before .before .before .before .before .before .entries in
-    omega (arith, few-ciphered _ _ _ _ _ _ _ _ (l .inv .kept), l .inv .inside, byte-lt (c .before .before .before .before .before .before .before .take-call .result .ciphered))
+    let c7 = c .before .before .before .before .before .before .before in
+    let l = c7 .before .before .before .before .before .before .entries in
+    omega (arith, few-ciphered _ _ _ _ _ _ _ _ (l .inv .kept), l .inv .inside, byte-lt (c7 .take-call .result .ciphered))
 
 cast-described : tie.Need-cast-described Inv-entries μ-entries
 cast-described c = search needs
 
 add-described : tie.Need-add-described Inv-entries μ-entries
 add-described c =
-    let l = c .before .before .before .before .before .before .before .before .before .before .before .before .before .before .entries in
-    omega (arith, few-described _ _ _ _ _ _ _ _ (l .inv .kept), l .inv .inside, byte-lt (c .before .before .before .before .before .before .before .before .take-call .result .described))
+    let c8 = c .before .before .before .before .before .before .before .before in
+    let l = c8 .before .before .before .before .before .before .entries in
+    omega (arith, few-described _ _ _ _ _ _ _ _ (l .inv .kept), l .inv .inside, byte-lt (c8 .take-call .result .described))
 
 entries-less : tie.Need-entries-less Inv-entries μ-entries
 entries-less c =
-    let k = c .before .before .before .before .before .before .before .before .before .before .before .before in
+    let c8 = c .before .before .before .before .before .before .before .before in
+    let k = c8 .before .before .before .before in
     let l = k .before .before .entries in
     let s = octets k in
-    let o = c .before .before .before .before .before .before .before .before .take-call in
+    let o = c8 .take-call in
     let d = call-done s (l .at + 1) _ (o .result) _ _ (o .ensures) (was-true _ (c .before .before .before .before .if4 .left)) in
     omega (arith, call-grows s (l .at + 1) _ (o .result) _ _ d (twenty k) (omega (arith, l .inv .inside)) (omega arith))
 
 entries-again : tie.Need-entries-again Inv-entries μ-entries
 entries-again c =
-    let k = c .before .before .before .before .before .before .before .before .before .before .before .before in
+    let c8 = c .before .before .before .before .before .before .before .before in
+    let c10 = c8 .before .before in
+    let c11 = c10 .before in
+    let k = c11 .before in
     let l = k .before .before .entries in
     let s = octets k in
-    let o = c .before .before .before .before .before .before .before .before .take-call in
+    let o = c8 .take-call in
     let d = call-done s (l .at + 1) _ (o .result) _ _ (o .ensures) (was-true _ (c .before .before .before .before .if4 .left)) in
-    calls-next s (k .before .before .before .before .before .before .args .from) _ _ _ _ _ _ (l .inv) (twenty k) _ (flag-got k) (c .before .before .before .before .before .before .before .before .before .before .before .if2 .left) (omega (arith, c .before .before .before .before .before .before .before .before .before .before .if3 .left)) (o .result) _ d (omega arith)
+    calls-next s (k .before .before .before .before .before .before .args .from) _ _ _ _ _ _ (l .inv) (twenty k) _ (flag-got k) (c11 .if2 .left)
+    (omega (arith, c10 .if3 .left)) (o .result) _ d (omega arith)
 
 same-length : tie.Need-same-length Inv-entries μ-entries
 same-length c = simp length-set (kept-long (c .before .before .before .entries .inv .kept .kept))
@@ -137,13 +144,17 @@ returns-3 : tie.Need-returns-3 Inv-entries μ-entries
 returns-3 c = calls-untaken _ (c .no-calls2 .ensures)
 
 same-length-3 : tie.Need-same-length-3 Inv-entries μ-entries
-same-length-3 c = c .before .before .before .before .before .take-call .kept .1 .1 .1 .1 .0 ∙ kept-long (c .before .before .before .before .before .before .before .before .before .before .before .entries .inv .kept .kept)
+same-length-3 c =
+    let c5 = c .before .before .before .before .before in
+    c5 .take-call .kept .1 .1 .1 .1 .0 ∙ kept-long (c5 .before .before .before .before .before .before .entries .inv .kept .kept)
 
 returns-4 : tie.Need-returns-4 Inv-entries μ-entries
 returns-4 c = calls-untaken _ (c .no-calls3 .ensures)
 
 same-length-4 : tie.Need-same-length-4 Inv-entries μ-entries
-same-length-4 c = c .before .before .before .before .before .before .before .take-call .kept .1 .1 .1 .1 .0 ∙ kept-long (c .before .before .before .before .before .before .before .before .before .before .before .before .before .entries .inv .kept .kept)
+same-length-4 c =
+    let c7 = c .before .before .before .before .before .before .before in
+    c7 .take-call .kept .1 .1 .1 .1 .0 ∙ kept-long (c7 .before .before .before .before .before .before .entries .inv .kept .kept)
 
 returns-5 : tie.Need-returns-5 Inv-entries μ-entries
 returns-5 c = calls-untaken _ (c .no-calls4 .ensures)

@@ -76,7 +76,8 @@ returns-3 : tie.Need-returns-3
 returns-3 c =
     let b = c .before .before .before .before .before .before .before .before in
     let a = b .args in
-    hops-put (now (a .s)) (a .at) (a .d) (b .pre .0 .1) (a .place) (now (a .numbers)) (b .pre .1 .1) (omega arith) (c .before .before .before .before .if2 .left) _ _ (c .before .before .take-frequencies .ensures)
+    hops-put (now (a .s)) (a .at) (a .d) (b .pre .0 .1) (a .place) (now (a .numbers)) (b .pre .1 .1) (omega arith) (c .before .before .before .before .if2 .left)
+    _ _ (c .before .before .take-frequencies .ensures)
 
 pub take-description-spec : {M : Type 1} → statement M
 take-description-spec =

@@ -133,7 +133,8 @@ returns-4 c =
     let k = l .before .before in
     let b = k .before .before .before .before in
     let y = seen (c .before .at3 .ensures) (omega (arith, b .pre .0 .1)) (octets k) (b .pre .0 .0) in
-    allocation-put (octets k) (place k) _ _ (b .pre .1 .1) _ (branch-got k) (omega arith) _ (length-got l) (omega arith) (omega arith) _ (part-first _ _ _ (c .part3 .ensures) (octets k) (place k + 9) y)
+    allocation-put (octets k) (place k) _ _ (b .pre .1 .1) _ (branch-got k) (omega arith) _ (length-got l) (omega arith) (omega arith)
+    _ (part-first _ _ _ (c .part3 .ensures) (octets k) (place k + 9) y)
 
 pub take-frequencies-spec : {M : Type 1} → statement M
 take-frequencies-spec =

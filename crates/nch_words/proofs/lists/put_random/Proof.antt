@@ -43,7 +43,9 @@ returns c =
         o .1 .0,
         λ s p e.
             let f = o .1 .1 .1 s p e in
-            record { segment = c .before .before .before .before .part .result; value = f .value; first = c .before .before .before .before .part .ensures s p e; is = f .is; left = f .left ∙ second-place (set (set (now (a .numbers)) (a .place) (c .before .before .before .before .part .result)) (a .place + 1) (boolByte (isThere (f .value)))) (a .place) (orZero (f .value)) },
+            let g = c .before .before .before .before .part in
+            let l = set (set (now (a .numbers)) (a .place) (g .result)) (a .place + 1) (boolByte (isThere (f .value))) in
+            record { segment = g .result; value = f .value; first = g .ensures s p e; is = f .is; left = f .left ∙ second-place l (a .place) (orZero (f .value)) },
       ),
     )
 

@@ -72,7 +72,9 @@ mul-numbers : tie.Need-mul-numbers Inv-entries μ-entries
 mul-numbers c = search needs
 
 slice-write-numbers-2 : tie.Need-slice-write-numbers-2 Inv-entries μ-entries
-slice-write-numbers-2 c = omega (arith, kept-long (c .before .before .before .before .before .before .entries .inv .1), c .before .before .before .before .before .before .before .before .before .before .pre .1 .0)
+slice-write-numbers-2 c =
+    let c6 = c .before .before .before .before .before .before in
+    omega (arith, kept-long (c6 .entries .inv .1), c6 .before .before .before .before .pre .1 .0)
 
 add-count : tie.Need-add-count Inv-entries μ-entries
 add-count c = search needs
@@ -91,7 +93,8 @@ entries-again c =
     let v = c .part2 .ensures s (l .at) (window k) in
     let e = bit-here s (twenty k) (l .at) (l .inv .0) _ (flag-got k) in
     let x = mark-here s (twenty k) (l .at) (omega arith) _ v in
-    (omega arith, marks-one s (k .before .before .before .before .before .before .args .from) _ _ _ _ (l .inv .1) _ _ _ e (c .before .before .before .if2 .left) x (omega arith) (omega (arith, v, field-lt s (l .at + 1) 1)) (omega arith))
+    let a = k .before .before .before .before .before .before .args in
+    (omega arith, marks-one s (a .from) _ _ _ _ (l .inv .1) _ _ _ e (c .before .before .before .if2 .left) x (omega arith) (omega (arith, v, field-lt s (l .at + 1) 1)) (omega arith))
 
 same-length : tie.Need-same-length Inv-entries μ-entries
 same-length c = simp length-set (kept-long (c .before .before .before .entries .inv .1))

@@ -69,7 +69,9 @@ add-put-random : tie.Need-add-put-random Inv-entries μ-entries
 add-put-random c = search needs
 
 put-random-requires : tie.Need-put-random-requires Inv-entries μ-entries
-put-random-requires c κs = (omega (arith, kept-long (c .before .before .before .before .before .entries .inv .kept), c .before .before .before .before .before .before .before .before .before .pre .1 .0), c .before .before .before .before .before .entries .inv .zeros)
+put-random-requires c κs =
+    let c5 = c .before .before .before .before .before in
+    (omega (arith, kept-long (c5 .entries .inv .kept), c5 .before .before .before .before .pre .1 .0), c5 .entries .inv .zeros)
 
 add-next : tie.Need-add-next Inv-entries μ-entries
 add-next c = omega (arith, c .before .before .put-random .ensures .1 .0, c .before .before .before .before .before .before .before .before .entries .inv .inside)
@@ -85,11 +87,13 @@ entries-less c = omega (arith, c .before .before .before .put-random .ensures .0
 
 entries-again : tie.Need-entries-again Inv-entries μ-entries
 entries-again c =
-    let k = c .before .before .before .before .before .before .before in
+    let c6 = c .before .before .before .before .before .before in
+    let k = c6 .before in
     let l = k .before .before .entries in
     let s = octets k in
     let o = c .before .before .before .put-random .ensures in
-    randoms-next s (k .before .before .before .before .before .before .args .from) _ _ _ _ (l .inv) (twenty k) _ (flag-got k) (c .before .before .before .before .before .before .if2 .left) (omega arith) _ _ (o .1 .1 s (l .at) (window k)) (o .0) (omega arith)
+    let a = k .before .before .before .before .before .before .args in
+    randoms-next s (a .from) _ _ _ _ (l .inv) (twenty k) _ (flag-got k) (c6 .if2 .left) (omega arith) _ _ (o .1 .1 s (l .at) (window k)) (o .0) (omega arith)
 
 same-length : tie.Need-same-length Inv-entries μ-entries
 same-length c = simp length-set (kept-long (c .before .before .before .entries .inv .kept))

@@ -77,7 +77,9 @@ mul-numbers : tie.Need-mul-numbers Inv-entries μ-entries
 mul-numbers c = search needs
 
 slice-write-numbers-2 : tie.Need-slice-write-numbers-2 Inv-entries μ-entries
-slice-write-numbers-2 c = omega (arith, kept-long (c .before .before .before .before .before .before .before .entries .inv .1), c .before .before .before .before .before .before .before .before .before .before .before .pre .1 .0)
+slice-write-numbers-2 c =
+    let c7 = c .before .before .before .before .before .before .before in
+    omega (arith, kept-long (c7 .entries .inv .1), c7 .before .before .before .before .pre .1 .0)
 
 part-requires-3 : tie.Need-part-requires-3 Inv-entries μ-entries
 part-requires-3 c κs = search needs
@@ -89,7 +91,9 @@ mul-numbers-2 : tie.Need-mul-numbers-2 Inv-entries μ-entries
 mul-numbers-2 c = search needs
 
 slice-write-numbers-3 : tie.Need-slice-write-numbers-3 Inv-entries μ-entries
-slice-write-numbers-3 c = simp length-set (omega (arith, kept-long (c .before .before .before .before .before .before .before .before .entries .inv .1), c .before .before .before .before .before .before .before .before .before .before .before .before .pre .1 .0))
+slice-write-numbers-3 c =
+    let c8 = c .before .before .before .before .before .before .before .before in
+    simp length-set (omega (arith, kept-long (c8 .entries .inv .1), c8 .before .before .before .before .pre .1 .0))
 
 add-count : tie.Need-add-count Inv-entries μ-entries
 add-count c = search needs
@@ -107,7 +111,8 @@ entries-again c =
     let s = octets k in
     let e = bit-here s (twenty k) (l .at) (l .inv .0) _ (flag-got k) in
     let x = reduced-here s (twenty k) (l .at) (omega arith) _ _ (c .before .before .part2 .ensures s (l .at) (window k)) (c .part3 .ensures s (l .at) (window k)) in
-    (omega arith, reduceds-one s (k .before .before .before .before .before .before .args .from) _ _ _ _ (l .inv .1) _ e (c .before .before .before .before .before .if2 .left) _ _ x (omega arith) _ refl (omega arith))
+    let a = k .before .before .before .before .before .before .args in
+    (omega arith, reduceds-one s (a .from) _ _ _ _ (l .inv .1) _ e (c .before .before .before .before .before .if2 .left) _ _ x (omega arith) _ refl (omega arith))
 
 same-length : tie.Need-same-length Inv-entries μ-entries
 same-length c = simp length-set (kept-long (c .before .before .before .entries .inv .1))
