@@ -122,7 +122,8 @@ frequencies-adds w d = go (d .shortlist) refl
     y = putWords w 9 (d .length)
 
     go : (t : Bool) → d .shortlist ≡ t → format frequencies .fits (pick t (inr (d .frequencies)) (inl (d .length, d .frequencies)))
-        → Adds (whole w) (whole (pick t (putWords x 64 (d .frequencies)) (putWords y (8 * d .length) (d .frequencies)))) (format frequencies .bits 0 0 (pick t (inr (d .frequencies)) (inl (d .length, d .frequencies))))
+        → Adds (whole w) (whole (pick t (putWords x 64 (d .frequencies)) (putWords y (8 * d .length) (d .frequencies))))
+        (format frequencies .bits 0 0 (pick t (inr (d .frequencies)) (inl (d .length, d .frequencies))))
     go true e h =
         list-put (whole w) (whole x) (whole (putWords x 64 (d .frequencies))) (d .length) (d .frequencies) true refl (put-whole w x 1 1 (omega arith) refl)
         (put-whole x (putWords x 64 (d .frequencies)) 64 (d .frequencies) (omega arith) refl) h

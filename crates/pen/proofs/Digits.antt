@@ -175,7 +175,8 @@ all-digits n (suc m) x h =
     let k : n - m ≡ suc r = omega arith in
     let e : suc m * 8 ≡ m * 8 + 8 = omega arith in
     let f : 0 + m * 8 ≡ m * 8 = omega arith in
-    let i : setField (replicate n 43) 0 (m * 8) (x / 2 ^ 8) ≡ digits m (x / 256) ++ 43 ∷ replicate r 43 = all-digits n m (x / 256) (omega arith) ∙ ap (λ (z : ℕ). digits m (x / 256) ++ replicate z 43) k in
+    let i : setField (replicate n 43) 0 (m * 8) (x / 2 ^ 8) ≡ digits m (x / 256) ++ 43 ∷ replicate r 43 =
+    all-digits n m (x / 256) (omega arith) ∙ ap (λ (z : ℕ). digits m (x / 256) ++ replicate z 43) k in
     ap (λ (z : ℕ). setField (replicate n 43) 0 z x) e ∙ setField-split (replicate n 43) 0 (m * 8) 8 x
     ∙ ap₂ (λ (t : List ℕ) (z : ℕ). setField t z 8 x) i f
     ∙ octet-set (digits m (x / 256)) (replicate r 43) m x (length-digits m (x / 256))

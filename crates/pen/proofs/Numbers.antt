@@ -16,7 +16,8 @@ pub kept : (x k y m : ℕ) → (x % m * k + y) % m ≡ (x * k + y) % m
 kept x k y m =
     let q : ℕ = x / m in
     let r : ℕ = x % m in
-    let e : x * k + y ≡ q * k * m + (r * k + y) = ap (λ (z : ℕ). z * k + y) (sym (div-add-mod' x m)) ∙ ap (λ (z : ℕ). z + y) (add-mul (q * m) r k) ∙ ap (λ (z : ℕ). z + r * k + y) (mul-right-comm q m k) ∙ omega arith in
+    let e : x * k + y ≡ q * k * m + (r * k + y) =
+    ap (λ (z : ℕ). z * k + y) (sym (div-add-mod' x m)) ∙ ap (λ (z : ℕ). z + y) (add-mul (q * m) r k) ∙ ap (λ (z : ℕ). z + r * k + y) (mul-right-comm q m k) ∙ omega arith in
     sym (ap (λ (z : ℕ). z % m) e ∙ mul-add-mod-self-right (q * k) m (r * k + y))
 
 -- ## A word, shifted up
@@ -46,7 +47,8 @@ module _ (w : ℕ) (h : w < 64) where
 
   shifted : (x : ℕ) → x * 2 ^ w ≡ x / 2 / 2 ^ (63 - w) * 2 ^ 64 + x * 2 ^ w % 2 ^ 64
   shifted x =
-      let e : x * 2 ^ w / 2 ^ 64 ≡ x / 2 / 2 ^ (63 - w) = ap (λ (z : ℕ). x * 2 ^ w / 2 ^ z) (sym wide) ∙ sym (shr-shr (x * 2 ^ w) w (64 - w)) ∙ ap (λ (z : ℕ). z / 2 ^ (64 - w)) (shl-shr x w) ∙ sym (over x) in
+      let e : x * 2 ^ w / 2 ^ 64 ≡ x / 2 / 2 ^ (63 - w) =
+      ap (λ (z : ℕ). x * 2 ^ w / 2 ^ z) (sym wide) ∙ sym (shr-shr (x * 2 ^ w) w (64 - w)) ∙ ap (λ (z : ℕ). z / 2 ^ (64 - w)) (shl-shr x w) ∙ sym (over x) in
       sym (split (x * 2 ^ w) 64) ∙ ap (λ (z : ℕ). z * 2 ^ 64 + x * 2 ^ w % 2 ^ 64) e
 
   over-lt : (x : ℕ) → x < 2 ^ 64 → x / 2 / 2 ^ (63 - w) < 2 ^ w

@@ -24,7 +24,8 @@ returns-2 c =
     let p = c .before .before .before .put in
     let q = c .before .put2 in
     let a = c .before .before .before .before .args in
-    pad-more (whole (a .w)) (a .n) (whole (p .result)) (put-whole (a .w) (p .result) (a .n % 64) 3110627432037296939 (omega arith) (p .ensures)) (whole (q .result)) (put-whole (p .result) (q .result) 64 3110627432037296939 (omega arith) (q .ensures)) (omega arith) (omega arith)
+    pad-more (whole (a .w)) (a .n) (whole (p .result)) (put-whole (a .w) (p .result) (a .n % 64) 3110627432037296939 (omega arith) (p .ensures))
+    (whole (q .result)) (put-whole (p .result) (q .result) 64 3110627432037296939 (omega arith) (q .ensures)) (omega arith) (omega arith)
 
 put-requires-3 : tie.Need-put-requires-3
 put-requires-3 c κs = search needs
@@ -34,7 +35,9 @@ returns-3 c =
     let p = c .before .before .before .before .put in
     let q = c .before .before .put2 in
     let a = c .before .before .before .before .before .args in
-    pad-most (whole (a .w)) (a .n) (whole (p .result)) (put-whole (a .w) (p .result) (a .n % 64) 3110627432037296939 (omega arith) (p .ensures)) (whole (q .result)) (put-whole (p .result) (q .result) 64 3110627432037296939 (omega arith) (q .ensures)) (omega arith) (omega arith) (whole (c .put3 .result)) (put-whole (q .result) (c .put3 .result) 64 3110627432037296939 (omega arith) (c .put3 .ensures))
+    pad-most (whole (a .w)) (a .n) (whole (p .result)) (put-whole (a .w) (p .result) (a .n % 64) 3110627432037296939 (omega arith) (p .ensures))
+    (whole (q .result)) (put-whole (p .result) (q .result) 64 3110627432037296939 (omega arith) (q .ensures)) (omega arith) (omega arith)
+    (whole (c .put3 .result)) (put-whole (q .result) (c .put3 .result) 64 3110627432037296939 (omega arith) (c .put3 .ensures))
 
 pub pad-spec : {M : Type 1} → statement M
 pad-spec =

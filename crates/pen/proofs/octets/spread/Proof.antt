@@ -71,7 +71,9 @@ returns-3 c =
     let n : length s - 8 + 8 ≡ length s = omega arith in
     let h = a .w .a * 2 ^ 64 + a .w .b in
     let l = words-lt (c10 .before) in
-    let d = spread-word s (c10 .seven-at-most3 .last .0) (c6 .eight2 .last .0) (length s - 16) (a .w .a) (a .w .b) (l .0) (c10 .seven-at-most3 .ensures) (c6 .eight2 .ensures) ∙ ap (λ (k : ℕ). sets s 0 (digits k h)) m in
+    let d =
+    spread-word s (c10 .seven-at-most3 .last .0) (c6 .eight2 .last .0) (length s - 16) (a .w .a) (a .w .b) (l .0) (c10 .seven-at-most3 .ensures) (c6 .eight2 .ensures)
+    ∙ ap (λ (k : ℕ). sets s 0 (digits k h)) m in
     spread-word s (c6 .eight2 .last .0) (c2 .eight3 .last .0) (length s - 8) h (a .w .c) (l .1) d (c2 .eight3 .ensures)
     ∙ ap (λ (k : ℕ). sets s 0 (digits k (h * 2 ^ 64 + a .w .c))) n ∙ sets-all s (length s) (h * 2 ^ 64 + a .w .c) refl
 
