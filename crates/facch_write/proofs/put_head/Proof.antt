@@ -28,8 +28,10 @@ put-page-requires c κs =
 returns : tie.Need-returns
 returns c =
     let d = c .before .before .before .put in
+    let n = c .before .before .before .before .before .none in
     let a = c .before .before .before .before .before .before in
-    let e = put-whole (c .before .before .before .before .before .none .result) (d .result) 9 (boolByte (a .args .m .paging)) (omega arith) (d .ensures) ∙ ap (λ w. wholeAfter (whole w) 9 (boolByte (a .args .m .paging))) (c .before .before .before .before .before .none .ensures) in
+    let x = boolByte (a .args .m .paging) in
+    let e = put-whole (n .result) (d .result) 9 x (omega arith) (d .ensures) ∙ ap (λ w. wholeAfter (whole w) 9 x) (n .ensures) in
     paged-put (a .args .m) (whole (d .result)) (whole (c .put-page .result)) e (c .before .before .if1 .taken) (c .put-page .ensures)
 
 put-requires-2 : tie.Need-put-requires-2
@@ -38,8 +40,10 @@ put-requires-2 c κs = search needs
 returns-2 : tie.Need-returns-2
 returns-2 c =
     let d = c .before .before .before .put in
+    let n = c .before .before .before .before .before .none in
     let a = c .before .before .before .before .before .before in
-    let e = put-whole (c .before .before .before .before .before .none .result) (d .result) 9 (boolByte (a .args .m .paging)) (omega arith) (d .ensures) ∙ ap (λ w. wholeAfter (whole w) 9 (boolByte (a .args .m .paging))) (c .before .before .before .before .before .none .ensures) in
+    let x = boolByte (a .args .m .paging) in
+    let e = put-whole (n .result) (d .result) 9 x (omega arith) (d .ensures) ∙ ap (λ w. wholeAfter (whole w) 9 x) (n .ensures) in
     let f = c .before .before .if1 .left in
     call-put (a .args .m) (whole (d .result)) (whole (c .put2 .result)) e f
     (call-written (d .result) (c .put2 .result) (a .args .m .call) (c .put2 .ensures) (right-fits (a .args .m .call) (call-right (a .args .m) (right (a .args .m) (a .pre)) f)))
