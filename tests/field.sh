@@ -49,6 +49,9 @@ strict='-std=c11 -D_GNU_SOURCE -Wall -Wextra -Wpedantic -Werror -Iinclude'
 
 # ---- Built strictly, and with sanitizers ----
 
+# clang's sanitizers and its fuzzer are a package of their own, which has no command that tools/gate could ask for.
+has_fuzzer() { echo 'int LLVMFuzzerTestOneInput(const unsigned char *at, unsigned long n) { return !at && n; }' | clang -x c -fsanitize=fuzzer,address,undefined - -o "$top/probe" > "$top/said" 2>&1; }
+has_fuzzer || { apt-get -qq update && DEBIAN_FRONTEND=noninteractive apt-get -qq install -y --no-install-recommends libclang-rt-dev; } > "$top/said" 2>&1
 holds 'gcc, strictly' gcc $strict -O2 field/*.c "$archive" -lpcap -o "$top/by-gcc"
 holds 'clang, strictly' clang $strict -O2 field/*.c "$archive" -lpcap -o "$top/by-clang"
 holds 'with sanitizers' gcc $strict -g -O1 -fsanitize=address,undefined -fno-sanitize-recover=all field/*.c "$archive" -lpcap -o "$top/sanitized"
