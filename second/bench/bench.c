@@ -29,7 +29,7 @@
 
 extern const struct side *const library;
 
-enum { KEYS = 50, FOREIGN = 123456, FIRST_TICK = 1000, TIMER = 60000, RUN = 2000, COUNTED = 10, LIMIT = 16 };
+enum { KEYS = 50, FOREIGN = 123456, FIRST_TICK = 1000, TIMER = 60000, RUN = 2000, COUNTED = 10, LIMIT = 10, LIMIT_DROPPING = 16 };
 enum { STATE = 1 << 15, FRESH = 32, MANY = 10000 };
 enum kind { TICK, BIT_22, NCH, FACCH, PCH, JOINED, RESELECTED, WRITE_NCH, WRITE_FACCH, UPLINK_WAITS, UPLINK_TURNS, YARD_TICK, YARD_NCH, READ_NCH, READ_FACCH };
 
@@ -654,15 +654,15 @@ static void print_tables(void)
     }
 }
 
-/* A coarse guard against accidents: no row takes more than LIMIT times what plain by gcc takes, and reading stays ahead of the bit vectors. LIMIT was 10 while plain took 1.6 times as long
- * as now; events that drop halves, which take up to 9.6 times, came with plain in words. */
+/* A coarse guard against accidents: no row takes more than LIMIT times what plain by gcc takes, and reading stays ahead of the bit vectors. Events that drop halves, which had no rows before
+ * and take up to 9.6 times, have a limit of their own, so that a busy machine fails nobody. */
 static void guard(void)
 {
     for (unsigned i = 0; library && i < n_rows; i++) {
         char what[160];
         unsigned like = i < n_event_rows ? 1 : 3;
         snprintf(what, sizeof what, "%s, %u held: %.1f ns, plain %.1f ns", rows[i].name, rows[i].halves, best[i][0], best[i][like]);
-        check(best[i][0] <= LIMIT * best[i][like], what);
+        check(best[i][0] <= (is_fresh(&rows[i]) ? LIMIT_DROPPING : LIMIT) * best[i][like], what);
         if (i >= n_event_rows) {
             snprintf(what, sizeof what, "%s: %.1f ns, bit vector %.1f ns", rows[i].name, best[i][0], best[i][5]);
             check(best[i][0] <= best[i][5], what);

@@ -2,7 +2,7 @@
 # The benchmark: the proved archive against plain C by gcc -O2 and clang -O3, and against bit vectors, in one run.
 #
 #   run.sh                 the tables in ns, in markdown, what the ratios come to (summary.awk), and the archive's size (about a minute)
-#   run.sh --quick         the answers agree, and nothing takes 16 times what plain takes; ends in 'N passed, M failed' (under 10 s)
+#   run.sh --quick         the answers agree, and nothing takes 10 times what plain takes (16 where halves are dropped); ends in 'N passed, M failed' (under 10 s)
 #   run.sh --instructions  the same in instructions per event; these repeat on a busy machine
 #   run.sh --plain         the plain sides alone, where there is no archive
 #   run.sh --digits FOLDER..   ns for one reading and one writing of digits by the archive of each folder in turn, so that two versions compare
