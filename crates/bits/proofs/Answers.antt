@@ -9,7 +9,7 @@ use native.Mathlib.Omega.{arith}
 use lib.ListN.{length}
 use lib.Dec.{leb, ltb, eqb}
 use lib.Pow.{pow_pos}
-use borrow.Author.Tests.{leb-true, le-leb, lt-leb, lt-ltb, le-ltb, eq-eqb, ne_eqb, not_true, not-false}
+use borrow.Author.Tests.{leb-true, le-leb, lt-leb, lt-ltb, le-ltb, eq-eqb, ne_eqb, not-true, not-false}
 use Rattle.bits.specs.declared.Got.TheVariants.{Bits, Short}
 use Rattle.bits.specs.Field.{both, inside, field, fetched, set_field, can_put, after_put}
 
@@ -50,7 +50,7 @@ none_above w v = go (dec_lt v (2 ^ w))
 
 module _ (s : List ℕ) (at w : ℕ) (r : Bool) (e : r ≡ inside s at w) where
   outside : not r ≡ true → inside s at w ≡ false
-  outside n = sym e ∙ not_true r n
+  outside n = sym e ∙ not-true r n
 
   there : not r ≡ false → inside s at w ≡ true
   there n = sym e ∙ not-false r n
@@ -78,7 +78,7 @@ module _ (s : List ℕ) (at w : ℕ) (r : Bool) (e : r ≡ inside s at w) where
 
   pub put_large : (v : ℕ) (q : Bool) → q ≡ ltb v (2 ^ w) → not q ≡ true → (false ≡ can_put s at w v) × (s ≡ after_put s at w v)
   unfolding can_put
-  put_large v q f n = refused v (rw (sym f ∙ not_true q n) (both_false (inside s at w)))
+  put_large v q f n = refused v (rw (sym f ∙ not-true q n) (both_false (inside s at w)))
 
   pub put_inside : (v : ℕ) (q : Bool) (t : List ℕ) (p : ℕ) → not r ≡ false → q ≡ ltb v (2 ^ w) → not q ≡ false → p ≡ at → t ≡ set_field s p w v
       → (true ≡ can_put s at w v) × (t ≡ after_put s at w v)

@@ -8,7 +8,7 @@ use Prim.Native.Nat.{ℕ, ◌+◌, ◌-◌, ◌*◌, ◌^◌, ◌≤◌, ◌<◌
 use native.Mathlib.Omega.{arith}
 use lib.ListN.{length}
 use lib.Dec.{leb}
-use borrow.Author.Tests.{leb-true, le-leb, lt-leb, not_true, not-false}
+use borrow.Author.Tests.{leb-true, le-leb, lt-leb, not-true, not-false}
 use native.Mathlib.Decide.{dec_le}
 use mir.Val.{bool_byte}
 use Rattle.bits.specs.Field.{both, pick, after_put}
@@ -165,7 +165,7 @@ module _ (s : List ℕ) (p : ℕ) (c : Call) (t u : Bool) (k : ℕ) (x : t ≡ b
     refused e = rw (can, e) ((refl, refl))
 
     pub put_full : not t ≡ false → not u ≡ true → (false ≡ can_put_call s p c) × (s ≡ after_put_call s p c)
-    put_full e f = refused (rw (not-false t e, not_true u f))
+    put_full e f = refused (rw (not-false t e, not-true u f))
 
     pub put_room : not t ≡ false → not u ≡ false → Room group_call (call_value c) s p
     unfolding call_size
@@ -188,7 +188,7 @@ module _ (s : List ℕ) (p : ℕ) (c : Call) (t u : Bool) (k : ℕ) (x : t ≡ b
 pub put_wrong : (s : List ℕ) (p : ℕ) (c : Call) (t : Bool) → t ≡ both (call_in_range c) (both (call_is_low c) (both (call_length_right c) (call_hops_right c))) → not t ≡ true
     → (false ≡ can_put_call s p c) × (s ≡ after_put_call s p c)
 put_wrong s p c t x e =
-    refused s p c t (both (leb (length s) 4096) (leb (p + call_size c) (length s * 8))) (call_size c) x refl refl (rw (not_true t e))
+    refused s p c t (both (leb (length s) 4096) (leb (p + call_size c) (length s * 8))) (call_size c) x refl refl (rw (not-true t e))
 
 -- ## Behind other parts
 

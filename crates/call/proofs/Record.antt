@@ -8,7 +8,7 @@ use Prim.Native.Nat.{ℕ, zero, suc, ◌*◌, ◌^◌, ◌≤◌, ◌<◌}
 use native.Mathlib.Omega.{arith}
 use lib.ListN.{length}
 use lib.Dec.{leb, ltb, eqb}
-use borrow.Author.Tests.{ltb-true, leb-true, eqb-true, lt-ltb, not_true}
+use borrow.Author.Tests.{ltb-true, leb-true, eqb-true, lt-ltb, not-true}
 use Rattle.bits.specs.Field.{both, pick}
 use Rattle.csn1.specs.Format.{RowFits, OptFits, WhenFits}
 use Rattle.csn1.specs.Grammar.{format}
@@ -98,14 +98,14 @@ zero-back ch h s n f e =
     let b = both_true (not h) _ a.1 in
     let c = both_true (not s) _ b.1 in
     let d = both_true (eqb n 0) (eqb f 0) c.1 in
-    rw (eqb-true ch 0 a.0, not_true h b.0, not_true s c.0, eqb-true n 0 d.0, eqb-true f 0 d.1)
+    rw (eqb-true ch 0 a.0, not-true h b.0, not-true s c.0, eqb-true n 0 d.0, eqb-true f 0 d.1)
 
 description-back : (ch : ℕ) (h s : Bool) (n f : ℕ) → frequencies_in_range h s n f ≡ true
     → with_frequencies ch (is_one (as_bit h)) (there h (pick s (inr f) (inl (n, f)))) ≡ record { channel = ch; hopping = h; shortlist = s; length = n; frequencies = f }
 description-back ch false s n f e =
     let a = both_true (not s) (both (eqb n 0) (eqb f 0)) e in
     let b = both_true (eqb n 0) (eqb f 0) a.1 in
-    rw (not_true s a.0, eqb-true n 0 b.0, eqb-true f 0 b.1)
+    rw (not-true s a.0, eqb-true n 0 b.0, eqb-true f 0 b.1)
 description-back ch true true n f e = rw (eqb-true n 0 (both_true (ltb f (2 ^ 64)) (eqb n 0) e).1)
 description-back ch true false n f e = refl
 
@@ -208,7 +208,7 @@ zero_is c e = all c.reference c.vgcs c.acknowledged c.priority c.cipher c.hasDes
         let e5 = both_true (eqb k 0) _ e4.1 in
         let e6 = both_true (not t) _ e5.1 in
         let z : d ≡ no_description = sym (zero-back d.channel d.hopping d.shortlist d.length d.frequencies e6.1) in
-        rw (eqb-true r 0 e1.0, not_true v e2.0, not_true a e3.0, eqb-true p 0 e4.0, eqb-true k 0 e5.0, not_true t e6.0, z)
+        rw (eqb-true r 0 e1.0, not-true v e2.0, not-true a e3.0, eqb-true p 0 e4.0, eqb-true k 0 e5.0, not-true t e6.0, z)
 
 pub no_call-zero : call_is_zero no_call ≡ true
 unfolding call_is_zero

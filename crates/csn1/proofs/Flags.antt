@@ -4,7 +4,7 @@ use mathlib.Core.Bool.{Bool, true, false}
 use mathlib.Core.Option.{Option, none, some}
 use Prim.Native.Nat.{ℕ, ◌^◌, ◌<◌}
 use native.Mathlib.Omega.{arith}
-use borrow.Author.Tests.{ltb-true, eqb-true, not_true, lt-ltb}
+use borrow.Author.Tests.{ltb-true, eqb-true, not-true, lt-ltb}
 use Rattle.csn1.specs.Format.{num, OptFits}
 use Rattle.csn1.specs.Told.{is_there, or_zero, there, as_bit, or_false}
 use Rattle.csn1.specs.Write.{flagged_right, behind}
@@ -41,11 +41,11 @@ bit-fits false b = tt
 
 pub behind-none : (h b : Bool) → h ≡ false → behind h b ≡ true → b ≡ false
 behind-none true b o e = absurd (let z : ◌≡◌ {A = ℕ} 0 1 = cc in omega arith)
-behind-none false b o e = not_true b e
+behind-none false b o e = not-true b e
 
 pub behind-bit : (h b : Bool) → behind h b ≡ true → or_false (there h (as_bit b)) ≡ b
 behind-bit true b e = flag-back b
-behind-bit false b e = sym (not_true b e)
+behind-bit false b e = sym (not-true b e)
 
 pub bit-behind : (o : Option ℕ) → behind (is_there o) (or_false o) ≡ true
 bit-behind none = refl

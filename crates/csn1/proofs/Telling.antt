@@ -6,7 +6,7 @@ use mathlib.Core.Option.{Option, none, some}
 use Prim.Native.Nat.{ℕ, ◌<◌}
 use native.Mathlib.Omega.{arith}
 use lib.Dec.{eqb}
-use borrow.Author.Tests.{eqb-true, eqb-false, ne_eqb, not_true, not-false}
+use borrow.Author.Tests.{eqb-true, eqb-false, ne_eqb, not-true, not-false}
 use Rattle.bits.specs.Field.{both, pick, first_due}
 use Rattle.csn1.specs.Told.{is_there, or_zero, there}
 
@@ -15,7 +15,7 @@ true-both e f = rw (e, f)
 
 -- what a test `!f(x)` says of the answer that f must give
 pub fails : {a b : Bool} → not a ≡ true → a ≡ b → b ≡ false
-fails {a} n e = sym e ∙ not_true a n
+fails {a} n e = sym e ∙ not-true a n
 
 pub passes : {a b : Bool} → not a ≡ false → a ≡ b → b ≡ true
 passes {a} n e = sym e ∙ not-false a n

@@ -8,7 +8,7 @@ use Prim.Native.Nat.{ℕ, zero, suc, ◌-◌, ◌*◌, ◌^◌, ◌≤◌, ◌<�
 use native.Mathlib.Omega.{arith}
 use lib.ListN.{get_or}
 use lib.Dec.{leb, ltb, eqb}
-use borrow.Author.Tests.{ltb-true, leb-true, eqb-true, lt-ltb, le-ltb, ne_eqb, not_true}
+use borrow.Author.Tests.{ltb-true, leb-true, eqb-true, lt-ltb, le-ltb, ne_eqb, not-true}
 use Rattle.bits.specs.Field.{both, pick}
 use Rattle.csn1.specs.Format.{num, RowFits, OptFits, EitherFits, ◌⨟◌}
 use Rattle.csn1.specs.Grammar.{format}
@@ -97,7 +97,7 @@ zero_page p e =
       identityFirst = sym (eqb-true p.identityFirst 0 b.0) i;
       identityRest = sym (eqb-true p.identityRest 0 c.0) i;
       channelFirst = sym (eqb-true p.channelFirst 0 d.0) i;
-      hasPriority = sym (not_true p.hasPriority g.0) i;
+      hasPriority = sym (not-true p.hasPriority g.0) i;
       priority = sym (eqb-true p.priority 0 g.1) i;
     }
 
@@ -176,7 +176,7 @@ first_count false c y e = sym (eqb-true c 0 e)
 
 second-count : (h b : Bool) (x : ℕ) → behind h b ≡ true → b22_count_in (there h (x, as_bit b)) ≡ b
 second-count true b x e = flag-back b
-second-count false b x e = sym (not_true b e)
+second-count false b x e = sym (not-true b e)
 
 back6 : (r : Release6) → release6_in_range r ≡ true → release6_of (there r.hasRelease (release6_value r)) ≡ r
 back6 r e = go r.hasRelease refl

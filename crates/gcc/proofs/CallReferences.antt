@@ -3,7 +3,7 @@ use mathlib.Core.Path.{◌≡◌, refl, sym, ap, ◌∙◌}
 use mathlib.Core.Bool.{Bool, true, false, not}
 use mathlib.Core.List.{List}
 use native.Mathlib.Omega.{arith}
-use borrow.Author.Tests.{eq-eqb, ne_eqb, le-leb, eqb-true, eqb-false, leb-true, not_true}
+use borrow.Author.Tests.{eq-eqb, ne_eqb, le-leb, eqb-true, eqb-false, leb-true, not-true}
 use Prim.Native.Nat.{ℕ, ◌+◌, ◌*◌, ◌/◌, ◌%◌, ◌≤◌, ◌<◌}
 use lib.ListN.{length}
 use lib.Dec.{leb, eqb}
@@ -58,7 +58,7 @@ accepted r p n e =
     let b = passed (λ k. k) (not (eqb (number_of p) 16)) (pick (leb r 99999999) (pick (eqb n 4) 0 11) 4) 12 (omega arith) a.1 in
     let c = passed (λ k. k) (leb r 99999999) (pick (eqb n 4) 0 11) 4 (omega arith) b.1 in
     let d = passed (λ k. k) (eqb n 4) 0 11 (omega arith) c.1 in
-    record { small = leb-true r 99999999 c.0; assigned = λ q. eqb-false (number_of p) 16 (not_true _ b.0) (ap number_of q); four = eqb-true n 4 d.0 }
+    record { small = leb-true r 99999999 c.0; assigned = λ q. eqb-false (number_of p) 16 (not-true _ b.0) (ap number_of q); four = eqb-true n 4 d.0 }
 
 -- and what it may be given it accepts
 writes : (r : ℕ) (p : Priority) (n : ℕ) → r ≤ 99999999 → (number_of p ≡ 16 → ⊥) → n ≡ 4 → write_number r p n ≡ 0

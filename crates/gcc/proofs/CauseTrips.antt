@@ -6,7 +6,7 @@ use mathlib.Core.Option.{Option, none, some}
 use mathlib.Core.Logic.{⊎_elim}
 use native.Mathlib.Omega.{arith}
 use borrow.Author.Tests.{eq-eqb, eqb-true, le-leb, leb-true, leb-false}
-use Prim.Native.Nat.{ℕ, zero, suc, ◌+◌, ◌-◌, ◌≤◌, ◌<◌, zero_le, suc-le-suc}
+use Prim.Native.Nat.{ℕ, zero, suc, ◌+◌, ◌-◌, ◌≤◌, ◌<◌, zero-le, suc-le-suc}
 use lib.Dec.{leb, eqb}
 use lib.ListN.{length, get_or, take, drop, replicate, length-drop, take-append-drop}
 use lib.Seq.{length-take-le, take-append_seam, drop-append_seam}
@@ -37,9 +37,9 @@ parse-form (n ∷ []) d h w =
     let e : n + 128 - 128 ≡ n = omega arith in
     ⊎_elim (λ m. m.last ∙ ap (λ k. some (k ∷ [], d)) e) (λ p. absurd (omega (arith, p.low))) (marked_or_plain (n + 128) d)
 parse-form (n ∷ m ∷ l) d h w =
-    let b : n ≤ 127 = (within-each 0 127 (n ∷ m ∷ l) w 0 (suc-le-suc zero_le)).1 in
+    let b : n ≤ 127 = (within-each 0 127 (n ∷ m ∷ l) w 0 (suc-le-suc zero-le)).1 in
     ⊎_elim (λ k. absurd (omega (arith, k.high)))
-    (λ p. p.more ∙ ap (led n) (parse-form (m ∷ l) d (suc-le-suc zero_le) (within-tail 0 127 n (m ∷ l) w)))
+    (λ p. p.more ∙ ap (led n) (parse-form (m ∷ l) d (suc-le-suc zero-le) (within-tail 0 127 n (m ∷ l) w)))
     (marked_or_plain n (cause_octets (m ∷ l) d))
 
 length-form : (l d : List ℕ) → length (cause_octets l d) ≡ length l + length d
@@ -57,13 +57,13 @@ record Said (s l d : List ℕ) : Type 0 where
 led-said : (o : ℕ) (s l d : List ℕ) → o < 128 → Said s l d → Said (o ∷ s) (o ∷ l) d
 unfolding cause_octets all_between
 led-said o s [] d h i = absurd (omega (arith, i.some-part))
-led-said o s (n ∷ l) d h i = record { some-part = suc-le-suc zero_le; seven = rw (le-leb 0 o zero_le, le-leb o 127 (omega arith)) i.seven; back = ap (λ t. o ∷ t) i.back }
+led-said o s (n ∷ l) d h i = record { some-part = suc-le-suc zero-le; seven = rw (le-leb 0 o zero-le, le-leb o 127 (omega arith)) i.seven; back = ap (λ t. o ∷ t) i.back }
 
 last-said : (o : ℕ) (s : List ℕ) → 128 ≤ o → o < 256 → Said (o ∷ s) ((o - 128) ∷ []) s
 unfolding cause_octets all_between
 last-said o s h k =
     let e : o - 128 + 128 ≡ o = omega arith in
-    record { some-part = suc-le-suc zero_le; seven = rw (le-leb 0 (o - 128) zero_le, le-leb (o - 128) 127 (omega arith)); back = ap (λ i. i ∷ s) e }
+    record { some-part = suc-le-suc zero-le; seven = rw (le-leb 0 (o - 128) zero-le, le-leb (o - 128) 127 (omega arith)); back = ap (λ i. i ∷ s) e }
 
 same-said : (s l d m e : List ℕ) → ◌≡◌ {A = Option (List ℕ × List ℕ)} (some (m, e)) (some (l, d)) → Said s m e → Said s l d
 same-said s l d m e q i =
@@ -81,7 +81,7 @@ form-parse : (s l d : List ℕ) → Spells 256 0 s → parse s ≡ some (l, d) �
 unfolding parse
 form-parse [] l d o q = let z : ◌≡◌ {A = ℕ} 0 1 = cc in absurd (omega arith)
 form-parse (x ∷ s) l d o q =
-    ⊎_elim (λ m. same-said (x ∷ s) l d ((x - 128) ∷ []) s (sym m.last ∙ q) (last-said x s m.high (o 0 (suc-le-suc zero_le)).1))
+    ⊎_elim (λ m. same-said (x ∷ s) l d ((x - 128) ∷ []) s (sym m.last ∙ q) (last-said x s m.high (o 0 (suc-le-suc zero-le)).1))
     (λ p. more-said x s l d (parse s) p.low (λ m e w. form-parse s m e (λ i h. o (suc i) (suc-le-suc h)) w) (sym p.more ∙ q))
     (marked_or_plain x s)
 
@@ -90,7 +90,7 @@ form-parse (x ∷ s) l d o q =
 zeros : (l : List ℕ) → all_between 0 0 l ≡ true → l ≡ replicate (length l) 0
 zeros [] e = refl
 zeros (x ∷ l) e =
-    let z : x ≡ 0 = omega (arith, within-each 0 0 (x ∷ l) e 0 (suc-le-suc zero_le)) in
+    let z : x ≡ 0 = omega (arith, within-each 0 0 (x ∷ l) e 0 (suc-le-suc zero-le)) in
     rw z (ap (λ t. 0 ∷ t) (zeros l (within-tail 0 0 x l e)))
 
 zeros_within : (n : ℕ) → all_between 0 0 (replicate n 0) ≡ true

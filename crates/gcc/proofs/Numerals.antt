@@ -6,7 +6,7 @@ use native.Mathlib.Omega.{arith}
 use native.Mathlib.Nat.{pow-zero, pow-suc, pow-succ', div-one, div-div-eq-div-mul, mul_assoc, one-mul, add-mul, mul-le-mul_right, mod-one, div-eq_of_lt-le, pow-le-pow_right, one-le-pow, mod-eq_of_lt, mod-lt, zero-mul, mul_comm, zero-add, suc-add}
 use native.Mathlib.Numerals.{add-one}
 use borrow.Author.Tests.{le-leb}
-use Prim.Native.Nat.{ℕ, zero, suc, ◌+◌, ◌-◌, ◌*◌, ◌/◌, ◌%◌, ◌^◌, ◌≤◌, ◌<◌, zero_le, suc-le-suc}
+use Prim.Native.Nat.{ℕ, zero, suc, ◌+◌, ◌-◌, ◌*◌, ◌/◌, ◌%◌, ◌^◌, ◌≤◌, ◌<◌, zero-le, suc-le-suc}
 use lib.ListN.{length, get_or, set, drop}
 use lib.Seq.{drop-cons}
 use lib.Arith.{digits_lt, digits_mod, mod-mul}
@@ -46,7 +46,7 @@ worth-between b z a (d ∷ l) s =
     let x : a * b ^ suc (length l) ≡ a * b * p = rw (pow-succ', mul_assoc) in
     let y : (a + 1) * b ^ suc (length l) ≡ (a + 1) * b * p = rw (pow-succ', mul_assoc) in
     let lo : a * b * p ≤ (a * b + (d - z)) * p = mul-le-mul_right p (omega arith) in
-    let g = s 0 (suc-le-suc zero_le) in
+    let g = s 0 (suc-le-suc zero-le) in
     let hi : (a * b + (d - z) + 1) * p ≤ (a + 1) * b * p = mul-le-mul_right p (rw (add-mul, one-mul) (omega arith)) in
     (omega arith, omega arith)
 
@@ -57,7 +57,7 @@ spell-worth b z a [] s = refl
 spell-worth b z a (d ∷ l) s =
     let e : ℕ = a * b + (d - z) in
     let t : Spells b z l = λ i h. s (suc i) (suc-le-suc h) in
-    let g = s 0 (suc-le-suc zero_le) in
+    let g = s 0 (suc-le-suc zero-le) in
     let w = worth-between b z e l t in
     let q : worth b z e l / b ^ length l ≡ e = div-eq_of_lt-le (b ^ length l) w.0 w.1 in
     let m : e % b ≡ d - z = digits_mod a (omega arith) in

@@ -6,7 +6,7 @@ use Prim.Native.Nat.{ℕ, ◌+◌, ◌-◌}
 use native.Mathlib.Omega.{arith}
 use lib.ListN.{length, get_or, take, drop, set, replicate, length-drop}
 use lib.Seq.{sets}
-use borrow.Author.Tests.{eq-eqb, ne_eqb, not_true, not-false}
+use borrow.Author.Tests.{eq-eqb, ne_eqb, not-true, not-false}
 use Rattle.csn1.specs.Told.{padded}
 use Rattle.gcc.specs.Cause.{meaning_numbers, write_number, write_to}
 use Rattle.gcc.specs.declared.cause.Cause.{Cause}
@@ -70,7 +70,7 @@ module _ (ns b : List ℕ) where
   -- t is the answer of the test that every number fits, u of the one that no septet is there or too many octets
   module _ (t : Bool) (h : length ns ≡ cause_length) (e : t ≡ within (behind ns) (Most (behind ns))) where
     not_held : not t ≡ true → cause_holds ns ≡ false
-    not_held n = sym (most-cause ns t h e) ∙ not_true t n
+    not_held n = sym (most-cause ns t h e) ∙ not-true t n
 
     is-held : not t ≡ false → cause_holds ns ≡ true
     is-held n = sym (most-cause ns t h e) ∙ not-false t n

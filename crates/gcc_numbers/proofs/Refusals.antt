@@ -5,7 +5,7 @@ use mathlib.Core.Bool.{Bool, true, false, not}
 use Prim.Native.Nat.{ℕ, ◌≤◌, ◌<◌}
 use lib.Dec.{eqb}
 use lib.ListN.{length, get_or}
-use borrow.Author.Tests.{eq-eqb, ne_eqb, not_true, not-false}
+use borrow.Author.Tests.{eq-eqb, ne_eqb, not-true, not-false}
 use Rattle.bits.specs.Field.{pick}
 use Rattle.bits.proofs.Answers.{both_true}
 use Rattle.arrays.specs.Limits.{within}
@@ -18,7 +18,7 @@ module _ (n : ℕ) (most ns : List ℕ) where
 
   -- t is the answer of the test that every number fits
   pub code_12 : (own : ℕ) (t : Bool) → length ns ≡ n → t ≡ within ns most → not t ≡ true → 12 ≡ code_for n most ns own
-  code_12 own t h e o = rw (eq-eqb _ _ h, ← e, not_true t o)
+  code_12 own t h e o = rw (eq-eqb _ _ h, ← e, not-true t o)
 
   pub fits-own : (t : Bool) → length ns ≡ n → t ≡ within ns most → not t ≡ false → fits n most ns ≡ true
   fits-own t h e o = rw (eq-eqb _ _ h, ← e, not-false t o)
@@ -43,7 +43,7 @@ module _ (n : ℕ) (most ns : List ℕ) where
     octets_13 h = (code_13 own h, rw (ne_eqb _ _ h))
 
     pub octets_12 : (t : Bool) → length ns ≡ n → t ≡ within ns most → not t ≡ true → OctetsLeft 12 b
-    octets_12 t h e o = (code_12 own t h e o, rw (eq-eqb _ _ h, ← e, not_true t o))
+    octets_12 t h e o = (code_12 own t h e o, rw (eq-eqb _ _ h, ← e, not-true t o))
 
     pub octets-own : (r : ℕ) (left : List ℕ) → fits n most ns ≡ true → r ≡ own → left ≡ w → OctetsLeft r left
     octets-own r left f p q = (p ∙ code_fits own f, q ∙ rw f)

@@ -6,7 +6,7 @@ use mathlib.Core.Option.{Option, none}
 use Prim.Native.Nat.{ℕ, zero, suc, ◌+◌, ◌^◌, ◌≤◌, ◌<◌}
 use native.Mathlib.Omega.{arith}
 use lib.Dec.{leb, ltb, eqb}
-use borrow.Author.Tests.{leb-true, leb-false, lt-ltb, le-ltb, eqb-true, eqb-false, ne_eqb, not_true, not-false}
+use borrow.Author.Tests.{leb-true, leb-false, lt-ltb, le-ltb, eqb-true, eqb-false, ne_eqb, not-true, not-false}
 use Rattle.bits.specs.Field.{both, pick}
 use Rattle.csn1.specs.Told.{as_bit}
 use Rattle.receiver.specs.declared.Record.{Record}
@@ -48,7 +48,7 @@ unfolding kept_of taken_of ran_out_of
 kept_what now timer rule i s = kept_cases (is_held s) (leb timer (wrap_sub now s.since)) (spares rule i) empty_slot s
 
 pub is-held : (s : Slot) → is_held s ≡ true → s.half ≡ 0 → ⊥
-is-held s h = eqb-false s.half 0 (not_true (eqb s.half 0) h)
+is-held s h = eqb-false s.half 0 (not-true (eqb s.half 0) h)
 
 is_free : (s : Slot) → is_held s ≡ false → s.half ≡ 0
 is_free s h = eqb-true s.half 0 (not-false (eqb s.half 0) h)

@@ -8,7 +8,7 @@ use native.Mathlib.Omega.{arith}
 use lib.Dec.{ltb, leb, eqb}
 use lib.Bits.{bit_or, or_add_and, and_le_l, and_le_r}
 use lib.ListN.{get_or}
-use borrow.Author.Tests.{eqb-true, eqb-false, ltb-true, ltb-false, not_true}
+use borrow.Author.Tests.{eqb-true, eqb-false, ltb-true, ltb-false, not-true}
 use Rattle.bits.specs.Field.{both}
 use Rattle.bits.proofs.Answers.{both_true}
 use Rattle.receiver.specs.declared.Rule.{Rule}
@@ -97,7 +97,7 @@ module _ (now : ℕ) (l : List ℕ) where
   pub running-six : (from : ℕ) (a b d f g h : Bool) → a ≡ ran_at now l from → b ≡ ran_at now l (from + 1) → d ≡ ran_at now l (from + 2) → f ≡ ran_at now l (from + 3)
       → g ≡ ran_at now l (from + 4) → h ≡ ran_at now l (from + 5) → not ((a || b || d) || (f || g || h)) ≡ true → Running now l from 6
   running-six from a b d f g h p q r s t u e =
-      let z = neither (a || b || d) (f || g || h) (not_true _ e) in
+      let z = neither (a || b || d) (f || g || h) (not-true _ e) in
       let y = neither (f || g) h z.1 in
       let x = neither f g y.0 in
       running-next from 5 (running-next from 4 (running-next from 3 (running-three from a b d p q r z.0) (sym s ∙ x.0)) (sym t ∙ x.1)) (sym u ∙ y.1)
@@ -106,7 +106,7 @@ module _ (now : ℕ) (l : List ℕ) where
       → g ≡ ran_at now l (from + 4) → h ≡ ran_at now l (from + 5) → m ≡ ran_at now l (from + 6) → n ≡ ran_at now l (from + 7)
       → not ((a || b || d || f) || (g || h || m || n)) ≡ true → Running now l from 8
   running-eight from a b d f g h m n p q r s t u v w e =
-      let z = neither (a || b || d || f) (g || h || m || n) (not_true _ e) in
+      let z = neither (a || b || d || f) (g || h || m || n) (not-true _ e) in
       let low = neither (a || b || d) f z.0 in
       let y = neither (g || h || m) n z.1 in
       let x = neither (g || h) m y.0 in
@@ -120,8 +120,8 @@ takes_none : (rule : Rule) → takes_none_of rule ≡ true → (ch : ℕ) → ta
 takes_none rule e ch =
     let n = both_true (not rule.nch) (both (not rule.facch) (not rule.pch)) e in
     let m = both_true (not rule.facch) (not rule.pch) n.1 in
-    by-test (eqb ch 0) (λ p. rw p (not_true rule.nch n.0))
-    (λ p. by-test (eqb ch 1) (λ q. rw (p, q) (not_true rule.facch m.0)) (λ q. rw (p, q) (not_true rule.pch m.1)))
+    by-test (eqb ch 0) (λ p. rw p (not-true rule.nch n.0))
+    (λ p. by-test (eqb ch 1) (λ q. rw (p, q) (not-true rule.facch m.0)) (λ q. rw (p, q) (not-true rule.pch m.1)))
 
 -- it spares every place
 spares-none : (rule : Rule) → takes_none_of rule ≡ true → (i : ℕ) → spares rule i ≡ true

@@ -6,7 +6,7 @@ use Prim.Native.Nat.{ℕ}
 use lib.ListN.{length}
 use lib.Dec.{eqb}
 use lib.Text.{eqt→eq}
-use borrow.Author.Tests.{eqb-true, not_true}
+use borrow.Author.Tests.{eqb-true, not-true}
 use Rattle.bits.proofs.Answers.{both_true}
 use Rattle.bits.specs.Field.{bit, field}
 use Rattle.csn1.specs.Format.{read_items, pad_bit, ground}
@@ -34,7 +34,7 @@ every-listed-row-passes = refl
 
 -- octets of another number than 20 are refusal 1
 other_length : (s : List ℕ) (n m : ℕ) → length s ≡ n → (not (eqb n 20) ≡ true) × (eqb m 1 ≡ true) → read_of s ≡ refusal m
-other_length s n m h e = rw (h, not_true (eqb n 20) e.0, eqb-true m 1 e.1)
+other_length s n m h e = rw (h, not-true (eqb n 20) e.0, eqb-true m 1 e.1)
 
 a-row_that_passes-holds : (r : ListedRow) → test r ≡ true → RowHolds r
 a-row_that_passes-holds (nch-octets s r) e = reading_equal _ r e

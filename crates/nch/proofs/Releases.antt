@@ -8,7 +8,7 @@ use native.Mathlib.Omega.{arith}
 use lib.ListN.{length, take, length-map}
 use lib.Seq.{length-take-le}
 use lib.Dec.{leb, eqb}
-use borrow.Author.Tests.{ltb-true, leb-true, eqb-true, not_true, lt-ltb, le-leb}
+use borrow.Author.Tests.{ltb-true, leb-true, eqb-true, not-true, lt-ltb, le-leb}
 use Rattle.bits.specs.Field.{both, pick}
 use Rattle.csn1.specs.Format.{num, OptFits}
 use Rattle.csn1.specs.Grammar.{number, ◌and◌, format}
@@ -38,7 +38,7 @@ reduced-back r = λ i. record { reference = r.reference; vgcs = flag-back r.vgcs
 reduced-zero : (r : Reduced) → reduced_is_zero r ≡ true → r ≡ no_reduced
 reduced-zero r e =
     let b = both_true (eqb r.reference 0) (not r.vgcs) e in
-    λ i. record { reference = eqb-true r.reference 0 b.0 i; vgcs = not_true r.vgcs b.1 i }
+    λ i. record { reference = eqb-true r.reference 0 b.0 i; vgcs = not-true r.vgcs b.1 i }
 
 reduced-value : (v : List ℕ) → (format reduced).fits v → reduced_value (reduced_of v) ≡ v
 reduced-value [] f = absurd f.0
@@ -62,7 +62,7 @@ random-zero : (r : Random) → random_is_zero r ≡ true → r ≡ no_random
 random-zero r e =
     let a = both_true (not r.segment) (both (not r.hasRandom) (eqb r.rand 0)) e in
     let b = both_true (not r.hasRandom) (eqb r.rand 0) a.1 in
-    λ i. record { segment = not_true r.segment a.0 i; hasRandom = not_true r.hasRandom b.0 i; rand = eqb-true r.rand 0 b.1 i }
+    λ i. record { segment = not-true r.segment a.0 i; hasRandom = not-true r.hasRandom b.0 i; rand = eqb-true r.rand 0 b.1 i }
 
 random-value : (v : ℕ × Option ℕ) → (format random).fits v → random_value (random_of v) ≡ v
 random-value v f = λ i. (bit-back v.0 f.0 i, number-back v.1 i)
@@ -145,7 +145,7 @@ back6 r t five nine = go r.hasRelease refl t.absent
     go false o e =
         let a = both_true (not r.hasCount) (both (eqb r.reducedcount 0) (eqb r.randomcount 0)) e in
         let b = both_true (eqb r.reducedcount 0) (eqb r.randomcount 0) a.1 in
-        let u = not_true r.hasCount a.0 in
+        let u = not-true r.hasCount a.0 in
         let x = eqb-true r.reducedcount 0 b.0 in
         let y = eqb-true r.randomcount 0 b.1 in
         λ i.
@@ -276,19 +276,19 @@ half-led false a = refl
 
 led-there : (h f : Bool) (v : ℕ) → behind h f ≡ true → is_there (behind_flag h (there f v)) ≡ f
 led-there true f v e = there_back f v
-led-there false f v e = sym (not_true f e)
+led-there false f v e = sym (not-true f e)
 
 led-zero : (h f : Bool) (v n : ℕ) → behind h f ≡ true → flagged_right f v n ≡ true → or_zero (behind_flag h (there f v)) ≡ v
 led-zero true f v n e g = flag-zero f v n g
-led-zero false f v n e g = flag-none f v n (not_true f e) g
+led-zero false f v n e g = flag-none f v n (not-true f e) g
 
 first_bit : (h a : Bool) (y : ℕ) → behind h a ≡ true → confidentiality (there h (as_bit a, y)) ≡ a
 first_bit true a y e = flag-back a
-first_bit false a y e = sym (not_true a e)
+first_bit false a y e = sym (not-true a e)
 
 second-bit : (h a : Bool) (x : ℕ) → behind h a ≡ true → privacy (there h (x, as_bit a)) ≡ a
 second-bit true a x e = flag-back a
-second-bit false a x e = sym (not_true a e)
+second-bit false a x e = sym (not-true a e)
 
 pub back7 : (r : Release7) → Right7 r → length r.marks ≡ 4 → release7_of (there r.hasRelease (release7_value r)) ≡ r
 back7 r t four = go r.hasRelease refl t.absent
@@ -300,7 +300,7 @@ back7 r t four = go r.hasRelease refl t.absent
         record {
           hasRelease = sym o i;
           markcount = in_use as_bit r.markcount 4 r.marks t.few four i;
-          marks = places-back false any_mark not not_true is_one as_bit (λ b g. flag-back b) 4 r.markcount r.marks four t.marks i;
+          marks = places-back false any_mark not not-true is_one as_bit (λ b g. flag-back b) 4 r.markcount r.marks four t.marks i;
           hasUplink = there_back r.hasUplink (as_bit r.uplink) i;
           uplink = behind-bit r.hasUplink r.uplink t.uplink i;
           hasAmr = there_back r.hasAmr (amr_value r) i;
@@ -317,16 +317,16 @@ back7 r t four = go r.hasRelease refl t.absent
         let b = both_true (not r.hasUplink) (both (not r.hasAmr) (not r.hasSms)) a.1 in
         let c = both_true (not r.hasAmr) (not r.hasSms) b.1 in
         let n = eqb-true r.markcount 0 a.0 in
-        let u = not_true r.hasUplink b.0 in
-        let v = not_true r.hasAmr c.0 in
-        let w = not_true r.hasSms c.1 in
+        let u = not-true r.hasUplink b.0 in
+        let v = not-true r.hasAmr c.0 in
+        let w = not-true r.hasSms c.1 in
         let x = behind-none r.hasAmr r.hasFullrate v t.hasFullrate in
         let y = behind-none r.hasAmr r.hasHalfrate v t.hasHalfrate in
         λ i.
         record {
           hasRelease = sym o i;
           markcount = sym n i;
-          marks = places-empty false any_mark not not_true 4 r.markcount r.marks four n t.marks i;
+          marks = places-empty false any_mark not not-true 4 r.markcount r.marks four n t.marks i;
           hasUplink = sym u i;
           uplink = sym (behind-none r.hasUplink r.uplink u t.uplink) i;
           hasAmr = sym v i;

@@ -7,7 +7,7 @@ use native.Mathlib.Nat.{zero-add}
 use native.Mathlib.Omega.{arith}
 use lib.Dec.{eqb}
 use lib.ListN.{length, get_or}
-use borrow.Author.Tests.{eqb-true, eqb-false, not_true}
+use borrow.Author.Tests.{eqb-true, eqb-false, not-true}
 use Rattle.bits.specs.Field.{pick}
 use Rattle.csn1.specs.Told.{as_bit}
 use Rattle.receiver.specs.declared.Record.{Record}
@@ -37,7 +37,7 @@ module _ (l : List ℕ) (i : ℕ) where
 
   module _ (h : is_held (slot_no l i) ≡ true) where
     kind-held : octet_at l (kind_place i) ≡ 0 → ⊥
-    kind-held = eqb-false _ _ (not_true _ (held-kind ∙ h))
+    kind-held = eqb-false _ _ (not-true _ (held-kind ∙ h))
 
     pub left-held : timer_no l i - wrap_sub (le_at 4 l tick_from) (le_at 4 l (since_place i)) ≡ left_of (decode_of l) (i, slot_no l i)
     unfolding decode_of

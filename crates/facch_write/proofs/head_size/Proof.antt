@@ -1,6 +1,6 @@
 -- `facch_write::head_size` meets its contract. Assumes nothing.
 use mathlib.Core.Path.{sym, ◌∙◌}
-use borrow.Author.Tests.{not_true, not-false}
+use borrow.Author.Tests.{not-true, not-false}
 use Rattle.call.proofs.Put.{call-short}
 use Rattle.facch_write.proofs.Placing.{head-call, head-paged}
 use Rattle.facch_write.proofs.Records.{right, call-right, page_nine}
@@ -16,12 +16,12 @@ add-result : tie.Need-overflow-add-result
 add-result c =
     let a = c.before.before.before.before in
     let t = right a.args.m a.requires in
-    omega (arith, c.size.ensures, call-short a.args.m.call (call-right a.args.m t (not_true a.args.m.paging c.before.before.if1.true)))
+    omega (arith, c.size.ensures, call-short a.args.m.call (call-right a.args.m t (not-true a.args.m.paging c.before.before.if1.true)))
 
 returns : tie.Need-returns
 returns c =
     let a = c.before.before.before.before in
-    let f = not_true a.args.m.paging c.before.before.if1.true in
+    let f = not-true a.args.m.paging c.before.before.if1.true in
     let s = call-short a.args.m.call (call-right a.args.m (right a.args.m a.requires) f) in
     (omega (arith, c.size.ensures, head-call a.args.m f), omega (arith, c.size.ensures, s))
 

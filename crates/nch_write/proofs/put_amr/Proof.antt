@@ -1,5 +1,5 @@
 -- `nch_write::put_amr` meets its contract. Assumes nothing.
-use borrow.Author.Tests.{not_true, not-false}
+use borrow.Author.Tests.{not-true, not-false}
 use Rattle.csn1.specs.Format.{num, opt}
 use Rattle.csn1.specs.Grammar.{format}
 use Rattle.csn1.specs.Told.{there}
@@ -19,7 +19,7 @@ returns : tie.Need-returns
 returns c =
     let a = c.before.before.before.args in
     let f = c.put.ensures in
-    (inks_no (format amr) a.r.hasAmr (amr_value a.r) (not_true a.r.hasAmr c.before.if1.true) f, omega (arith, f.next, length-num_bits 1 0))
+    (inks_no (format amr) a.r.hasAmr (amr_value a.r) (not-true a.r.hasAmr c.before.if1.true) f, omega (arith, f.next, length-num_bits 1 0))
 
 put-requires-2 : tie.Need-put-requires-2
 put-requires-2 c κs = search rules

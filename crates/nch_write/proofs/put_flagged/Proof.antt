@@ -3,7 +3,7 @@ use mathlib.Core.Path.{ap}
 use Prim.Native.Nat.{ℕ, suc, ◌+◌, ◌^◌}
 use native.Mathlib.Nat.{pow-suc}
 use lib.Pow.{pow-add, pow_mono}
-use borrow.Author.Tests.{not_true, not-false}
+use borrow.Author.Tests.{not-true, not-false}
 use Rattle.bits.proofs.Octets.{one_shl}
 use Rattle.csn1.specs.Format.{num, num_bits}
 use Rattle.csn1.proofs.Holding.{length-num_bits}
@@ -20,7 +20,7 @@ returns : tie.Need-returns
 returns c =
     let a = c.before.before.args in
     let f = c.put.ensures in
-    (inks_no (num a.width) a.here a.v (not_true a.here c.before.if1.true) f, omega (arith, f.next, length-num_bits 1 0))
+    (inks_no (num a.width) a.here a.v (not-true a.here c.before.if1.true) f, omega (arith, f.next, length-num_bits 1 0))
 
 add-put : tie.Need-overflow-add-put
 add-put c = search rules

@@ -1,6 +1,6 @@
 -- `nch_write::put_release6` meets its contract. Assumes nothing.
 use Prim.Native.Nat.{◌+◌, ◌≤◌}
-use borrow.Author.Tests.{not_true, not-false}
+use borrow.Author.Tests.{not-true, not-false}
 use Rattle.csn1.specs.Format.{num, opt, ◌⨟◌, list}
 use Rattle.csn1.specs.Grammar.{format}
 use Rattle.csn1.proofs.Flags.{flag_limit}
@@ -40,7 +40,7 @@ returns : tie.Need-returns
 returns c =
     let w = c.put_low.ensures in
     let a = c.before.before.before.args in
-    (inks-low (format release6) a.r.hasRelease (release6_value a.r) (not_true a.r.hasRelease c.before.if1.true) w.0, omega (arith, w.1))
+    (inks-low (format release6) a.r.hasRelease (release6_value a.r) (not-true a.r.hasRelease c.before.if1.true) w.0, omega (arith, w.1))
 
 put-high-requires : tie.Need-put-high-requires
 put-high-requires c κs = omega arith

@@ -1,7 +1,7 @@
 -- `nch_write::put_release7` meets its contract. Assumes nothing.
 use mathlib.Core.Path.{ap}
 use Prim.Native.Nat.{ℕ, ◌≤◌}
-use borrow.Author.Tests.{not_true, not-false}
+use borrow.Author.Tests.{not-true, not-false}
 use Rattle.csn1.specs.Format.{num, opt, ◌⨟◌, list}
 use Rattle.csn1.specs.Grammar.{format}
 use Rattle.csn1.specs.Told.{there}
@@ -43,7 +43,7 @@ put-low-requires c κs = omega arith
 returns : tie.Need-returns
 returns c =
     let a = c.before.before.before.args in
-    inks-low (format release7) a.r.hasRelease (release7_value a.r) (not_true a.r.hasRelease c.before.if1.true) c.put_low.ensures.0
+    inks-low (format release7) a.r.hasRelease (release7_value a.r) (not-true a.r.hasRelease c.before.if1.true) c.put_low.ensures.0
 
 put-high-requires : tie.Need-put-high-requires
 put-high-requires c κs = omega arith

@@ -1,7 +1,7 @@
 -- `nch_write::put_sms` meets its contract. Assumes nothing.
 use mathlib.Core.Path.{ap₂}
 use Prim.Native.Nat.{ℕ, ◌+◌, ◌*◌}
-use borrow.Author.Tests.{not_true, not-false}
+use borrow.Author.Tests.{not-true, not-false}
 use Rattle.csn1.specs.Format.{num, ◌⨟◌}
 use Rattle.csn1.specs.Told.{as_bit}
 use Rattle.csn1.proofs.Writing.{flag_lt}
@@ -17,7 +17,7 @@ put-requires c κs = search rules
 returns : tie.Need-returns
 returns c =
     let a = c.before.before.args in
-    inks_no (num 1 ⨟ num 1) a.here (as_bit a.confidential, as_bit a.private) (not_true a.here c.before.if1.true) c.put.ensures
+    inks_no (num 1 ⨟ num 1) a.here (as_bit a.confidential, as_bit a.private) (not-true a.here c.before.if1.true) c.put.ensures
 
 bit-of-requires : tie.Need-bit-of-requires
 bit-of-requires c κs = search rules

@@ -1,7 +1,7 @@
 -- `pch::flags_right` meets its contract. Assumes nothing.
 use mathlib.Core.Path.{◌≡◌, sym, ◌∙◌}
 use mathlib.Core.Bool.{true}
-use borrow.Author.Tests.{not_true, not-false}
+use borrow.Author.Tests.{not-true, not-false}
 use borrow.Author.Rules.{rules}
 use Rattle.pch.specs.Entry.{ciphered_at, full_at, described_at, given_at, counted_at, is_flag, flags_right}
 use Rattle.pch.proofs.flags_right.Statement.{statement}
@@ -28,14 +28,14 @@ is-flag-requires c κs = search rules
 
 returns : tie.Need-returns
 unfolding flags_right
-returns c = rw (sym c.before.is-flag.ensures ∙ not_true c.before.is-flag.result c.if1.true)
+returns c = rw (sym c.before.is-flag.ensures ∙ not-true c.before.is-flag.result c.if1.true)
 
 is-flag-requires-2 : tie.Need-is-flag-requires-2
 is-flag-requires-2 c κs = search rules
 
 returns-2 : tie.Need-returns-2
 unfolding flags_right
-returns-2 c = rw (ciphered c.before.before, sym c.before.is-flag2.ensures ∙ not_true c.before.is-flag2.result c.if2.true)
+returns-2 c = rw (ciphered c.before.before, sym c.before.is-flag2.ensures ∙ not-true c.before.is-flag2.result c.if2.true)
 
 is-flag-requires-3 : tie.Need-is-flag-requires-3
 is-flag-requires-3 c κs = search rules
@@ -45,7 +45,7 @@ unfolding flags_right
 returns-3 c = rw (
   ciphered c.before.before.before.before,
   full c.before.before,
-  sym c.before.is-flag3.ensures ∙ not_true c.before.is-flag3.result
+  sym c.before.is-flag3.ensures ∙ not-true c.before.is-flag3.result
       c.if3.true,
 )
 
@@ -59,7 +59,7 @@ returns-4 c = rw (
   full c.before.before.before.before,
   described c.before.before,
   sym
-      c.before.is-flag4.ensures ∙ not_true c.before.is-flag4.result c.if4.true,
+      c.before.is-flag4.ensures ∙ not-true c.before.is-flag4.result c.if4.true,
 )
 
 is-flag-requires-5 : tie.Need-is-flag-requires-5
@@ -73,7 +73,7 @@ returns-5 c = rw (
   described
       c.before.before.before.before,
   given c.before.before,
-  sym c.before.is-flag5.ensures ∙ not_true c.before.is-flag5.result c.if5.true,
+  sym c.before.is-flag5.ensures ∙ not-true c.before.is-flag5.result c.if5.true,
 )
 
 hopping-flags-right-requires : tie.Need-hopping-flags-right-requires

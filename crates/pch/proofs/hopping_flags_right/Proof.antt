@@ -1,7 +1,7 @@
 -- `pch::hopping_flags_right` meets its contract. Assumes nothing.
 use mathlib.Core.Path.{◌≡◌, sym, ◌∙◌}
 use mathlib.Core.Bool.{true}
-use borrow.Author.Tests.{not_true, not-false}
+use borrow.Author.Tests.{not-true, not-false}
 use borrow.Author.Rules.{rules}
 use Rattle.pch.specs.Entry.{described_at, hopping_at, is_set, is_flag}
 use Rattle.pch.proofs.hopping_flags_right.Statement.{statement}
@@ -21,7 +21,7 @@ is-flag-requires : tie.Need-is-flag-requires
 is-flag-requires c κs = search rules
 
 returns : tie.Need-returns
-returns c = rw (described c.before.before, sym c.before.is-flag.ensures ∙ not_true c.before.is-flag.result c.if2.true)
+returns c = rw (described c.before.before, sym c.before.is-flag.ensures ∙ not-true c.before.is-flag.result c.if2.true)
 
 is-set-requires-2 : tie.Need-is-set-requires-2
 is-set-requires-2 c κs = search rules

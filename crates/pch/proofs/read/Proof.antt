@@ -4,7 +4,7 @@ use mathlib.Core.Bool.{true}
 use Prim.Native.Nat.{◌≤◌}
 use lib.ListN.{length, get_or}
 use lib.Dec.{eqb}
-use borrow.Author.Tests.{not_true, not-false, lt-leb, le-leb, eq-eqb, ne_eqb}
+use borrow.Author.Tests.{not-true, not-false, lt-leb, le-leb, eq-eqb, ne_eqb}
 use native.Mathlib.Omega.{arith}
 use borrow.Author.Rules.{rules}
 use Rattle.csn1.specs.declared.Refusal.{Refusal}
@@ -75,7 +75,7 @@ unfolding read_of ground_in ground
 returns-3 c = rw (
   long c.before.before.before.before.before,
   low c.before.before.before,
-  sym c.before.before.length-right.ensures ∙ not_true
+  sym c.before.before.length-right.ensures ∙ not-true
       c.before.before.length-right.result c.before.if3.true,
 ) c.refused3.ensures
 
@@ -91,7 +91,7 @@ returns-4 c = rw (
   long c.before.before.before.before.before.before.before,
   low c.before.before.before.before.before,
   lengths c.before.before.before,
-  sym c.before.before.hops-right.ensures ∙ not_true c.before.before.hops-right.result c.before.if4.true,
+  sym c.before.before.hops-right.ensures ∙ not-true c.before.before.hops-right.result c.before.if4.true,
 ) c.refused4.ensures
 
 sound-requires : tie.Need-sound-requires
@@ -111,7 +111,7 @@ returns-5 c =
       hopping c.before.before.before,
       unsound
           c.before.before.before.before.before.before.before.before.before.before.before.args.numbers.now
-          (sym c.before.before.sound.ensures ∙ not_true c.before.before.sound.result c.before.if5.true),
+          (sym c.before.before.sound.ensures ∙ not-true c.before.before.sound.result c.before.if5.true),
     )
     c.refused5.ensures
 
@@ -135,7 +135,7 @@ returns-6 c =
       lengths c.before.before.before.before.before.before.before.before,
       hopping
           c.before.before.before.before.before.before,
-      range c.before.before ∙ not_true c.before.before.in-range.result c.before.if6.true,
+      range c.before.before ∙ not-true c.before.before.in-range.result c.before.if6.true,
     )
     c.refused6.ensures
 

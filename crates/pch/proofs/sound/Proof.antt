@@ -1,7 +1,7 @@
 -- `pch::sound` meets its contract. Assumes nothing.
 use mathlib.Core.Path.{◌≡◌, sym, ◌∙◌}
 use mathlib.Core.Bool.{true}
-use borrow.Author.Tests.{not_true, not-false}
+use borrow.Author.Tests.{not-true, not-false}
 use borrow.Author.Rules.{rules}
 use Rattle.pch.specs.Entry.{flags_right, reference_right, numbers_right}
 use Rattle.pch.proofs.sound.Statement.{statement}
@@ -21,13 +21,13 @@ flags-right-requires : tie.Need-flags-right-requires
 flags-right-requires c κs = search rules
 
 returns : tie.Need-returns
-returns c = rw (sym c.before.flags-right.ensures ∙ not_true c.before.flags-right.result c.if1.true)
+returns c = rw (sym c.before.flags-right.ensures ∙ not-true c.before.flags-right.result c.if1.true)
 
 reference-right-requires : tie.Need-reference-right-requires
 reference-right-requires c κs = search rules
 
 returns-2 : tie.Need-returns-2
-returns-2 c = rw (flags c.before.before, sym c.before.reference-right.ensures ∙ not_true c.before.reference-right.result c.if2.true)
+returns-2 c = rw (flags c.before.before, sym c.before.reference-right.ensures ∙ not-true c.before.reference-right.result c.if2.true)
 
 numbers-right-requires : tie.Need-numbers-right-requires
 numbers-right-requires c κs = search rules
@@ -36,7 +36,7 @@ returns-3 : tie.Need-returns-3
 returns-3 c = rw (
   flags c.before.before.before.before,
   reference c.before.before,
-  sym c.before.numbers-right.ensures ∙ not_true
+  sym c.before.numbers-right.ensures ∙ not-true
       c.before.numbers-right.result c.if3.true,
 )
 

@@ -1,5 +1,5 @@
 -- `call::writer::frequencies_in_range` meets its contract. Assumes nothing.
-use borrow.Author.Tests.{not_true, not-false, lt-ltb, eq-eqb, ne_eqb}
+use borrow.Author.Tests.{not-true, not-false, lt-ltb, eq-eqb, ne_eqb}
 use Prim.Native.Nat.{◌*◌}
 use Rattle.bits.proofs.Answers.{none_above}
 use Rattle.call.proofs.Laws.{long-list}
@@ -9,13 +9,13 @@ use Rattle.call.proofs.writer.frequencies_in_range.Statement.{statement}
 use Rattle.call.proofs.writer.frequencies_in_range.Tie as tie
 
 returns : tie.Need-returns
-returns c = let a = c.before.before.args in rw (not_true a.hopping c.before.if1.true, c.if2.true)
+returns c = let a = c.before.before.args in rw (not-true a.hopping c.before.if1.true, c.if2.true)
 
 returns-2 : tie.Need-returns-2
-returns-2 c = let a = c.before.before.before.args in rw (not_true a.hopping c.before.before.if1.true, c.before.if2.false, ne_eqb a.length 0 c.if3.true)
+returns-2 c = let a = c.before.before.before.args in rw (not-true a.hopping c.before.before.if1.true, c.before.if2.false, ne_eqb a.length 0 c.if3.true)
 
 returns-3 : tie.Need-returns-3
-returns-3 c = let a = c.before.before.before.args in rw (not_true a.hopping c.before.before.if1.true, c.before.if2.false, eq-eqb a.length 0 c.if3.false)
+returns-3 c = let a = c.before.before.before.args in rw (not-true a.hopping c.before.before.if1.true, c.before.if2.false, eq-eqb a.length 0 c.if3.false)
 
 returns-4 : tie.Need-returns-4
 returns-4 c = let a = c.before.before.args in rw (not-false a.hopping c.before.if1.false, c.if4.true, lt-ltb a.frequencies 18446744073709551616 (omega arith))

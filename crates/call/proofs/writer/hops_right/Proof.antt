@@ -1,12 +1,12 @@
 -- `call::writer::hops_right` meets its contract. Assumes nothing.
-use borrow.Author.Tests.{not_true, not-false}
+use borrow.Author.Tests.{not-true, not-false}
 use Rattle.call.specs.Write.{call_hops_right}
 use Rattle.call.proofs.writer.hops_right.Statement.{statement}
 use Rattle.call.proofs.writer.hops_right.Tie as tie
 
 returns : tie.Need-returns
 unfolding call_hops_right
-returns c = let a = c.before.before.args.c in rw (not_true a.hasDescription c.if1.true)
+returns c = let a = c.before.before.args.c in rw (not-true a.hasDescription c.if1.true)
 
 returns-2 : tie.Need-returns-2
 unfolding call_hops_right

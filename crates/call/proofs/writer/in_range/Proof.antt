@@ -1,5 +1,5 @@
 -- `call::writer::in_range` meets its contract. Assumes nothing.
-use borrow.Author.Tests.{not_true, not-false, lt-ltb, le-ltb}
+use borrow.Author.Tests.{not-true, not-false, lt-ltb, le-ltb}
 use native.Mathlib.Omega.{arith}
 use borrow.Author.Rules.{rules}
 use Rattle.call.specs.Write.{call_in_range}
@@ -23,7 +23,7 @@ description-is-zero-requires c κs = search rules
 
 returns-4 : tie.Need-returns-4
 unfolding call_in_range
-returns-4 c = let a = c.before.before.before.before.before.before.before.before.before.before.args.c in rw (lt-ltb a.reference 134217728 (omega arith), lt-ltb a.priority 8 (omega arith), lt-ltb a.cipher 16 (omega arith), not_true a.hasDescription c.before.if4.true) c.description-is-zero.ensures
+returns-4 c = let a = c.before.before.before.before.before.before.before.before.before.before.args.c in rw (lt-ltb a.reference 134217728 (omega arith), lt-ltb a.priority 8 (omega arith), lt-ltb a.cipher 16 (omega arith), not-true a.hasDescription c.before.if4.true) c.description-is-zero.ensures
 
 returns-5 : tie.Need-returns-5
 unfolding call_in_range

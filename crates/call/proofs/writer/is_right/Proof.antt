@@ -1,6 +1,6 @@
 -- `call::writer::is_right` meets its contract. Assumes nothing.
 use mathlib.Core.Path.{sym, ◌∙◌}
-use borrow.Author.Tests.{not_true, not-false}
+use borrow.Author.Tests.{not-true, not-false}
 use borrow.Author.Rules.{rules}
 use Rattle.call.proofs.writer.is_right.Statement.{statement}
 use Rattle.call.proofs.writer.is_right.Tie as tie
@@ -9,19 +9,19 @@ in-range-requires : tie.Need-in-range-requires
 in-range-requires c κs = search rules
 
 returns : tie.Need-returns
-returns c = rw (sym c.before.in-range.ensures ∙ not_true c.before.in-range.result c.if1.true)
+returns c = rw (sym c.before.in-range.ensures ∙ not-true c.before.in-range.result c.if1.true)
 
 is-low-requires : tie.Need-is-low-requires
 is-low-requires c κs = search rules
 
 returns-2 : tie.Need-returns-2
-returns-2 c = rw (sym c.before.before.before.in-range.ensures ∙ not-false c.before.before.before.in-range.result c.before.before.if1.false, sym c.before.is-low.ensures ∙ not_true c.before.is-low.result c.if2.true)
+returns-2 c = rw (sym c.before.before.before.in-range.ensures ∙ not-false c.before.before.before.in-range.result c.before.before.if1.false, sym c.before.is-low.ensures ∙ not-true c.before.is-low.result c.if2.true)
 
 length-right-requires : tie.Need-length-right-requires
 length-right-requires c κs = search rules
 
 returns-3 : tie.Need-returns-3
-returns-3 c = rw (sym c.before.before.before.before.before.in-range.ensures ∙ not-false c.before.before.before.before.before.in-range.result c.before.before.before.before.if1.false, sym c.before.before.before.is-low.ensures ∙ not-false c.before.before.before.is-low.result c.before.before.if2.false, sym c.before.length-right.ensures ∙ not_true c.before.length-right.result c.if3.true)
+returns-3 c = rw (sym c.before.before.before.before.before.in-range.ensures ∙ not-false c.before.before.before.before.before.in-range.result c.before.before.before.before.if1.false, sym c.before.before.before.is-low.ensures ∙ not-false c.before.before.before.is-low.result c.before.before.if2.false, sym c.before.length-right.ensures ∙ not-true c.before.length-right.result c.if3.true)
 
 hops-right-requires : tie.Need-hops-right-requires
 hops-right-requires c κs = search rules

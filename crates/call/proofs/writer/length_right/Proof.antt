@@ -1,16 +1,16 @@
 -- `call::writer::length_right` meets its contract. Assumes nothing.
-use borrow.Author.Tests.{not_true, not-false, le-leb, lt-leb}
+use borrow.Author.Tests.{not-true, not-false, le-leb, lt-leb}
 use Rattle.call.specs.Write.{call_length_right}
 use Rattle.call.proofs.writer.length_right.Statement.{statement}
 use Rattle.call.proofs.writer.length_right.Tie as tie
 
 returns : tie.Need-returns
 unfolding call_length_right
-returns c = let a = c.before.before.args.c in rw (not_true a.hasDescription c.if1.true)
+returns c = let a = c.before.before.args.c in rw (not-true a.hasDescription c.if1.true)
 
 returns-2 : tie.Need-returns-2
 unfolding call_length_right
-returns-2 c = let a = c.before.before.before.before.args.c in rw (not-false a.hasDescription c.before.before.if1.false, not_true a.description.hopping c.if2.true)
+returns-2 c = let a = c.before.before.before.before.args.c in rw (not-false a.hasDescription c.before.before.if1.false, not-true a.description.hopping c.if2.true)
 
 returns-3 : tie.Need-returns-3
 unfolding call_length_right

@@ -2,7 +2,7 @@
 use Rattle.std.proofs.Common.{◌-◌, length, sym, ◌∙◌, arith, length-drop, length-take, rules}
 use Rattle.capture.proofs.mending.feed.Statement.{statement}
 use Rattle.capture.proofs.mending.feed.Tie as tie
-use borrow.Author.Tests.{not_true, not-false}
+use borrow.Author.Tests.{not-true, not-false}
 use Rattle.capture.specs.Mending.{mending_of, mended_by}
 use Rattle.capture.proofs.Answering.{part-all}
 use Rattle.capture.proofs.Mendings.{lines, MendGoing, mend_not_kept, mend_not_lent, mend_first, mend_all, mend_full, mend_over, mend_next}
@@ -168,7 +168,7 @@ returns-4 c =
     let l = c3.loop in
     mend_full a.m a.kept.now a.state.now a.piece.now a.copy.now a.copied a.list.now a.listed c5.if1.false c4.if2.false
     l.auto l.state l.copy l.list l.held l.end l.left l.i l.invariant
-    (sym c1.have-room.ensures ∙ not_true _ c.if3.true)
+    (sym c1.have-room.ensures ∙ not-true _ c.if3.true)
 
 same-length-9 : tie.Need-same-length-9 invariant-loop decreases-loop
 same-length-9 c =

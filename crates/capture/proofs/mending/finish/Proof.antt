@@ -2,7 +2,7 @@
 use Rattle.std.proofs.Common.{[], sym, ◌∙◌, rules, leb-true}
 use Rattle.capture.proofs.mending.finish.Statement.{statement}
 use Rattle.capture.proofs.mending.finish.Tie as tie
-use borrow.Author.Tests.{not_true, not-false}
+use borrow.Author.Tests.{not-true, not-false}
 use Rattle.capture.specs.Mending.{mending_of}
 use Rattle.capture.proofs.Stepping.{not_begun, over_none, begun-torn}
 use Rattle.capture.proofs.Mendings.{mend_ended-full, mend_ended-none, mend_ended-torn}
@@ -15,7 +15,7 @@ returns c =
     let c1 = c.before in
     let c3 = c1.before.before in
     let a = c3.args in
-    mend_ended-full (mending_of a.m [] []) a.list.now a.listed (sym c1.has_room.ensures ∙ not_true _ c.if1.true)
+    mend_ended-full (mending_of a.m [] []) a.list.now a.listed (sym c1.has_room.ensures ∙ not-true _ c.if1.true)
 
 is-over-requires : tie.Need-is-over-requires
 is-over-requires c κs = search rules

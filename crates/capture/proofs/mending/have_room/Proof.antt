@@ -2,7 +2,7 @@
 use Rattle.std.proofs.Common.{sym, ◌∙◌, rules}
 use Rattle.capture.proofs.mending.have_room.Statement.{statement}
 use Rattle.capture.proofs.mending.have_room.Tie as tie
-use borrow.Author.Tests.{not_true, not-false}
+use borrow.Author.Tests.{not-true, not-false}
 use Rattle.capture.proofs.Mendings.{both_first, both-then}
 
 has-room-requires : tie.Need-has-room-requires
@@ -11,7 +11,7 @@ has-room-requires c κs = search rules
 returns : tie.Need-returns
 returns c =
     let c1 = c.before in
-    both_first _ _ (sym c1.has_room.ensures ∙ not_true _ c.if1.true)
+    both_first _ _ (sym c1.has_room.ensures ∙ not-true _ c.if1.true)
 
 has-room-requires-2 : tie.Need-has-room-requires-2
 has-room-requires-2 c κs = search rules

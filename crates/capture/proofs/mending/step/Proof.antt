@@ -2,7 +2,7 @@
 use Rattle.std.proofs.Common.{◌+◌, leb, length, sym, ◌∙◌, arith, length-take-le, rules, leb-true}
 use Rattle.capture.proofs.mending.step.Statement.{statement}
 use Rattle.capture.proofs.mending.step.Tie as tie
-use borrow.Author.Tests.{not_true, not-false}
+use borrow.Author.Tests.{not-true, not-false}
 use Rattle.capture.specs.Mending.{most_copied, most_listed}
 use Rattle.capture.proofs.Stepping.{kept-part, whole-head, kept-length}
 use Rattle.capture.proofs.Mendings.{second-of, kept-take, mend_more, mend_whole}
@@ -20,7 +20,7 @@ returns c =
     let a = c12.args in
     let p = c12.requires in
     mend_more a.m a.kept.now a.state.now a.piece.now a.copy.now a.copied a.list.now a.listed p.1.1.1.0 p.1.1.0 p.1.1.1.1 _ _ _ _
-    c4.gather.ensures (not_true _ c.if1.true)
+    c4.gather.ensures (not-true _ c.if1.true)
 
 slice-read-tag : tie.Need-slice-read-tag
 slice-read-tag c = search rules

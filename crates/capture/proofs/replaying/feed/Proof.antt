@@ -2,7 +2,7 @@
 use Rattle.std.proofs.Common.{◌+◌, ◌-◌, ◌≤◌, length, sym, ◌∙◌, arith, length-drop, length-take, rules, leb-true}
 use Rattle.capture.proofs.replaying.feed.Statement.{statement}
 use Rattle.capture.proofs.replaying.feed.Tie as tie
-use borrow.Author.Tests.{not_true, not-false}
+use borrow.Author.Tests.{not-true, not-false}
 use Rattle.text.proofs.Lines.{line}
 use Rattle.capture.proofs.Answering.{part-all}
 use Rattle.capture.proofs.Stepping.{Going, not_kept, not_lent, going-first, fed-all, fed-full, fed-over, fed-next}
@@ -150,7 +150,7 @@ returns-4 c =
     let a = c10.args in
     let l = c3.loop in
     fed-full a.r a.kept.now a.state.now a.out.now a.piece.now a.at l.auto l.state l.out l.held l.end l.i c5.if1.false c4.if2.false l.invariant
-    (sym c1.has_room.ensures ∙ not_true _ c.if3.true)
+    (sym c1.has_room.ensures ∙ not-true _ c.if3.true)
 
 same-length-7 : tie.Need-same-length-7 invariant-loop decreases-loop
 same-length-7 c =

@@ -2,7 +2,7 @@
 use Rattle.std.proofs.Common.{◌+◌, ◌≤◌, [], length, sym, ◌∙◌, arith, rules, leb-true}
 use Rattle.capture.proofs.replaying.finish.Statement.{statement}
 use Rattle.capture.proofs.replaying.finish.Tie as tie
-use borrow.Author.Tests.{not_true, not-false}
+use borrow.Author.Tests.{not-true, not-false}
 use Rattle.capture.specs.Machine.{most_text, machine_of}
 use Rattle.capture.proofs.Stepping.{ended_full, ended_none, ended_torn, not_begun, over_none, begun-torn}
 
@@ -14,7 +14,7 @@ returns c =
     let c1 = c.before in
     let c4 = c1.before.before.before in
     let a = c4.args in
-    ended_full (machine_of a.r a.kept.now []) a.out.now a.at (sym c1.has_room.ensures ∙ not_true _ c.if1.true)
+    ended_full (machine_of a.r a.kept.now []) a.out.now a.at (sym c1.has_room.ensures ∙ not-true _ c.if1.true)
 
 is-over-requires : tie.Need-is-over-requires
 is-over-requires c κs = search rules

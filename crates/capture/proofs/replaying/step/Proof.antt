@@ -2,7 +2,7 @@
 use Rattle.std.proofs.Common.{◌∙◌, arith, rules}
 use Rattle.capture.proofs.replaying.step.Statement.{statement}
 use Rattle.capture.proofs.replaying.step.Tie as tie
-use borrow.Author.Tests.{not_true, not-false}
+use borrow.Author.Tests.{not-true, not-false}
 use Rattle.capture.proofs.Stepping.{kept-part, step-more, step-whole}
 use Rattle.capture.proofs.Stepping.{whole-head, kept-length}
 
@@ -18,7 +18,7 @@ returns c =
     let c10 = c4.before.before.before.before.before.before in
     let a = c10.args in
     let p = c10.requires in
-    step-more a.r a.kept.now a.state.now a.piece.now a.out.now a.at p.1.1.1.0 p.1.1.0 p.1.1.1.1 _ _ _ _ c4.gather.ensures (not_true _ c.if1.true)
+    step-more a.r a.kept.now a.state.now a.piece.now a.out.now a.at p.1.1.1.0 p.1.1.0 p.1.1.1.1 _ _ _ _ c4.gather.ensures (not-true _ c.if1.true)
 
 slice-read-tag : tie.Need-slice-read-tag
 slice-read-tag c = search rules

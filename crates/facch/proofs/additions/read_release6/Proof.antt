@@ -1,6 +1,6 @@
 -- `facch::additions::read_release6` meets its contract. Assumes nothing.
 use mathlib.Core.Path.{sym, ap, ap₂, ◌∙◌}
-use borrow.Author.Tests.{not_true, not-false}
+use borrow.Author.Tests.{not-true, not-false}
 use Rattle.csn1.specs.declared.Refusal.{Refusal}
 use Rattle.csn1.specs.Format.{bad, release}
 use Rattle.csn1.specs.Grammar.{format}
@@ -50,7 +50,7 @@ returns-3 c =
     let a = c.before.before.before.before.before.before.before.before.before.args in
     let h = c.before.before.before.before.before.before.read-lead in
     ap₂ (λ (r : Refusal) (x : Release6). record { refusal = r; release = x; at = h.result.at }) c.before.no-refusal.ensures c.no-release6.ensures
-    ∙ sym (ap release6_at_of (read_at (release (format release6)) a.s.now a.at (omega arith) ∙ release-absent (format release6) a.s.now a.at (omega arith) h.result h.ensures c.before.before.before.before.if2.false (not_true _ c.before.before.if3.true)))
+    ∙ sym (ap release6_at_of (read_at (release (format release6)) a.s.now a.at (omega arith) ∙ release-absent (format release6) a.s.now a.at (omega arith) h.result h.ensures c.before.before.before.before.if2.false (not-true _ c.before.before.if3.true)))
 
 read-parts6-requires : tie.Need-read-parts6-requires
 read-parts6-requires c κs = search rules

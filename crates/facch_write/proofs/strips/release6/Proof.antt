@@ -1,5 +1,5 @@
 -- `facch_write::strips::release6` meets its contract. Assumes nothing.
-use borrow.Author.Tests.{not_true, not-false}
+use borrow.Author.Tests.{not-true, not-false}
 use Rattle.csn1.specs.Grammar.{format}
 use Rattle.csn1.proofs.Writing.{byte_lt}
 use Rattle.facch.specs.Message.{release6}
@@ -17,7 +17,7 @@ returns : tie.Need-returns
 returns c =
     let a = c.before.before.before.args in
     rw c.absent.ensures
-    (says-absent (format release6) a.at a.end a.r.hasRelease (release6_value a.r) (not_true a.r.hasRelease c.before.if1.true))
+    (says-absent (format release6) a.at a.end a.r.hasRelease (release6_value a.r) (not-true a.r.hasRelease c.before.if1.true))
 
 cast-flagged : tie.Need-overflow-cast-flagged
 cast-flagged c = omega arith

@@ -3,7 +3,7 @@ use native.Mathlib.Omega.{arith}
 use mathlib.Core.Path.{◌≡◌, sym, ap, ◌∙◌}
 use lib.ListN.{length, drop, length-map}
 use lib.Seq.{length-take-le}
-use borrow.Author.Tests.{not_true, not-false}
+use borrow.Author.Tests.{not-true, not-false}
 use Rattle.gcc.specs.Octet.{all_between}
 use Rattle.gcc.specs.Cause.{right}
 use Rattle.gcc.proofs.Lists.{rest_all}
@@ -33,7 +33,7 @@ all-within-requires c κs = search rules
 
 returns : tie.Need-returns
 unfolding right
-returns c = rw (← c.before.all-within.ensures, not_true c.before.all-within.result c.if1.true)
+returns c = rw (← c.before.all-within.ensures, not-true c.before.all-within.result c.if1.true)
 
 sub-all-within : tie.Need-overflow-sub-all-within
 sub-all-within c = search rules
@@ -53,7 +53,7 @@ returns-2 c =
     let a = c.before.before.before.before.before.before.before.before.before.args.cause in
     let e : c.before.all-within2.result ≡ all_between 0 0 (drop a.count a.septets) =
     c.before.all-within2.ensures ∙ ap (all_between 0 0) (rest_all a.count 255 a.septets (septets-long c.before.before.before.before.before.before.before.before.before)) in
-    rw (← c.before.before.before.before.before.all-within.ensures, not-false c.before.before.before.before.before.all-within.result c.before.before.before.before.if1.false, ← e, not_true c.before.all-within2.result c.if2.true)
+    rw (← c.before.before.before.before.before.all-within.ensures, not-false c.before.before.before.before.before.all-within.result c.before.before.before.before.if1.false, ← e, not-true c.before.all-within2.result c.if2.true)
 
 cast-size : tie.Need-overflow-cast-size
 cast-size c = search rules

@@ -4,7 +4,7 @@ use mathlib.Core.Path.{◌≡◌, sym, ◌∙◌}
 use mathlib.Core.Bool.{true}
 use Prim.Native.Nat.{◌+◌}
 use lib.ListN.{length}
-use borrow.Author.Tests.{eq-eqb, ne_eqb, le-leb, lt-leb, not_true, not-false}
+use borrow.Author.Tests.{eq-eqb, ne_eqb, le-leb, lt-leb, not-true, not-false}
 use Rattle.gcc.specs.Octet.{all_between}
 use Rattle.gcc.specs.Cause.{parts_of, right, write_number, write_to}
 use Rattle.bits.proofs.Answers.{both_true}
@@ -44,7 +44,7 @@ unfolding write_number write_to
 returns-3 c =
     let a = c.before.before.before.before.before.before.before.args in
     let e : 12 ≡ write_number a.cause (length a.octets.now) =
-    rw (le-leb 1 a.cause.count (omega arith), le-leb (a.cause.count + a.cause.size) 255 c.before.before.if2.false, ← c.before.is_right.ensures, not_true c.before.is_right.result c.if3.true) in
+    rw (le-leb 1 a.cause.count (omega arith), le-leb (a.cause.count + a.cause.size) 255 c.before.before.if2.false, ← c.before.is_right.ensures, not-true c.before.is_right.result c.if3.true) in
     (e, rw (← e))
 
 add-if4 : tie.Need-overflow-add-if4

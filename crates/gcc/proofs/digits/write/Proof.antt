@@ -3,7 +3,7 @@ use native.Mathlib.Omega.{arith}
 use mathlib.Core.Path.{◌≡◌, sym, ◌∙◌}
 use mathlib.Core.Bool.{true}
 use lib.ListN.{length}
-use borrow.Author.Tests.{eq-eqb, ne_eqb, not_true, not-false}
+use borrow.Author.Tests.{eq-eqb, ne_eqb, not-true, not-false}
 use Rattle.gcc.specs.Octet.{all_between}
 use Rattle.gcc.specs.Digits.{write_number, write_to}
 use Rattle.gcc.proofs.Lists.{within-each}
@@ -26,7 +26,7 @@ unfolding write_number write_to
 returns-2 c =
     let a = c.before.before.before.before.before.args in
     let e : 12 ≡ write_number a.digits.now (length a.octets.now) =
-    rw (eq-eqb _ _ c.before.before.if1.false, ← c.before.all-within.ensures, not_true c.before.all-within.result c.if2.true) in
+    rw (eq-eqb _ _ c.before.before.if1.false, ← c.before.all-within.ensures, not-true c.before.all-within.result c.if2.true) in
     (e, rw (← e))
 
 returns-3 : tie.Need-returns-3

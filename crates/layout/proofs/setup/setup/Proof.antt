@@ -3,7 +3,7 @@ use mathlib.Core.Path.{sym, ◌∙◌}
 use Prim.Native.Nat.{◌<◌}
 use native.Mathlib.Omega.{arith}
 use borrow.Author.Rules.{rules}
-use borrow.Author.Tests.{not_true, not-false}
+use borrow.Author.Tests.{not-true, not-false}
 use Rattle.receiver.proofs.Keys.{right_keys}
 use Rattle.layout.proofs.Fresh.{decode_fresh}
 use Rattle.layout.proofs.Setting.{set_wrong, set_not_right, set-refused, set-accepted}
@@ -21,7 +21,7 @@ is-right-requires c κs = search rules
 returns-2 : tie.Need-returns-2
 returns-2 c =
     let a = c.before.before.before.before.before.before.args in
-    let wrong = sym c.before.is_right.ensures ∙ not_true _ c.if2.true in
+    let wrong = sym c.before.is_right.ensures ∙ not-true _ c.if2.true in
     set-refused a.b.now a.s a.keys.now a.sets.now 10 (set_not_right a.b.now a.s a.keys.now a.sets.now c.before.before.if1.false wrong) (λ e. omega (arith, e))
 
 fill-requires : tie.Need-fill-requires

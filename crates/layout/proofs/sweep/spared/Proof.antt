@@ -2,7 +2,7 @@
 use mathlib.Core.Path.{sym, ap, ◌∙◌}
 use mathlib.Core.Bool.{Bool, true}
 use lib.Dec.{eqb}
-use borrow.Author.Tests.{not_true, not-false}
+use borrow.Author.Tests.{not-true, not-false}
 use Rattle.bits.specs.Field.{pick}
 use Rattle.layout.proofs.Sweeps.{spares-on}
 use Rattle.layout.proofs.sweep.spared.Statement.{statement}
@@ -15,7 +15,7 @@ returns : tie.Need-returns
 returns c =
     let start = c.before.before in
     let a = start.args in
-    let t = sym c.before.flag-of.ensures ∙ not_true _ c.if1.true in
+    let t = sym c.before.flag-of.ensures ∙ not-true _ c.if1.true in
     sym (spares-on a.rule a.key a.ch start.requires ∙ ap (λ (b : Bool). pick b (eqb a.key a.rule.but) true) t)
 
 returns-2 : tie.Need-returns-2

@@ -3,7 +3,7 @@ use mathlib.Core.Path.{◌≡◌, refl, sym, ap, ◌∙◌}
 use mathlib.Core.Bool.{true, false}
 use mathlib.Core.Logic.{⊎_elim}
 use lib.Dec.{eqb}
-use borrow.Author.Tests.{not_true, not-false, eq-eqb, ne_eqb}
+use borrow.Author.Tests.{not-true, not-false, eq-eqb, ne_eqb}
 use borrow.Author.Rules.{rules}
 use Rattle.bits.specs.Field.{pick}
 use Rattle.receiver.specs.Model.{agree, joined_of}
@@ -69,7 +69,7 @@ returns-2 c =
     let h = c6.held_at in
     let g = c5.agrees in
     let v : agree h.result (record_at a.o.now 0) ≡ false =
-    ap (agree h.result) (sym c8.record-in.ensures) ∙ sym g.ensures ∙ not_true g.result c4.if2.true
+    ap (agree h.result) (sym c8.record-in.ensures) ∙ sym g.ensures ∙ not-true g.result c4.if2.true
     in
     left-apart a.b.now a.cell a.ch a.j a.i _ a.half (record_at a.o.now 0) p.0 p.1.1.0 c12.place-on.ensures q.1.0 _ q.1.1.1.1 _
     c10.half_at.ensures c9.if1.false _ h.ensures _ v c2.put-number2.ensures

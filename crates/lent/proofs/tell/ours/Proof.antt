@@ -5,7 +5,7 @@ use mathlib.Core.List.{List}
 use mathlib.Core.Logic.{⊎_elim}
 use Prim.Native.Nat.{ℕ}
 use native.Mathlib.Omega.{arith}
-use borrow.Author.Tests.{not_true, not-false}
+use borrow.Author.Tests.{not-true, not-false}
 use borrow.Author.Rules.{rules}
 use Rattle.bits.specs.Field.{pick}
 use Rattle.receiver.specs.Channels.{leads}
@@ -123,7 +123,7 @@ returns-4 c =
     let q = p.1.1.1 in
     left-early a.b.now a.cell a.ch a.tick a.j a.i (record_at a.o.now 0) p.0 p.1.1.0 _ _ q.1.1.0 q.1.1.1 _
     c10.place-on.ensures c12.if1.false c11.if2.false _ c8.half_at.ensures c7.if3.false _ c6.if4.true
-    (sym c5.leads.ensures ∙ not_true c5.leads.result c4.if5.true) c2.put-number2.ensures
+    (sym c5.leads.ensures ∙ not-true c5.leads.result c4.if5.true) c2.put-number2.ensures
 
 sub-lay : tie.Need-overflow-sub-lay
 sub-lay c = search rules

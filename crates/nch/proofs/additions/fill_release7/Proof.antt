@@ -1,7 +1,7 @@
 -- `nch::additions::fill_release7` meets its contract. Assumes nothing.
 use mathlib.Core.Path.{ap}
 use native.Mathlib.Omega.{arith}
-use borrow.Author.Tests.{not_true, not-false}
+use borrow.Author.Tests.{not-true, not-false}
 use Rattle.csn1.specs.declared.Refusal.{Refusal}
 use Rattle.csn1.specs.Grammar.{format}
 use Rattle.arrays.proofs.Zeroed.{release-left-bad, release-left-none, release-left-some}
@@ -35,7 +35,7 @@ returns-2 c =
     let a = b.args in
     let h = c.before.before.before.before.before.read-lead in
     release-left-none (format release7) release7_passed release7_run release7_at a.s.now a.at b.requires.0 h.result h.ensures c.before.before.before.if1.false
-    (not_true _ c.before.if2.true) _
+    (not-true _ c.before.if2.true) _
     (ap (λ (r : Refusal). record { refusal = r; count = 0; at = h.result.at }) c.no-refusal.ensures) release7_length no_numbers7 a.numbers.now b.requires.1.1
 
 fill-parts7-requires : tie.Need-fill-parts7-requires

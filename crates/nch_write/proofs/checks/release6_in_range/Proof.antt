@@ -1,6 +1,6 @@
 -- `nch_write::checks::release6_in_range` meets its contract. Assumes nothing.
 use native.Mathlib.Omega.{arith}
-use borrow.Author.Tests.{not_true, not-false, le-leb, lt-leb, eq-eqb, ne_eqb}
+use borrow.Author.Tests.{not-true, not-false, le-leb, lt-leb, eq-eqb, ne_eqb}
 use mathlib.Core.Path.{◌≡◌}
 use mathlib.Core.Bool.{true, false, not}
 use mathlib.Core.Logic.{⊎_elim}
@@ -23,14 +23,14 @@ few-randoms : (c : tie.Else2) → leb (release c).randomcount 9 ≡ true
 few-randoms c = le-leb (release c).randomcount 9 c.if2.false
 
 absent : (c : tie.Then3) → (release c.before.before).hasRelease ≡ false
-absent c = not_true (release c.before.before).hasRelease c.if3.true
+absent c = not-true (release c.before.before).hasRelease c.if3.true
 
 -- past the tests of an absent release
 empty : (c : tie.Joined3) → let r : Release6 = c.before.before.before.before.before.before.args.r in
     pick r.hasRelease true (both (not r.hasCount) (both (eqb r.reducedcount 0) (eqb r.randomcount 0))) ≡ true
 empty c =
     let r : Release6 = c.before.before.before.before.before.before.args.r in
-    ⊎_elim (λ w. rw (not_true r.hasRelease w.0.taken, w.1.left, eq-eqb r.reducedcount 0 w.3.left, eq-eqb r.randomcount 0 w.5.left))
+    ⊎_elim (λ w. rw (not-true r.hasRelease w.0.taken, w.1.left, eq-eqb r.reducedcount 0 w.3.left, eq-eqb r.randomcount 0 w.5.left))
     (λ w. rw (not-false r.hasRelease w.left)) c.if3.branch
 
 returns : tie.Need-returns

@@ -1,6 +1,6 @@
 -- `numbers::on_nch::write` meets its contract. Assumes nothing.
 use mathlib.Core.Path.{◌∙◌}
-use borrow.Author.Tests.{not_true, not-false}
+use borrow.Author.Tests.{not-true, not-false}
 use Rattle.arrays.proofs.Within.{within-rest}
 use Rattle.nch.specs.Places.{numbered_at}
 use Rattle.nch.specs.NotificationNumbers.{most}
@@ -33,7 +33,7 @@ returns-2 c =
     let c4 = c.before.before.before.before in
     let a = c4.before.before.before.args in
     write_wide a.numbers.now a.octets.now c4.if1.false
-    (within-rest numbered_at a.numbers.now most _ c.before.holds.ensures ∙ not_true _ c.if2.true)
+    (within-rest numbered_at a.numbers.now most _ c.before.holds.ensures ∙ not-true _ c.if2.true)
 
 record-from-requires : tie.Need-record-from-requires
 record-from-requires c κs = tt

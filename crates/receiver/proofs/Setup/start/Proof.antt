@@ -1,6 +1,6 @@
 -- `receiver::Setup::start` meets its contract. Assumes nothing.
 use mathlib.Core.Path.{sym, ◌∙◌}
-use borrow.Author.Tests.{not_true, not-false}
+use borrow.Author.Tests.{not-true, not-false}
 use Rattle.receiver.specs.Model.{started_of}
 use borrow.Author.Rules.{rules}
 use Rattle.receiver.proofs.Setup.start.Statement.{statement}
@@ -22,7 +22,7 @@ returns : tie.Need-returns
 unfolding started_of
 returns c =
     simp (
-      sym c.before.before.before.before.is_right.ensures ∙ not_true _ c.before.before.before.if1.true,
+      sym c.before.before.before.before.is_right.ensures ∙ not-true _ c.before.before.before.if1.true,
       c.before.before.ground.ensures,
       c.made.ensures,
       c.before.no-setup.ensures,

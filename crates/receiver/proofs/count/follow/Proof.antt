@@ -1,6 +1,6 @@
 -- `receiver::count::follow` meets its contract. Assumes nothing.
 use mathlib.Core.Path.{sym, ◌∙◌}
-use borrow.Author.Tests.{le-leb, lt-leb, lt-ltb, le-ltb, not_true, not-false}
+use borrow.Author.Tests.{le-leb, lt-leb, lt-ltb, le-ltb, not-true, not-false}
 use borrow.Author.Rules.{rules}
 use Rattle.receiver.specs.Count.{follow_of}
 use Rattle.receiver.proofs.count.follow.Statement.{statement}
@@ -21,7 +21,7 @@ returns-3 : tie.Need-returns-3
 unfolding follow_of
 returns-3 c =
     let n = c.before.before.before.before.args.number in
-    rw (le-leb 2 n c.before.before.before.if1.false, le-leb n 3 c.before.before.if2.false, sym c.before.holds.ensures ∙ not_true _ c.if3.true)
+    rw (le-leb 2 n c.before.before.before.if1.false, le-leb n 3 c.before.before.if2.false, sym c.before.holds.ensures ∙ not-true _ c.if3.true)
 
 returns-4 : tie.Need-returns-4
 unfolding follow_of

@@ -1,10 +1,10 @@
 -- `receiver::count::taken` meets its contract. Assumes nothing.
-use borrow.Author.Tests.{not_true, not-false}
+use borrow.Author.Tests.{not-true, not-false}
 use Rattle.receiver.proofs.count.taken.Statement.{statement}
 use Rattle.receiver.proofs.count.taken.Tie as tie
 
 returns : tie.Need-returns
-returns c = simp (not_true c.before.args.counted c.if1.true)
+returns c = simp (not-true c.before.args.counted c.if1.true)
 
 returns-2 : tie.Need-returns-2
 returns-2 c = simp (not-false c.before.args.counted c.if1.false)

@@ -1,11 +1,11 @@
 -- `receiver::count::taken_over` meets its contract. Assumes nothing.
-use borrow.Author.Tests.{not_true, not-false, lt-ltb, le-ltb, eq-eqb, ne_eqb}
+use borrow.Author.Tests.{not-true, not-false, lt-ltb, le-ltb, eq-eqb, ne_eqb}
 use borrow.Author.Rules.{rules}
 use Rattle.receiver.proofs.count.taken_over.Statement.{statement}
 use Rattle.receiver.proofs.count.taken_over.Tie as tie
 
 returns : tie.Need-returns
-returns c = simp (not_true c.before.args.counted c.if1.true)
+returns c = simp (not-true c.before.args.counted c.if1.true)
 
 returns-2 : tie.Need-returns-2
 returns-2 c =

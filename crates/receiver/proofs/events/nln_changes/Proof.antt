@@ -1,10 +1,10 @@
 -- `receiver::events::nln_changes` meets its contract. Assumes nothing.
-use borrow.Author.Tests.{eq-eqb, ne_eqb, not_true, not-false}
+use borrow.Author.Tests.{eq-eqb, ne_eqb, not-true, not-false}
 use Rattle.receiver.proofs.events.nln_changes.Statement.{statement}
 use Rattle.receiver.proofs.events.nln_changes.Tie as tie
 
 returns : tie.Need-returns
-returns c = rw (not_true c.before.args.numbered c.if1.true)
+returns c = rw (not-true c.before.args.numbered c.if1.true)
 
 returns-2 : tie.Need-returns-2
 returns-2 c = rw (not-false c.before.before.before.args.numbered c.before.before.if1.false, eq-eqb _ _ c.if2.true)

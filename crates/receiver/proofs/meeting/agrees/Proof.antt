@@ -1,5 +1,5 @@
 -- `receiver::meeting::agrees` meets its contract. Assumes nothing.
-use borrow.Author.Tests.{not_true, not-false}
+use borrow.Author.Tests.{not-true, not-false}
 use Rattle.receiver.specs.Model.{agree}
 use borrow.Author.Rules.{rules}
 use Rattle.receiver.proofs.meeting.agrees.Statement.{statement}
@@ -7,11 +7,11 @@ use Rattle.receiver.proofs.meeting.agrees.Tie as tie
 
 returns : tie.Need-returns
 unfolding agree
-returns c = simp (not_true c.before.before.args.a.full c.if1.true)
+returns c = simp (not-true c.before.before.args.a.full c.if1.true)
 
 returns-2 : tie.Need-returns-2
 unfolding agree
-returns-2 c = simp (not-false c.before.before.before.before.args.a.full c.before.before.if1.false, not_true c.before.before.before.before.args.b.full c.if2.true)
+returns-2 c = simp (not-false c.before.before.before.before.args.a.full c.before.before.if1.false, not-true c.before.before.before.before.args.b.full c.if2.true)
 
 same-reference-requires : tie.Need-same-reference-requires
 same-reference-requires c κs = search rules

@@ -1,5 +1,5 @@
 -- `receiver::meeting::class` meets its contract. Assumes nothing.
-use borrow.Author.Tests.{not_true, not-false}
+use borrow.Author.Tests.{not-true, not-false}
 use mathlib.Core.Path.{sym, ◌∙◌}
 use Rattle.receiver.proofs.Classes.{described_class, bare_class}
 use borrow.Author.Rules.{rules}
@@ -12,7 +12,7 @@ is-ciphered-requires c κs = search rules
 returns : tie.Need-returns
 returns c =
     let x = c.before.before.before.args in
-    simp (described_class x.ch x.e c.before.before.if1.true, sym c.before.is-ciphered.ensures ∙ not_true _ c.if2.true)
+    simp (described_class x.ch x.e c.before.before.if1.true, sym c.before.is-ciphered.ensures ∙ not-true _ c.if2.true)
 
 segment-is-requires : tie.Need-segment-is-requires
 segment-is-requires c κs = search rules

@@ -1,5 +1,5 @@
 -- `receiver::meeting::is_second` meets its contract. Assumes nothing.
-use borrow.Author.Tests.{not_true, not-false}
+use borrow.Author.Tests.{not-true, not-false}
 use mathlib.Core.Path.{sym, ◌∙◌}
 use borrow.Author.Rules.{rules}
 use Rattle.receiver.proofs.meeting.is_second.Statement.{statement}
@@ -9,7 +9,7 @@ is-ciphered-requires : tie.Need-is-ciphered-requires
 is-ciphered-requires c κs = search rules
 
 returns : tie.Need-returns
-returns c = simp (sym c.before.is-ciphered.ensures ∙ not_true _ c.if1.true)
+returns c = simp (sym c.before.is-ciphered.ensures ∙ not-true _ c.if1.true)
 
 returns-2 : tie.Need-returns-2
 returns-2 c = simp (sym c.before.before.is-ciphered.ensures ∙ not-false _ c.before.if1.false, c.if2.true)
@@ -19,7 +19,7 @@ returns-3 c =
     simp (
       sym c.before.before.before.before.is-ciphered.ensures ∙ not-false _ c.before.before.before.if1.false,
       c.before.before.if2.false,
-      not_true c.before.before.before.before.before.args.e.hasRandom c.if3.true,
+      not-true c.before.before.before.before.before.args.e.hasRandom c.if3.true,
     )
 
 segment-is-requires : tie.Need-segment-is-requires

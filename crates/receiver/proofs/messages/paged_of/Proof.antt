@@ -1,5 +1,5 @@
 -- `receiver::messages::paged_of` meets its contract. Assumes nothing.
-use borrow.Author.Tests.{not_true, not-false}
+use borrow.Author.Tests.{not-true, not-false}
 use borrow.Author.Rules.{rules}
 use Rattle.receiver.specs.Entries.{paged_of}
 use Rattle.receiver.proofs.messages.paged_of.Statement.{statement}
@@ -12,7 +12,7 @@ returns : tie.Need-returns
 unfolding paged_of
 returns c =
     let c3 = c.before.before.before in
-    rw (c.no-paged.ensures, not_true c3.args.m.paging c.before.if1.true)
+    rw (c.no-paged.ensures, not-true c3.args.m.paging c.before.if1.true)
 
 returns-2 : tie.Need-returns-2
 unfolding paged_of

@@ -1,6 +1,6 @@
 -- `receiver::start::is_right` meets its contract. Assumes nothing.
 use mathlib.Core.Path.{sym, ◌∙◌}
-use borrow.Author.Tests.{le-leb, lt-leb, not_true, not-false}
+use borrow.Author.Tests.{le-leb, lt-leb, not-true, not-false}
 use Rattle.receiver.specs.Model.{setup_right}
 use borrow.Author.Rules.{rules}
 use Rattle.receiver.proofs.start.is_right.Statement.{statement}
@@ -15,7 +15,7 @@ is-timer-requires c κs = search rules
 
 returns-2 : tie.Need-returns-2
 unfolding setup_right
-returns-2 c = simp (le-leb _ _ c.before.before.if1.false, sym c.before.is-timer.ensures ∙ not_true _ c.if2.true)
+returns-2 c = simp (le-leb _ _ c.before.before.if1.false, sym c.before.is-timer.ensures ∙ not-true _ c.if2.true)
 
 is-timer-requires-2 : tie.Need-is-timer-requires-2
 is-timer-requires-2 c κs = search rules
@@ -26,7 +26,7 @@ returns-3 c =
     simp (
       le-leb _ _ c.before.before.before.before.if1.false,
       sym c.before.before.before.is-timer.ensures ∙ not-false _ c.before.before.if2.false,
-      sym c.before.is-timer2.ensures ∙ not_true _ c.if3.true,
+      sym c.before.is-timer2.ensures ∙ not-true _ c.if3.true,
     )
 
 is-timer-requires-3 : tie.Need-is-timer-requires-3
@@ -39,7 +39,7 @@ returns-4 c =
       le-leb _ _ c.before.before.before.before.before.before.if1.false,
       sym c.before.before.before.before.before.is-timer.ensures ∙ not-false _ c.before.before.before.before.if2.false,
       sym c.before.before.before.is-timer2.ensures ∙ not-false _ c.before.before.if3.false,
-      sym c.before.is-timer3.ensures ∙ not_true _ c.if4.true,
+      sym c.before.is-timer3.ensures ∙ not-true _ c.if4.true,
     )
 
 sets-right-requires : tie.Need-sets-right-requires
@@ -56,7 +56,7 @@ returns-5 c =
       sym t1.is-timer.ensures ∙ not-false _ t2.before.if2.false,
       sym t2.is-timer2.ensures ∙ not-false _ t3.before.if3.false,
       sym t3.is-timer3.ensures ∙ not-false _ c.before.before.if4.false,
-      sym c.before.sets-right.ensures ∙ not_true _ c.if5.true,
+      sym c.before.sets-right.ensures ∙ not-true _ c.if5.true,
     )
 
 all-low-requires : tie.Need-all-low-requires
@@ -75,7 +75,7 @@ returns-6 c =
       sym t2.is-timer2.ensures ∙ not-false _ t3.before.if3.false,
       sym t3.is-timer3.ensures ∙ not-false _ t4.before.if4.false,
       sym t4.sets-right.ensures ∙ not-false _ c.before.before.if5.false,
-      sym c.before.all-low.ensures ∙ not_true _ c.if6.true,
+      sym c.before.all-low.ensures ∙ not-true _ c.if6.true,
     )
 
 rises-requires : tie.Need-rises-requires

@@ -2,7 +2,7 @@
 use mathlib.Core.Path.{◌≡◌, refl, sym, ◌∙◌}
 use Prim.Native.Nat.{◌-◌}
 use lib.ListN.{length, drop}
-use borrow.Author.Tests.{eq-eqb, ne_eqb, not_true, not-false}
+use borrow.Author.Tests.{eq-eqb, ne_eqb, not-true, not-false}
 use Rattle.receiver.specs.Count.{all_sets}
 use Rattle.receiver.proofs.Sets.{sets_wrong, sets_next, sets_past}
 use native.Mathlib.Omega.{arith}
@@ -34,7 +34,7 @@ is-set-requires c κs = search rules
 returns-2 : tie.Need-returns-2 invariant-loop decreases-loop
 returns-2 c =
     let l = c.before.before.before.before.loop in
-    rw (eq-eqb _ _ l.invariant.0) (sym (l.invariant.1 ∙ sets_wrong _ l.i 0 c.before.before.before.loop-test.true (sym c.before.is_set.ensures ∙ not_true _ c.if2.true)))
+    rw (eq-eqb _ _ l.invariant.0) (sym (l.invariant.1 ∙ sets_wrong _ l.i 0 c.before.before.before.loop-test.true (sym c.before.is_set.ensures ∙ not-true _ c.if2.true)))
 
 add-i : tie.Need-overflow-add-i invariant-loop decreases-loop
 add-i c = search rules

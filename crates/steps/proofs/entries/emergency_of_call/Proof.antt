@@ -3,7 +3,7 @@ use mathlib.Core.Path.{◌≡◌, sym, ◌∙◌}
 use mathlib.Core.Bool.{false}
 use native.Mathlib.Omega.{arith}
 use lib.ListN.{length, length-map}
-use borrow.Author.Tests.{not_true, not-false}
+use borrow.Author.Tests.{not-true, not-false}
 use borrow.Author.Rules.{rules}
 use Rattle.receiver.proofs.MessageEntries.{nth_past, nth-there}
 use Rattle.steps.proofs.entries.emergency_of_call.Statement.{statement}
@@ -13,7 +13,7 @@ four : (c : tie.Start) → length c.args.m.release7.marks ≡ 4
 four c = sym (length-map c.args.m.release7.marks _) ∙ c.well-formed.0.1.1.1.1.1.1.1.0.1.1.1.1.0.1.0.1
 
 returns : tie.Need-returns
-returns c = rw (not_true c.before.before.args.c.hasDescription c.if1.true)
+returns c = rw (not-true c.before.before.args.c.hasDescription c.if1.true)
 
 returns-2 : tie.Need-returns-2
 returns-2 c =

@@ -1,7 +1,7 @@
 -- `steps::meeting::meet` meets its contract. Assumes nothing.
 use mathlib.Core.Path.{sym, ◌∙◌}
 use Rattle.receiver.proofs.Classes.{meet_whole, meet_none, meet_first, meet_second, meet_early, meet_stored}
-use borrow.Author.Tests.{not_true, not-false}
+use borrow.Author.Tests.{not-true, not-false}
 use mathlib.Core.Logic.{inl, inr, ⊎_elim}
 use native.Mathlib.Omega.{arith}
 use borrow.Author.Rules.{rules}
@@ -53,7 +53,7 @@ returns-5 c =
     let k = c.before.before.before.before.before.before.before.before.class.ensures in
     c.only-number2.ensures
     ∙ meet_early _ _ _ _ (sym c.before.before.before.if5.true ∙ k) c.before.before.before.before.if3.false
-    (sym c.before.before.leads.ensures ∙ not_true _ c.before.if6.true)
+    (sym c.before.before.leads.ensures ∙ not-true _ c.before.if6.true)
 
 sub-t13 : tie.Need-overflow-sub-t13
 sub-t13 c = search rules

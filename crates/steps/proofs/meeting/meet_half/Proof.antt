@@ -1,5 +1,5 @@
 -- `steps::meeting::meet_half` meets its contract. Assumes nothing.
-use borrow.Author.Tests.{eq-eqb, ne_eqb, not_true, not-false}
+use borrow.Author.Tests.{eq-eqb, ne_eqb, not-true, not-false}
 use mathlib.Core.Path.{sym, ◌∙◌}
 use borrow.Author.Rules.{rules}
 use Rattle.steps.proofs.meeting.meet_half.Statement.{statement}
@@ -23,7 +23,7 @@ returns-2 c =
       c.only-number2.ensures,
       ne_eqb _ _ c.before.before.before.before.before.before.requires,
       ne_eqb _ _ c.before.before.before.before.if1.false,
-      sym c.before.before.agrees.ensures ∙ not_true _ c.before.if2.true,
+      sym c.before.before.agrees.ensures ∙ not-true _ c.before.if2.true,
     )
 
 empty-slot-requires : tie.Need-empty-slot-requires

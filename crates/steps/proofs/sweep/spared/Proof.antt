@@ -1,6 +1,6 @@
 -- `steps::sweep::spared` meets its contract. Assumes nothing.
 use mathlib.Core.Path.{sym, ◌∙◌}
-use borrow.Author.Tests.{not_true, not-false}
+use borrow.Author.Tests.{not-true, not-false}
 use Rattle.receiver.specs.Model.{spares}
 use borrow.Author.Rules.{rules}
 use Rattle.steps.proofs.sweep.spared.Statement.{statement}
@@ -14,7 +14,7 @@ takes-requires c κs = search rules
 
 returns : tie.Need-returns
 unfolding spares
-returns c = rw (sym c.before.before.side-of.ensures, sym c.before.takes.ensures ∙ not_true _ c.if1.true)
+returns c = rw (sym c.before.before.side-of.ensures, sym c.before.takes.ensures ∙ not-true _ c.if1.true)
 
 index-in-requires : tie.Need-index-in-requires
 index-in-requires c κs = search rules

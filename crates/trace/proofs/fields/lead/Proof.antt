@@ -1,6 +1,6 @@
 -- `trace::fields::lead` meets its contract. Assumes nothing.
 use mathlib.Core.Path.{sym, ◌∙◌}
-use borrow.Author.Tests.{not_true, not-false}
+use borrow.Author.Tests.{not-true, not-false}
 use borrow.Author.Rules.{rules}
 use Rattle.trace.proofs.Leading.{leading_used, leading_stopped, leading_low, leading_high}
 use Rattle.trace.proofs.fields.lead.Statement.{statement}
@@ -22,7 +22,7 @@ returns-2 : tie.Need-returns-2
 returns-2 c =
     let c5 = c.before.before.before.before.before in
     let c7 = c5.before.before in
-    leading_stopped c5.note.ensures c7.if1.false (not_true _ c.if2.true)
+    leading_stopped c5.note.ensures c7.if1.false (not-true _ c.if2.true)
 
 padding-bit-requires : tie.Need-padding-bit-requires
 padding-bit-requires c κs = search rules

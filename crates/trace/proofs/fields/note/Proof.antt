@@ -1,5 +1,5 @@
 -- `trace::fields::note` meets its contract. Assumes nothing.
-use borrow.Author.Tests.{not_true, not-false}
+use borrow.Author.Tests.{not-true, not-false}
 use borrow.Author.Rules.{rules}
 use Rattle.trace.proofs.Tracing.{noted_idle, noted_short, noted_here}
 use Rattle.trace.proofs.fields.note.Statement.{statement}
@@ -8,7 +8,7 @@ use Rattle.trace.proofs.fields.note.Tie as tie
 returns : tie.Need-returns
 returns c =
     let c4 = c.before.before.before.before in
-    noted_idle c4.requires.0 (not_true _ c.if1.true)
+    noted_idle c4.requires.0 (not-true _ c.if1.true)
 
 mul-if2 : tie.Need-overflow-mul-if2
 mul-if2 c = search rules

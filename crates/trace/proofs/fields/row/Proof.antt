@@ -1,5 +1,5 @@
 -- `trace::fields::row` meets its contract. Assumes nothing.
-use borrow.Author.Tests.{not_true, not-false}
+use borrow.Author.Tests.{not-true, not-false}
 use borrow.Author.Rules.{rules}
 use Rattle.trace.proofs.Rows.{row-idle, row-short, row_here}
 use Rattle.trace.proofs.fields.row.Statement.{statement}
@@ -8,7 +8,7 @@ use Rattle.trace.proofs.fields.row.Tie as tie
 returns : tie.Need-returns
 returns c =
     let c6 = c.before.before.before.before.before.before in
-    row-idle c6.requires.0 c6.requires.1 (not_true _ c.if1.true)
+    row-idle c6.requires.0 c6.requires.1 (not-true _ c.if1.true)
 
 mul-if2 : tie.Need-overflow-mul-if2
 mul-if2 c = search rules

@@ -1,7 +1,7 @@
 -- `uplink::Setup::start` meets its contract. Assumes nothing.
 use mathlib.Core.Path.{sym, ◌∙◌}
 use borrow.Author.Rules.{rules}
-use borrow.Author.Tests.{not_true, not-false}
+use borrow.Author.Tests.{not-true, not-false}
 use Rattle.uplink.specs.Uplink.{started_of}
 use Rattle.uplink.proofs.Setup.start.Statement.{statement}
 use Rattle.uplink.proofs.Setup.start.Tie as tie
@@ -11,7 +11,7 @@ is-timer-requires c κs = search rules
 
 returns : tie.Need-returns
 unfolding started_of
-returns c = rw (sym c.before.is-timer.ensures ∙ not_true _ c.if1.true)
+returns c = rw (sym c.before.is-timer.ensures ∙ not-true _ c.if1.true)
 
 returns-2 : tie.Need-returns-2
 unfolding started_of

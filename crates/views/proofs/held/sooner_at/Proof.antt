@@ -1,6 +1,6 @@
 -- `views::held::sooner_at` meets its contract. Assumes nothing.
 use mathlib.Core.Path.{sym, ◌∙◌}
-use borrow.Author.Tests.{lt-ltb, le-ltb, not_true, not-false}
+use borrow.Author.Tests.{lt-ltb, le-ltb, not-true, not-false}
 use borrow.Author.Rules.{rules}
 use Rattle.layout.proofs.States.{at_place}
 use Rattle.views.proofs.Holding.{left-held}
@@ -11,7 +11,7 @@ holds-requires : tie.Need-holds-requires
 holds-requires c κs = search rules
 
 returns : tie.Need-returns
-returns c = let q = sym c.before.holds.ensures ∙ not_true _ c.if1.true in rw q
+returns c = let q = sym c.before.holds.ensures ∙ not-true _ c.if1.true in rw q
 
 left-at-requires : tie.Need-left-at-requires
 left-at-requires c κs = search rules

@@ -2,7 +2,7 @@
 use mathlib.Core.Path.{sym, ◌∙◌}
 use native.Mathlib.Omega.{arith}
 use borrow.Author.Rules.{rules}
-use borrow.Author.Tests.{not_true, not-false}
+use borrow.Author.Tests.{not-true, not-false}
 use Rattle.yard.proofs.Leaving.{left-stays, left-goes}
 use Rattle.yard.proofs.settling.leave.Statement.{statement}
 use Rattle.yard.proofs.settling.leave.Tie as tie
@@ -16,7 +16,7 @@ same_length c = search rules
 returns : tie.Need-returns
 returns c =
     let s = c.before.before.before.before in
-    left-stays s.args.all s.args.time s.args.b.now s.args.i (sym c.before.leaves.ensures ∙ not_true _ c.if1.true)
+    left-stays s.args.all s.args.time s.args.b.now s.args.i (sym c.before.leaves.ensures ∙ not-true _ c.if1.true)
 
 mul-zero : tie.Need-overflow-mul-zero
 mul-zero c = omega arith

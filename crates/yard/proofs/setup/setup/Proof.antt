@@ -1,7 +1,7 @@
 -- `yard::setup::setup` meets its contract. Assumes nothing.
 use mathlib.Core.Path.{sym, ◌∙◌}
 use borrow.Author.Rules.{rules}
-use borrow.Author.Tests.{not_true, not-false}
+use borrow.Author.Tests.{not-true, not-false}
 use Rattle.yard.proofs.Inside.{whole-inside}
 use Rattle.yard.proofs.Starting.{yard-set_wrong, yard-set_odd, yard-set-not, yard-set}
 use Rattle.yard.proofs.setup.setup.Statement.{statement}
@@ -19,7 +19,7 @@ returns-2 : tie.Need-returns-2
 returns-2 c =
     let c2 = c.before.before in
     let a = c2.before.before.before.before.args in
-    yard-set_odd a.b.now a.s a.keys.now a.sets.now c2.if1.false (sym c.before.is_right.ensures ∙ not_true _ c.if2.true)
+    yard-set_odd a.b.now a.s a.keys.now a.sets.now c2.if1.false (sym c.before.is_right.ensures ∙ not-true _ c.if2.true)
 
 slice-relend-prefix-setup : tie.Need-slice-relend-prefix-setup
 slice-relend-prefix-setup c = search rules
