@@ -22,25 +22,28 @@ returns-then-led-gt99999999 c = not_quickly _ (read_at_of group_call c.args.s.no
 
 pub overflow_add-result : goal.overflow_add-result
 overflow_add-result c =
+    let led-got' : Bits c.in-Bits.led ≡ fetched c.args.s.now c.args.at 37 = sym c.in-Bits.is ∙ c.field.ensures in
     let a = c.args in
-    let f = found a.s.now a.at 37 _ (let led-got' : Bits c.in-Bits.led ≡ fetched c.args.s.now c.args.at 37 = sym c.in-Bits.is ∙ c.field.ensures in led-got') in
+    let f = found a.s.now a.at 37 _ led-got' in
     omega arith
 
 pub returns-then-led-eq0 : goal.returns-then-led-eq0
 returns-then-led-eq0 c =
+    let led-got' : Bits c.in-Bits.led ≡ fetched c.args.s.now c.args.at 37 = sym c.in-Bits.is ∙ c.field.ensures in
     let a = c.args in
     record {
       small = omega arith;
       right =
           λ d.
-          plain_told a.s.now a.at _ (let led-got' : Bits c.in-Bits.led ≡ fetched c.args.s.now c.args.at 37 = sym c.in-Bits.is ∙ c.field.ensures in led-got') (omega arith) c.if-led-eq0.true
+          plain_told a.s.now a.at _ led-got' (omega arith) c.if-led-eq0.true
           ∙ sym (ap call_at_of (read_at group_call a.s.now a.at (omega arith)));
     }
 
 pub overflow_add-at : goal.overflow_add-at
 overflow_add-at c =
+    let led-got' : Bits c.in-Bits.led ≡ fetched c.args.s.now c.args.at 37 = sym c.in-Bits.is ∙ c.field.ensures in
     let a = c.args in
-    let f = found a.s.now a.at 37 _ (let led-got' : Bits c.in-Bits.led ≡ fetched c.args.s.now c.args.at 37 = sym c.in-Bits.is ∙ c.field.ensures in led-got') in
+    let f = found a.s.now a.at 37 _ led-got' in
     omega arith
 
 pub returns-in_default-field : goal.returns-in_default-field
@@ -54,22 +57,26 @@ returns-then-channel-ne0-2 c = not_quickly _ (read_at_of group_call c.args.s.now
 
 pub overflow_cast-result : goal.overflow_cast-result
 overflow_cast-result c =
+    let channel-got' : Bits c.in-Bits-field.channel ≡ fetched c.args.s.now (c.args.at + 37) 25 = sym c.in-Bits-field.is ∙ c.field-2.ensures in
     let a = c.args in
-    omega (arith, found_lt a.s.now (a.at + 37) 25 _ (let channel-got' : Bits c.in-Bits-field.channel ≡ fetched c.args.s.now (c.args.at + 37) 25 = sym c.in-Bits-field.is ∙ c.field-2.ensures in channel-got'))
+    omega (arith, found_lt a.s.now (a.at + 37) 25 _ channel-got')
 
 pub overflow_add-result-2 : goal.overflow_add-result-2
 overflow_add-result-2 c =
+    let channel-got' : Bits c.in-Bits-field.channel ≡ fetched c.args.s.now (c.args.at + 37) 25 = sym c.in-Bits-field.is ∙ c.field-2.ensures in
     let a = c.args in
-    let f = found a.s.now (a.at + 37) 25 _ (let channel-got' : Bits c.in-Bits-field.channel ≡ fetched c.args.s.now (c.args.at + 37) 25 = sym c.in-Bits-field.is ∙ c.field-2.ensures in channel-got') in
+    let f = found a.s.now (a.at + 37) 25 _ channel-got' in
     omega arith
 
 pub returns : goal.returns
 returns c =
+    let led-got' : Bits c.in-Bits.led ≡ fetched c.args.s.now c.args.at 37 = sym c.in-Bits.is ∙ c.field.ensures in
+    let channel-got' : Bits c.in-Bits-field.channel ≡ fetched c.args.s.now (c.args.at + 37) 25 = sym c.in-Bits-field.is ∙ c.field-2.ensures in
     let a = c.args in
     record {
       small = omega arith;
       right =
           λ d.
-          fixed_told a.s.now a.at _ (let led-got' : Bits c.in-Bits.led ≡ fetched c.args.s.now c.args.at 37 = sym c.in-Bits.is ∙ c.field.ensures in led-got') (omega arith) c.if-led-eq0.false _ (let channel-got' : Bits c.in-Bits-field.channel ≡ fetched c.args.s.now (c.args.at + 37) 25 = sym c.in-Bits-field.is ∙ c.field-2.ensures in channel-got') (omega arith) (omega arith)
+          fixed_told a.s.now a.at _ led-got' (omega arith) c.if-led-eq0.false _ channel-got' (omega arith) (omega arith)
           ∙ sym (ap call_at_of (read_at group_call a.s.now a.at (omega arith)));
     }
