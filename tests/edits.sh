@@ -45,7 +45,7 @@ note $? "rt must-fail passes an edit that is not refused, or one that cannot be 
 
 # All of ours.
 log=target/proved/log
-if [ "$(tools/sources)" != "$(cat target/proved/sum 2> /dev/null)" ]; then
+if [ ! -s target/proved/sum ] || [ "$(tools/sources)" != "$(cat target/proved/sum)" ]; then
     log=$tmp/ours
     rt must-fail | tee "$log"
 fi
