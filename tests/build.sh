@@ -36,13 +36,14 @@ fresh() {
     rm -rf "$top/repo" "$top/bin"
     mkdir -p "$top/bin" "$top/repo/tools" "$top/repo/examples" "$top/repo/include"
     cp Makefile "$top/repo/"
-    cp tools/library tools/plain-c tools/progress tools/sources "$top/repo/tools/"
+    cp tools/build-program tools/library tools/plain-c tools/progress tools/sources "$top/repo/tools/"
     cp examples/* "$top/repo/examples/"
     cp include/* "$top/repo/include/"
     cp -r c "$top/repo/"
     printf '%s\n' 'low:' 'host: low' 'host_views: low' 'host_uplink: low' 'host_yard: low' 'host_codecs: low' 'host_trace: low' '# what C calls' 'host_c staticlib: low host' 'host_views_c staticlib: low host_views' \
-        'host_uplink_c staticlib: low host_uplink' 'host_yard_c staticlib: low host_yard' 'host_codecs_c staticlib: low host_codecs' 'host_trace_c staticlib: low host_trace' 'other: low' > "$top/repo/crates.txt"
+        'host_uplink_c staticlib: low host_uplink' 'host_yard_c staticlib: low host_yard' 'host_codecs_c staticlib: low host_codecs' 'host_trace_c staticlib: low host_trace' 'replay: low' > "$top/repo/crates.txt"
     for crate in $(sed 's/^#.*//; s/[ :].*//' "$top/repo/crates.txt"); do mkdir -p "$top/repo/crates/$crate/src"; : > "$top/repo/crates/$crate/src/lib.rt"; done
+    mv "$top/repo/crates/replay/src/lib.rt" "$top/repo/crates/replay/src/main.rt"
     cat > "$top/bin/rt" << END
 #!/bin/sh
 crate=\${PWD##*/}
@@ -54,6 +55,7 @@ if [ ! -e "$top/repo/low" ]; then
     [ $2 = 0 ] || exit $2
     : > "$top/repo/low"
 fi
+if [ "\$1" = run ]; then mkdir -p out && echo 'echo ran' > "out/\$crate" && echo told && exit 3; fi
 printf '%s\n' "fn \$crate::one: proved" 'statements low: modules loaded=2 checked=0' "crate \$crate: modules loaded=0 checked=3" 'logic=proved functions=1'
 END
     cat > "$top/repo/tools/module" << END
@@ -164,6 +166,30 @@ status=$?
 note $? 'make without rt'
 shows 'rt is missing: put .* on PATH'
 hides 'not found'
+
+# ---- A program ----
+
+fresh "$proved" 0
+builds 0 replay
+[ "$(sh "$top/repo/target/bin/replay")" = ran ] && [ "$(cat "$top/repo/asked")" = 'run in replay' ]
+note $? 'the program is not built, or rt is asked for something else'
+hides told
+# As rt ci left it, where the text is the same.
+mkdir -p "$top/repo/target/proved"
+"$top/repo/tools/sources" > "$top/repo/target/proved/sum"
+echo 'echo of the gate' > "$top/repo/crates/replay/out/replay"
+builds 0 replay
+[ "$(sh "$top/repo/target/bin/replay")" = 'of the gate' ] && [ "$(wc -l < "$top/repo/asked")" = 1 ]
+note $? 'what rt ci left is built again'
+echo '// more' > "$top/repo/crates/low/src/lib.rt"
+builds 0 replay
+[ "$(sh "$top/repo/target/bin/replay")" = ran ]
+note $? 'an old program is taken for a new one'
+fresh 'low/Laws.antt:1:2: error: no proof' 1
+builds 1 replay
+shows 'low/Laws\.antt:1:2: error: no proof'
+[ ! -e "$top/repo/target/bin/replay" ]
+note $? 'a program that is not proved is there'
 
 # ---- tools/progress by itself ----
 
