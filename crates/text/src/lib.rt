@@ -1,9 +1,9 @@
-// Lines of text: words, decimal numbers and hexadecimal digits put behind one another and handed to a file; and hexadecimal digits read.
+// Lines of text: words, decimal numbers and hexadecimal digits put behind one another and handed to a file; and octets and hexadecimal digits read.
 //
 // A line is passed by value, and what puts something behind it answers the longer line.
 #![tactic(auto)]
 
-ghost use Rattle.std.specs.Prelude.{◌≡◌, [], ◌∷◌, IfOk};
+ghost use Rattle.std.specs.Prelude.{◌≡◌, ◌≤◌, [], ◌∷◌, IfOk, length};
 ghost use Rattle.std.proofs.Math.Seq.{paste};
 ghost use Rattle.text.specs.Lines.{empty, added};
 ghost use Rattle.text.specs.Digits.{decimal, hexadecimal, value, octets_of, pairs};
@@ -12,7 +12,7 @@ mod number;
 
 use number::{find_decimal, find_hex};
 use std::io;
-use std::io::Write;
+use std::io::{Read, Write};
 
 // How many octets have room in a line.
 pub const ROOM: usize = 512;
@@ -146,4 +146,19 @@ pub fn read_hex(digits: &[u8], octets: &mut [u8]) -> usize
         n += 1;
     }
     n
+}
+
+// Reads until there is no more room or the input ends, and answers how many octets were read.
+pub fn read_full<R: Read>(input: &mut R, octets: &mut [u8]) -> io::Result<usize>
+    ensures { IfOk result (λ n. n ≤ length octets.new) }
+{
+    let mut n: usize = 0;
+    while n < octets.len() {
+        let more = input.read(&mut octets[n..])?;
+        if more == 0 {
+            break;
+        }
+        n += more;
+    }
+    Ok(n)
 }
