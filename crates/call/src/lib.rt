@@ -13,7 +13,7 @@ use csn1::Refusal;
 pub mod writer;
 
 // A Group Channel Description: the channel's 24 bits, whether it hops, and over which frequencies.
-#[derive(Drop)]
+#[derive(Clone, Copy)]
 pub struct Description {
     // Channel Description; its bit 11 says whether the channel hops.
     pub channel: u32,
@@ -27,7 +27,7 @@ pub struct Description {
     pub frequencies: u64,
 }
 
-#[derive(Drop)]
+#[derive(Clone, Copy)]
 pub struct Call {
     pub reference: u32,
     // The service flag: VGCS where true, VBS where false.

@@ -4,7 +4,7 @@ ghost use Rattle.bits.specs.Field.{field};
 ghost use Rattle.words.specs.Array.{spanned};
 ghost use Rattle.words.specs.Inner.{Loaded, Spans, Part};
 
-#[derive(Drop)]
+#[derive(Clone, Copy)]
 pub(crate) struct Words {
     a: u64,
     b: u64,
