@@ -1,4 +1,6 @@
 // Document 01's clock: a counter of milliseconds that wraps, the step between two of its ticks, and the step that is refused.
+#![tactic(auto)]
+
 ghost use Rattle.std.specs.Prelude.{◌≡◌};
 ghost use Rattle.clock.specs.Clock.{wrap_sub, late};
 

@@ -5,7 +5,7 @@ ghost use Rattle.gcc.specs.CallReference.{number_of, priority_of, without_spare,
 use crate::{put, wide, worth_of};
 
 // Absent is the element without a priority.
-#[derive(Drop)]
+#[derive(Clone, Copy)]
 pub enum Priority {
     Absent,
     Reserved,
@@ -18,7 +18,7 @@ pub enum Priority {
     LevelA,
 }
 
-#[derive(Drop)]
+#[derive(Clone, Copy)]
 pub struct Reading {
     pub refusal: u8,
     pub reference: u32,

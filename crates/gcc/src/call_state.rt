@@ -2,7 +2,7 @@
 ghost use Rattle.std.specs.Prelude.{◌≡◌};
 ghost use Rattle.gcc.specs.CallState.{number_of, state_of, read_of, written_of};
 
-#[derive(Drop)]
+#[derive(Clone, Copy)]
 pub enum State {
     U0,
     U1,
@@ -19,13 +19,13 @@ pub enum State {
     Reserved,
 }
 
-#[derive(Drop)]
+#[derive(Clone, Copy)]
 pub struct Reading {
     pub refusal: u8,
     pub state: State,
 }
 
-#[derive(Drop)]
+#[derive(Clone, Copy)]
 pub struct Written {
     pub refusal: u8,
     pub half: u8,

@@ -7,7 +7,7 @@ ghost use Rattle.gcc.specs.Inner.{closing};
 use crate::{all_within, copy};
 
 // Specific is a single septet that table 9.4 lists, by its number there; nothing is what a refused element means.
-#[derive(Drop)]
+#[derive(Clone, Copy)]
 pub enum Meaning {
     Nothing,
     Specific(u8),
@@ -15,7 +15,7 @@ pub enum Meaning {
 }
 
 // The septets and the diagnostics, in the first places of the arrays; the other places are zero.
-#[derive(Drop)]
+#[derive(Clone, Copy)]
 pub struct Cause {
     pub count: u8,
     pub septets: [u8; 255],
@@ -23,7 +23,7 @@ pub struct Cause {
     pub diagnostics: [u8; 255],
 }
 
-#[derive(Drop)]
+#[derive(Clone, Copy)]
 pub struct Reading {
     pub refusal: u8,
     pub meaning: Meaning,

@@ -7,14 +7,14 @@ ghost use Rattle.gcc.specs.Digits.{refused, read_of, write_number, write_to};
 use crate::{all_within, put, worth_of};
 
 // The digits are IA5 characters, 30 to 39 hex.
-#[derive(Drop)]
+#[derive(Clone, Copy)]
 pub struct Reading {
     pub refusal: u8,
     pub digits: [u8; 12],
 }
 
 // Four digits, the highest first.
-#[derive(Drop)]
+#[derive(Clone, Copy)]
 struct Four {
     thousands: u8,
     hundreds: u8,
@@ -23,7 +23,7 @@ struct Four {
 }
 
 // A number of twelve digits, four by four.
-#[derive(Drop)]
+#[derive(Clone, Copy)]
 struct Parts {
     first: u32,
     middle: u32,

@@ -1,4 +1,6 @@
 // The information elements of group call control (44.068, clause 9), a module for each, and the steps on octets that they share.
+#![tactic(auto)]
+
 ghost use Rattle.std.specs.Prelude.{◌≡◌, ◌+◌, ◌≤◌, ◌<◌, ◌^◌, length};
 ghost use Rattle.gcc.specs.Octet.{is_set, unit, all_between};
 ghost use Rattle.gcc.specs.Inner.{copied};

@@ -4,7 +4,7 @@ ghost use Rattle.gcc.specs.MessageType.{number_of, kind_of, read_of, written_of}
 
 use crate::{is_set, one_if};
 
-#[derive(Drop)]
+#[derive(Clone, Copy)]
 pub enum Kind {
     ImmediateSetup,
     Setup,
@@ -21,14 +21,14 @@ pub enum Kind {
 }
 
 // The send sequence number is bit 7.
-#[derive(Drop)]
+#[derive(Clone, Copy)]
 pub struct Reading {
     pub refusal: u8,
     pub sequence: bool,
     pub kind: Kind,
 }
 
-#[derive(Drop)]
+#[derive(Clone, Copy)]
 pub struct Written {
     pub refusal: u8,
     pub octet: u8,

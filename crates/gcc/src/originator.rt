@@ -5,7 +5,7 @@ ghost use Rattle.gcc.specs.Originator.{read_of, written_of};
 use crate::{is_set, one_if};
 
 // OI: the MS is the originator of the call.
-#[derive(Drop)]
+#[derive(Clone, Copy)]
 pub struct Reading {
     pub refusal: u8,
     pub oi: bool,

@@ -5,13 +5,13 @@ ghost use Rattle.gcc.specs.Sms.{read_of, written_of};
 use crate::{is_set, one_if};
 
 // DC: SMS data confidentiality is required. GP: SMS guaranteed privacy is required.
-#[derive(Drop)]
+#[derive(Clone, Copy)]
 pub struct Indications {
     pub dc: bool,
     pub gp: bool,
 }
 
-#[derive(Drop)]
+#[derive(Clone, Copy)]
 pub struct Reading {
     pub refusal: u8,
     pub indications: Indications,

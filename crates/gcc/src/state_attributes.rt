@@ -5,7 +5,7 @@ ghost use Rattle.gcc.specs.StateAttributes.{read_of, written_of};
 use crate::{is_set, one_if};
 
 // DA, UA: the user connection in the downlink, and in the uplink, is attached. OI: the MS is the originator of the call.
-#[derive(Drop)]
+#[derive(Clone, Copy)]
 pub struct Attributes {
     pub da: bool,
     pub ua: bool,
@@ -13,7 +13,7 @@ pub struct Attributes {
     pub oi: bool,
 }
 
-#[derive(Drop)]
+#[derive(Clone, Copy)]
 pub struct Reading {
     pub refusal: u8,
     pub attributes: Attributes,

@@ -2,14 +2,14 @@
 ghost use Rattle.std.specs.Prelude.{◌≡◌};
 ghost use Rattle.gcc.specs.Talker.{number_of, priority_of, read_of};
 
-#[derive(Drop)]
+#[derive(Clone, Copy)]
 pub enum Priority {
     Normal,
     Privileged,
     Emergency,
 }
 
-#[derive(Drop)]
+#[derive(Clone, Copy)]
 pub struct Reading {
     pub refusal: u8,
     pub priority: Priority,

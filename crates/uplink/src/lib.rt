@@ -1,4 +1,6 @@
 // The uplink investigation of a network without talker priority (44.018, 3.3.1.2.1.1; document 02, §9): may our driver talk?
+#![tactic(auto)]
+
 ghost use Rattle.std.specs.Prelude.{◌≡◌, ◌-◌};
 ghost use Rattle.uplink.specs.Uplink.{passed, end_of, asked_for, told_of, asking, after_signal, step_of, is_timer, started_of};
 
@@ -6,7 +8,7 @@ ghost use Rattle.uplink.specs.Uplink.{passed, end_of, asked_for, told_of, asking
 pub const FREE: u32 = 480;
 
 // What is known of the uplink, and of the request that waits for it.
-#[derive(Drop)]
+#[derive(Clone, Copy)]
 pub struct Uplink {
     // Of the last accepted event.
     pub tick: u32,
@@ -18,7 +20,7 @@ pub struct Uplink {
 }
 
 // What an event is: a message says that the uplink is free, or that it is busy; the driver wants to talk; time passes.
-#[derive(Drop)]
+#[derive(Clone, Copy)]
 pub enum Signal {
     Free,
     Busy,
@@ -27,7 +29,7 @@ pub enum Signal {
 }
 
 // What became of the request that waited.
-#[derive(Drop)]
+#[derive(Clone, Copy)]
 pub enum End {
     Nothing,
     Granted,
@@ -35,7 +37,7 @@ pub enum End {
 }
 
 // What a request is told when it is made.
-#[derive(Drop)]
+#[derive(Clone, Copy)]
 pub enum Told {
     Nothing,
     Granted,
@@ -44,7 +46,7 @@ pub enum Told {
 }
 
 // What an event is answered. A refusal is its number alone, and the uplink as it stood.
-#[derive(Drop)]
+#[derive(Clone, Copy)]
 pub struct Answer {
     pub refusal: u8,
     pub end: End,
@@ -53,14 +55,14 @@ pub struct Answer {
 }
 
 // The numbers of a setup.
-#[derive(Drop)]
+#[derive(Clone, Copy)]
 pub struct Setup {
     pub tick: u32,
     pub t3128: u32,
 }
 
 // What a setup is answered.
-#[derive(Drop)]
+#[derive(Clone, Copy)]
 pub struct Started {
     pub refusal: u8,
     pub uplink: Uplink,

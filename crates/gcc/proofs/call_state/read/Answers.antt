@@ -1,0 +1,12 @@
+-- `gcc::call_state::read` meets its contract. Assumes nothing.
+use borrow.Author.Tests.{le-leb, lt-leb}
+use Rattle.gcc.specs.CallState.{read_of}
+use Rattle.gcc.proofs.call_state.read.Goals as goal
+
+pub returns-then-half-gt15 : goal.returns-then-half-gt15
+unfolding read_of
+returns-then-half-gt15 c = rw (lt-leb _ _ c.if-half-gt15.true)
+
+pub returns : goal.returns
+unfolding read_of
+returns c = rw (le-leb _ _ c.if-half-gt15.false, c.state_of.ensures)

@@ -1,0 +1,12 @@
+-- `gcc::state_attributes::read` meets its contract. Assumes nothing.
+use borrow.Author.Tests.{le-leb, lt-leb}
+use Rattle.gcc.specs.StateAttributes.{read_of}
+use Rattle.gcc.proofs.state_attributes.read.Goals as goal
+
+pub returns-then-half-gt15 : goal.returns-then-half-gt15
+unfolding read_of
+returns-then-half-gt15 c = rw (lt-leb _ _ c.if-half-gt15.true)
+
+pub returns : goal.returns
+unfolding read_of
+returns c = rw (le-leb _ _ c.if-half-gt15.false, c.is_set.ensures, c.is_set-2.ensures, c.is_set-3.ensures, c.is_set-4.ensures)
