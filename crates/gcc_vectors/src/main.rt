@@ -3,6 +3,8 @@
 // Standard input is vectors/osmo-msc-1.13.0-call-reference.tsv, of which the last column alone is read: the octets. From them each row is
 // made again, the octets as the writer puts them back; a refused row is its refusal number. So what must be written follows from the
 // vectors' own columns, as tools/expected works it out: the row, or 4 where its reference is above 99,999,999.
+#![tactic(auto)]
+
 ghost use Rattle.std.specs.Prelude.{◌+◌, ◌≤◌, length};
 
 use gcc::call_reference::Priority;
