@@ -11,7 +11,7 @@ pub mod writer;
 pub const LONGEST: usize = 4096;
 
 // Why a reading ended: its number, 0 where nothing was refused, and of bits that ran out the place where their field begins.
-#[derive(Drop)]
+#[derive(Clone, Copy)]
 pub struct Refusal {
     pub number: u8,
     pub bit: usize,
