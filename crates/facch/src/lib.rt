@@ -16,7 +16,7 @@ mod pages;
 mod taking;
 
 // Paging Information: which mobile station is paged, on which channel, and how urgently.
-#[derive(Drop)]
+#[derive(Clone, Copy)]
 pub struct Page {
     // The octets of the mobile identity, 1 to 9.
     pub identityLength: u8,
@@ -32,7 +32,7 @@ pub struct Page {
 }
 
 // What Release 6 added.
-#[derive(Drop)]
+#[derive(Clone, Copy)]
 pub struct Release6 {
     pub hasRelease: bool,
     pub hasCount: bool,
@@ -46,7 +46,7 @@ pub struct Release6 {
 }
 
 // What Release 7 added.
-#[derive(Drop)]
+#[derive(Clone, Copy)]
 pub struct Release7 {
     pub hasRelease: bool,
     // Priority Uplink Access: on the group channel where true.
@@ -60,7 +60,7 @@ pub struct Release7 {
 }
 
 // The record of a notification: a call or, where paging is true, a page. What is absent is zero.
-#[derive(Drop)]
+#[derive(Clone, Copy)]
 pub struct Notification {
     pub paging: bool,
     pub call: Call,

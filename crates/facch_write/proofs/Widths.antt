@@ -128,7 +128,7 @@ module _ (r : Release6) (e : release6_in_range r ≡ true) where
       parts = eu ∙ ap₂ beside_strip ex ey
 
       parts_said : Says (beside_strip count random) ((format release6).bits end (at + 1) (release6_value r))
-      parts_said = says_beside (count-said end (at + 1)) (random-said end _) (omega (arith, few))
+      parts_said = says_beside (count-said end (at + 1)) (random-said end 0) (omega (arith, few))
 
       pub six-beside : (z.width + u.width ≤ 42) × ((z.value < 2 ^ z.width) × (u.value < 2 ^ u.width))
       six-beside = rw (ez, parts) (beside_right (says-coded at true) parts_said (omega (arith, few)))
@@ -168,7 +168,7 @@ module _ (r : Release7) (at end : ℕ) where
       second-said : Says second ((coded ⨟ opt (num 1)).bits end (at + 1 + 1) (as_bit r.emergency, there r.hasCause (as_bit r.cause)))
       second-said =
           let k : at + 2 ≡ at + 1 + 1 = omega arith in
-          rw k (says_beside (says-coded (at + 1 + 1) r.emergency) (cause-said end _) (omega (arith, few_bits)))
+          rw k (says_beside (says-coded (at + 1 + 1) r.emergency) (cause-said end 0) (omega (arith, few_bits)))
 
       pub emergency-beside : (x.width + u.width ≤ 42) × ((x.value < 2 ^ x.width) × (u.value < 2 ^ u.width))
       emergency-beside = rw (ex, second_is) (beside_right (says-coded (at + 1) r.uplink) second-said (omega (arith, few_bits)))
@@ -213,7 +213,7 @@ module _ (p : Page) (hc : p.channelFirst < 4) (hp : p.priority < 8) where
     pub channel-said : (y : Strip) → y ≡ beside_strip first x → Says y ((num 2 ⨟ opt (num 3)).bits 0 0 (p.channelFirst, there p.hasPriority p.priority))
     channel-said y ey =
         let k : y ≡ beside_strip first (flagged_strip p.hasPriority 3 p.priority) = ey ∙ ap (beside_strip first) ex in
-        rw k (says_beside first_said (priority-said 0 _) (omega (arith, flagged-few p.hasPriority 3 p.priority)))
+        rw k (says_beside first_said (priority-said 0 0) (omega (arith, flagged-few p.hasPriority 3 p.priority)))
 
 -- ## What shifting and adding gives
 

@@ -1,4 +1,6 @@
 // The elements of 44.068 on arrays of numbers, in the order that include/asternhaken.h gives, for test rigs.
+#![tactic(auto)]
+
 ghost use Rattle.std.specs.Prelude.{◌≡◌, ◌+◌, ◌≤◌, length, replicate};
 ghost use Rattle.std.proofs.lemmas.List.Edits.{sets};
 ghost use Rattle.arrays.specs.Limits.{within, octet};

@@ -12,14 +12,14 @@ pub mod places;
 pub mod reader;
 
 // A Reduced GCR: the reference and service flag of a call that another message carries whole.
-#[derive(Drop)]
+#[derive(Clone, Copy)]
 pub struct Reduced {
     pub reference: u32,
     pub vgcs: bool,
 }
 
 // An entry of the List of VSTK_RAND information.
-#[derive(Drop)]
+#[derive(Clone, Copy)]
 pub struct Random {
     // Segment Id: the second segment where true.
     pub segment: bool,
@@ -29,7 +29,7 @@ pub struct Random {
 }
 
 // What Release 6 added.
-#[derive(Drop)]
+#[derive(Clone, Copy)]
 pub struct Release6 {
     pub hasRelease: bool,
     pub hasCount: bool,
@@ -42,7 +42,7 @@ pub struct Release6 {
 }
 
 // What Release 7 added.
-#[derive(Drop)]
+#[derive(Clone, Copy)]
 pub struct Release7 {
     pub hasRelease: bool,
     pub markcount: usize,
@@ -66,7 +66,7 @@ pub struct Release7 {
 }
 
 // The record of a notification. What is absent, and every unused place, is zero.
-#[derive(Drop)]
+#[derive(Clone, Copy)]
 pub struct Notification {
     pub hasNln: bool,
     pub nln: u8,

@@ -1,4 +1,6 @@
 // An entry of the PCH: the paging head decodes P1 Rest Octets (44.018, 3.3.3.1) and lends what they say of one call, as an array of numbers.
+#![tactic(auto)]
+
 ghost use Rattle.std.specs.Prelude.{◌≡◌, true, get_or};
 ghost use Rattle.bits.specs.Field.{pick};
 ghost use Rattle.pch.specs.Entry.{is_set, hops, lists_short, allocates, description_in, full_call, reduced_call, call_in, entry_in, length_right, hops_right, is_flag, flags_right, reference_right, numbers_right, no_entry, read_of};

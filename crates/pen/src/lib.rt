@@ -6,7 +6,7 @@ pub mod calls;
 pub mod octets;
 
 // What was written is one number, of which these are the last 192 bits.
-#[derive(Drop)]
+#[derive(Clone, Copy)]
 pub struct Words {
     pub a: u64,
     pub b: u64,

@@ -12,7 +12,7 @@ pub mod start;
 pub mod store;
 
 // The parts that a message has once for all of its calls.
-#[derive(Drop)]
+#[derive(Clone, Copy)]
 pub struct Common {
     pub hasCount: bool,
     // CELL_GLOBAL_COUNT, and B22_COUNT where the channel has it.
@@ -32,7 +32,7 @@ pub struct Common {
 }
 
 // An entry of a message with all that belongs to it: what a control room is told of a complete call.
-#[derive(Drop)]
+#[derive(Clone, Copy)]
 pub struct Record {
     // A full reference of 36 bits; else a reduced one, whose other fields are zero.
     pub full: bool,
@@ -48,7 +48,7 @@ pub struct Record {
 }
 
 // A place for a half: which half it holds (0 none, 1 the first, 2 the second), since which tick, and its record.
-#[derive(Drop)]
+#[derive(Clone, Copy)]
 pub struct Slot {
     pub half: u8,
     pub since: u32,
@@ -154,7 +154,7 @@ pub struct Rule {
 }
 
 // What moves the mobile: another cell was selected, it was handed over to another cell, the group call was reconfigured, or it left idle mode.
-#[derive(Drop)]
+#[derive(Clone, Copy)]
 pub enum Move {
     Reselection,
     Handover,
@@ -171,7 +171,7 @@ pub struct Met {
 }
 
 // The numbers of a setup, beside its keys and their sets of group keys.
-#[derive(Drop)]
+#[derive(Clone, Copy)]
 pub struct Setup {
     pub tick: u32,
     pub t3206: u32,

@@ -10,7 +10,7 @@ use arrays::fill;
 use bits::Got;
 
 // How far a message was listed: the bit behind the last field, how many fields were met, and whether reading goes on. Once it does not, nothing more is listed.
-#[derive(Drop)]
+#[derive(Clone, Copy)]
 pub struct Trace {
     pub at: usize,
     pub met: usize,
@@ -18,7 +18,7 @@ pub struct Trace {
 }
 
 // A trace behind a part, and a number that was read in it: 0 where the part was refused.
-#[derive(Drop)]
+#[derive(Clone, Copy)]
 pub struct Noted {
     pub trace: Trace,
     pub value: u64,

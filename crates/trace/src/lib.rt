@@ -1,4 +1,6 @@
 // A message as the list of its fields: kind, place, width and value of each that reading meets, up to the last bit used or the refusing bit.
+#![tactic(auto)]
+
 ghost use Rattle.std.specs.Prelude.{◌≡◌, length};
 ghost use Rattle.trace.specs.Fields.{listing};
 ghost use Rattle.trace.specs.NchKinds.{nch_met};

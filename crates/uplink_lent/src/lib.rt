@@ -1,4 +1,6 @@
 // The uplink's state as lent octets, and setup and events on it (docs/STATE.md has the layout). Four numbers of 32 bits are all there is: they are read, and written anew.
+#![tactic(auto)]
+
 ghost use Rattle.std.specs.Prelude.{◌≡◌, true, false, eqb, length};
 ghost use Rattle.arrays.specs.Runs.{stored};
 ghost use Rattle.uplink.specs.Uplink.{by_signal};

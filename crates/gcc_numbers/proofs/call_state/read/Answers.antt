@@ -1,0 +1,6 @@
+-- `gcc_numbers::call_state::read` meets its contract. Assumes nothing.
+use mathlib.Core.Path.{refl}
+use Rattle.gcc_numbers.proofs.call_state.read.Goals as goal
+
+pub returns : goal.returns
+returns c = rw (← c.read-m.ensures) (refl, rw c.number_of.ensures at c.store.ensures)

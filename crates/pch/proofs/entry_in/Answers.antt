@@ -1,0 +1,5 @@
+-- `pch::entry_in` meets its contract. Assumes nothing.
+use Rattle.pch.proofs.entry_in.Goals as goal
+
+pub returns : goal.returns
+returns c = cc
