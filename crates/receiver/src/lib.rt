@@ -65,7 +65,7 @@ pub const NO_COUNT: u8 = 4;
 pub const NO_BIT: u8 = 2;
 
 // What is known of the cell.
-#[derive(Drop)]
+#[derive(Clone, Copy)]
 pub struct Cell {
     // The last NLN seen, or NO_NLN.
     pub nln: u8,
@@ -84,7 +84,7 @@ pub const NO_KEY: u32 = 4294967295;
 pub const PLACES: usize = channels::CHANNELS * Setup::KEYS;
 
 // The place of subscription i on channel ch is channels::CHANNELS * i + ch.
-#[derive(Drop)]
+#[derive(Clone, Copy)]
 pub struct Receiver {
     pub slots: [Slot; PLACES],
     pub keys: [u32; Setup::KEYS],
@@ -100,7 +100,7 @@ pub struct Receiver {
 }
 
 // What an entry is told: document 01's number, and for 1 to 3 the record.
-#[derive(Drop)]
+#[derive(Clone, Copy)]
 pub struct Told {
     // Reference times 2 plus service flag.
     pub key: u64,
@@ -145,7 +145,7 @@ pub struct Started {
 }
 
 // What an event drops beside what ran out: the halves of some channels, save those under the key at an index. No key has the index KEYS.
-#[derive(Drop)]
+#[derive(Clone, Copy)]
 pub struct Rule {
     pub nch: bool,
     pub facch: bool,
