@@ -65,7 +65,7 @@ pub const NO_COUNT: u8 = 4;
 pub const NO_BIT: u8 = 2;
 
 // What is known of the cell.
-#[derive(Drop)]
+#[derive(Clone, Copy)]
 pub struct Cell {
     // The last NLN seen, or NO_NLN.
     pub nln: u8,
