@@ -1,5 +1,5 @@
 # (i) No file imports what it does not use. An operator is used where its first part stands, a module where a dot comes behind it; behind a dot, or before an equals sign in
-# braces, a word is a field's name. What a file passes on is used. In a source, what a contract imports is used in a contract, and source in the code.
+# braces, a word is a field's name. The minus is in a name with a dash too, since `rt tidy` keeps its import there. What a file passes on is used. In a source, what a contract imports is used in a contract, and source in the code.
 function say(line, what) { print file ":" line ": " what; found++ }
 
 # Whether word i is a name by itself, and names nothing's field.
@@ -28,6 +28,7 @@ function words(rust,    i, t, depth, clause, params, own) {
         if (!free(i)) continue
         t = plain(T[i])
         used[t]; if (T[i + 1] == ".") led[t]
+        if (t ~ /[A-Za-z]-[a-z]/) used["-"]
         if (t == "←" || t == "do") { used["◌>>=◌"]; used[">>="]; used[">>"] }
         if (t ~ /^◌|◌$/ && t != "◌") { sub(/^◌/, "", t); sub(/◌$/, "", t); used[t] }
     }
