@@ -1,3 +1,3 @@
 // The C library, second part: the codecs on arrays of numbers. An archive of its own, so that the events keep the readers inside them.
-mod elements;
-mod notifications;
+pub mod elements;
+pub mod notifications;

@@ -145,7 +145,7 @@ pub struct Started {
 }
 
 // What an event drops beside what ran out: the halves of some channels, save those under the key at an index. No key has the index KEYS.
-#[derive(Drop)]
+#[derive(Clone, Copy)]
 pub struct Rule {
     pub nch: bool,
     pub facch: bool,
