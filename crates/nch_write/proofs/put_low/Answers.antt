@@ -4,6 +4,7 @@ use borrow.Author.Tests.{eq-eqb, ne_eqb}
 use Rattle.csn1.specs.Format.{num_bits, pad_bit}
 use Rattle.csn1.proofs.Lawful.{pad_lt}
 use Rattle.nch_write.proofs.Putting.{inks_as, inks-none, one_bit}
+use borrow.Author.Rules.{rules}
 use native.Mathlib.Omega.{arith}
 use Rattle.nch_write.proofs.put_low.Goals as goal
 
@@ -13,10 +14,10 @@ returns-then-p-eq160 c =
 
 pub put-requires : goal.put-requires
 put-requires c =
-    (omega arith, (c.requires, omega (arith, c.padding_bit.ensures, pad_lt c.args.p.at)))
+    (omega arith, (c.requires, omega (arith, pad_lt c.args.p.at)))
 
 pub returns : goal.returns
 returns c =
     let n = c.args.p.at in
-    let f = one_bit (pad_bit n) (pad_lt n) (inks_as (ap (num_bits 1) c.padding_bit.ensures) c.put.ensures) in
+    let f = one_bit (pad_bit n) (pad_lt n) (inks_as (ap (num_bits 1) (search rules)) c.put.ensures) in
     (inks_as (rw (ne_eqb n 160 c.if-p-eq160.false)) f, omega (arith, f.next))
