@@ -1,6 +1,6 @@
 # make help      these lines
 # make demo      proves and builds the C library, and shows what a small control room is told of a piece of a day
-# make test      the gate: layout, audit, tests, and every proof from nothing; its last line is 'N passed, M failed'
+# make test      the gate: every proof and its layout, the must-fail edits, audit and tests; its last line is 'N passed, M failed'
 # make lib       the C library: target/lib/libasternhaken.a
 # make drive     target/drive: the C library by lines, a command to a line, as vectors/README.md says
 # make replay    proves and builds target/bin/replay: a recorded day on standard input, its answers on standard output (docs/CAPTURE.md)
@@ -18,7 +18,7 @@ number = $(shell sed -n 's/^.define ASTERNHAKEN_VERSION_$1 //p' include/asternha
 major := $(call number,MAJOR)
 version := $(major).$(call number,MINOR).$(call number,PATCH)
 
-# The archive of rt staticlib is for x86-64. On another processor, programs of this machine link one that is made of the same module.
+# The archive that rattle compiles is for x86-64. On another processor, programs of this machine link one that is made of the same modules.
 ASTERNHAKEN_LIB ?= $(if $(filter x86_64,$(shell uname -m)),target/lib,target/native)
 archive := $(ASTERNHAKEN_LIB)/libasternhaken.a
 
@@ -42,18 +42,18 @@ test:
 lib: $(archive)
 
 # The proved functions alone. What is plain C (c/) is put beside them afterwards, so that a new sentence there proves nothing again.
-target/proved/x86_64.a: crates.txt $(shell find crates -name '*.rt' -o -name '*.antt')
+target/proved/x86_64.a: crates.txt $(shell find crates -name out -prune -o \( -name '*.rt' -o -name '*.antt' \) -print) tools/library tools/module
 	$(one_by_one)
 	@tools/library $@ >&2
 
-# The crates of exported functions, as tools/library names them.
+# The static libraries of exported functions, as tools/library names them.
 parts := $(shell sed -n "s/^parts='\(.*\)'$$/\1/p" tools/library)
 
-# The modules that they are compiled from, as text: tests/digits.sh looks at them too.
+# The modules that they are compiled from, as text, which come with the archive: tests/digits.sh looks at them too.
 modules := $(parts:%=target/modules/%.ll)
 
-target/modules/%.ll: target/proved/x86_64.a tools/module
-	@mkdir -p $(@D) && tools/module $@ $* >&2
+target/modules/%.ll: target/proved/x86_64.a
+	@touch -c $@ && [ -f $@ ]
 
 target/proved/native.a: $(modules) tools/native-archive
 	@rm -f $@
@@ -76,7 +76,7 @@ drive: $(archive)
 
 replay mend:
 	$(one_by_one)
-	@mkdir -p target && tools/progress target/$@.log 0 rt check $@ >&2
+	@mkdir -p target && tools/progress target/$@.log 0 tools/build-program $@ >&2
 
 # The command for field staff.
 COMMAND = yes

@@ -31,37 +31,52 @@ builds() {
 shows() { grep -Exq "$1" "$top/shown"; note $? "it does not show: $1"; }
 hides() { ! grep -Eq "$1" "$top/out" "$top/shown"; note $? "it shows: $1"; }
 
-# fresh PROOF STATUS: a repository of six crates of exported functions over one other, and an rt that says PROOF of that one.
+# fresh PROOF STATUS: a repository of six libraries over one other, each with the static library that C calls, and an rt that says PROOF of that one. tools/module is a stand-in too.
 fresh() {
     rm -rf "$top/repo" "$top/bin"
     mkdir -p "$top/bin" "$top/repo/tools" "$top/repo/examples" "$top/repo/include"
     cp Makefile "$top/repo/"
-    cp tools/library tools/plain-c tools/progress "$top/repo/tools/"
+    cp tools/build-program tools/library tools/plain-c tools/progress tools/sources "$top/repo/tools/"
     cp examples/* "$top/repo/examples/"
     cp include/* "$top/repo/include/"
     cp -r c "$top/repo/"
-    printf '%s\n' 'low:' 'host: low' 'host_views: low' 'host_uplink: low' 'host_yard: low' 'host_codecs: low' 'host_trace: low' 'other: low' > "$top/repo/crates.txt"
-    for crate in low host host_views host_uplink host_yard host_codecs host_trace other; do mkdir -p "$top/repo/crates/$crate/src"; : > "$top/repo/crates/$crate/src/lib.rt"; done
+    printf '%s\n' 'low:' 'host: low' 'host_views: low' 'host_uplink: low' 'host_yard: low' 'host_codecs: low' 'host_trace: low' '# what C calls' 'host_c staticlib: low host' 'host_views_c staticlib: low host_views' \
+        'host_uplink_c staticlib: low host_uplink' 'host_yard_c staticlib: low host_yard' 'host_codecs_c staticlib: low host_codecs' 'host_trace_c staticlib: low host_trace' 'replay: low' > "$top/repo/crates.txt"
+    for crate in $(sed 's/^#.*//; s/[ :].*//' "$top/repo/crates.txt"); do mkdir -p "$top/repo/crates/$crate/src"; : > "$top/repo/crates/$crate/src/lib.rt"; done
+    mv "$top/repo/crates/replay/src/lib.rt" "$top/repo/crates/replay/src/main.rt"
     cat > "$top/bin/rt" << END
 #!/bin/sh
-echo "\$*" >> "$top/repo/asked"
-echo 'fn low::one: proved'
-case \$1 in
-check) echo '$1'; exit $2 ;;
-staticlib)
-    echo 'rt: low proved (unchanged since it was last proved)' >&2
-    mkdir -p target/staticlib && cd target/staticlib && cp "$top/object.o" \$2.o && ar rcs lib\$2.a \$2.o || exit 1
-    echo "rt: target/staticlib/lib\$2.a has the functions of \$2 that are marked" ;;
-esac
+crate=\${PWD##*/}
+echo "\$* in \$crate" >> "$top/repo/asked"
+echo 'rt: chose --jobs 2 for low'
+if [ ! -e "$top/repo/low" ]; then
+    echo 'fn low::one: proved'
+    echo '$1'
+    [ $2 = 0 ] || exit $2
+    : > "$top/repo/low"
+fi
+if [ "\$1" = run ]; then mkdir -p out && echo 'echo ran' > "out/\$crate" && echo told && exit 3; fi
+printf '%s\n' "fn \$crate::one: proved" 'statements low: modules loaded=2 checked=0' "crate \$crate: modules loaded=0 checked=3" 'logic=proved functions=1'
 END
-    chmod +x "$top/bin/rt"
+    cat > "$top/repo/tools/module" << END
+#!/bin/sh
+echo "module \$*" >> "$top/repo/asked"
+mkdir -p \${2%/*} \${3%/*} && cp "$top/object.o" \$1.o && ar rcs \$2 \$1.o && rm \$1.o && : > \$3
+echo 'logic=proved functions=1'
+END
+    chmod +x "$top/bin/rt" "$top/repo/tools/module"
 }
 echo 'int a_number;' > "$top/object.c"
 cc -c "$top/object.c" -o "$top/object.o"
+proved='crate low: modules loaded=0 checked=2
+logic=proved functions=1'
+parts='host host_views host_uplink host_yard host_codecs host_trace'
+# modules: what tools/module is asked for, in order.
+modules() { for part in $parts; do echo "module ${part}_c target/parts/lib${part}_c.a target/modules/${part}_c.ll"; done; }
 
 # ---- What there is to make ----
 
-fresh 'rt: low proved (3 s)' 0
+fresh "$proved" 0
 builds 0
 cp "$top/out" "$top/help"
 builds 0 help
@@ -75,49 +90,66 @@ done
 # ---- The library ----
 
 builds 0 target/lib/libasternhaken.a
-shows '.* 7 crates are proved and built\. The first time takes .* minutes on two free cores, a second run seconds\.'
-shows ' +[0-9]+:[0-9]{2}  1 of 7  low proved \(3 s\)'
-shows ' +[0-9]+:[0-9]{2}  2 of 7  host proved and compiled \([0-9]+ s\)'
-shows ' +[0-9]+:[0-9]{2}  3 of 7  host_views proved and compiled \([0-9]+ s\)'
-shows ' +[0-9]+:[0-9]{2}  4 of 7  host_uplink proved and compiled \([0-9]+ s\)'
-shows ' +[0-9]+:[0-9]{2}  5 of 7  host_yard proved and compiled \([0-9]+ s\)'
-shows ' +[0-9]+:[0-9]{2}  6 of 7  host_codecs proved and compiled \([0-9]+ s\)'
-shows ' +[0-9]+:[0-9]{2}  7 of 7  host_trace proved and compiled \([0-9]+ s\)'
-hides 'fn |rt: |make -j'
+shows '.* 13 crates are proved and built\. The first time takes .* on two free cores, and .*\.'
+shows ' +[0-9]+:[0-9]{2}   1 of 13  low proved \([0-9]+ s\)'
+n=1
+for part in $parts; do n=$((n + 1)) && shows " +[0-9]+:[0-9]{2} +$n of 13  $part proved \\([0-9]+ s\\)"; done
+for part in $parts; do n=$((n + 1)) && shows " +[0-9]+:[0-9]{2} +$n of 13  ${part}_c proved and compiled \\([0-9]+ s\\)"; done
+hides 'fn |rt: |make -j|logic'
 [ ! -s "$top/out" ]
 note $? 'it writes to standard output'
-printf '%s\n' 'check low' 'staticlib host' 'staticlib host_views' 'staticlib host_uplink' 'staticlib host_yard' 'staticlib host_codecs' 'staticlib host_trace' | cmp - "$top/repo/asked"
+{ for part in $parts; do echo "lib in $part"; done; modules; } | cmp - "$top/repo/asked"
 note $? 'rt is asked for something else'
-[ "$(ar t "$top/repo/target/lib/libasternhaken.a" | sort | tr '\n' ' ')" = 'host.o host_codecs.o host_trace.o host_uplink.o host_views.o host_yard.o version.o words.o ' ]
+[ "$(ar t "$top/repo/target/lib/libasternhaken.a" | sort | tr '\n' ' ')" = 'host_c.o host_codecs_c.o host_trace_c.o host_uplink_c.o host_views_c.o host_yard_c.o version.o words.o ' ]
 note $? 'the archive does not have all parts'
-[ "$(grep -c '^fn low::one: proved$' "$top/repo/target/library.log")" = 7 ]
+[ "$(grep -c '^fn .*::one: proved$' "$top/repo/target/library.log")" = 7 ]
 note $? 'target/library.log does not have all that rt said'
 builds 0 target/lib/libasternhaken.a
-[ "$(wc -l < "$top/repo/asked")" = 7 ] && [ ! -s "$top/shown" ]
+[ "$(wc -l < "$top/repo/asked")" = 12 ] && [ ! -s "$top/shown" ]
 note $? 'a second run does it again'
+for part in $parts; do [ -e "$top/repo/target/modules/${part}_c.ll" ] || note 1 "there is no module of $part"; done
 # A new sentence comes into the archive, and nothing is proved again for it.
 sed -i 's/Nothing is refused/No ground was found/' "$top/repo/c/words.c"
 touch -d '+2 seconds' "$top/repo/c/words.c"
 builds 0 target/lib/libasternhaken.a
-[ "$(wc -l < "$top/repo/asked")" = 7 ] && grep -q 'No ground was found' "$top/repo/target/lib/libasternhaken.a"
+[ "$(wc -l < "$top/repo/asked")" = 12 ] && grep -q 'No ground was found' "$top/repo/target/lib/libasternhaken.a"
 note $? 'a new sentence is not in the archive, or is proved'
 echo 'not C' > "$top/repo/c/words.c"
 touch -d '+4 seconds' "$top/repo/c/words.c"
 builds 1 target/lib/libasternhaken.a
 
-fresh 'rt: low proved (3 s)' 0
+fresh "$proved" 0
 builds 0 -j2 target/lib/libasternhaken.a
 shows 'make -j changes nothing here: .*'
 
+# What rt ci has just proved is not proved again; where a file changed since, or rt's own commands have been there, it is.
+left() {
+    fresh "$proved" 0
+    for crate in low $parts; do mkdir -p "$top/repo/crates/$crate/out/rlib/$crate.rlib"; done
+    mkdir -p "$top/repo/target/proved"
+    "$top/repo/tools/sources" > "$top/repo/target/proved/sum"
+}
+left
+builds 0 target/lib/libasternhaken.a
+shows '.* 6 static libraries are proved and compiled over what rt ci proved, .*'
+modules | cmp - "$top/repo/asked"
+note $? 'what rt ci proved is proved again'
+for change in 'crates/low/src/lib.rt' 'crates/low/out/rlib/stamp' 'target/proved/sum'; do
+    left
+    echo '// more' > "$top/repo/$change"
+    builds 0 target/lib/libasternhaken.a
+    shows '.* 13 crates are proved and built\. .*'
+done
+
 fresh 'low/Laws.antt:1:2: error: no proof
-rt: low NOT PROVED (exit 1, 2 s)' 1
+logic=not-proved functions=1' 1
 builds 1 target/lib/libasternhaken.a
 shows 'low/Laws\.antt:1:2: error: no proof'
-shows 'rt: low NOT PROVED \(exit 1, 2 s\)'
+shows 'logic=not-proved functions=1'
 shows 'failed, with status 1'
 shows 'target/library\.log has all that was said'
 hides '^fn '
-[ ! -e "$top/repo/target/lib/libasternhaken.a" ] && [ "$(cat "$top/repo/asked")" = 'check low' ]
+[ ! -e "$top/repo/target/lib/libasternhaken.a" ] && [ "$(cat "$top/repo/asked")" = 'lib in host' ]
 note $? 'it goes on where a proof fails'
 
 fresh 'the compiler stopped' 77
@@ -134,6 +166,30 @@ status=$?
 note $? 'make without rt'
 shows 'rt is missing: put .* on PATH'
 hides 'not found'
+
+# ---- A program ----
+
+fresh "$proved" 0
+builds 0 replay
+[ "$(sh "$top/repo/target/bin/replay")" = ran ] && [ "$(cat "$top/repo/asked")" = 'run in replay' ]
+note $? 'the program is not built, or rt is asked for something else'
+hides told
+# As rt ci left it, where the text is the same.
+mkdir -p "$top/repo/target/proved"
+"$top/repo/tools/sources" > "$top/repo/target/proved/sum"
+echo 'echo of the gate' > "$top/repo/crates/replay/out/replay"
+builds 0 replay
+[ "$(sh "$top/repo/target/bin/replay")" = 'of the gate' ] && [ "$(wc -l < "$top/repo/asked")" = 1 ]
+note $? 'what rt ci left is built again'
+echo '// more' > "$top/repo/crates/low/src/lib.rt"
+builds 0 replay
+[ "$(sh "$top/repo/target/bin/replay")" = ran ]
+note $? 'an old program is taken for a new one'
+fresh 'low/Laws.antt:1:2: error: no proof' 1
+builds 1 replay
+shows 'low/Laws\.antt:1:2: error: no proof'
+[ ! -e "$top/repo/target/bin/replay" ]
+note $? 'a program that is not proved is there'
 
 # ---- tools/progress by itself ----
 

@@ -12,7 +12,7 @@ cd "$(dirname "$0")/.." || exit 1
 tmp=$(mktemp -d) || exit 1
 trap 'rm -rf "$tmp"' EXIT
 passed=0 failed=0
-clang=$(dirname "$(readlink -f "$(command -v rt)")")/../on/$(uname -m)/toolchain/bin/clang
+clang=$(dirname "$(readlink -f "$(command -v rt)")")/../toolchain/bin/clang
 objdump=objdump
 [ "$(uname -m)" = x86_64 ] || objdump=x86_64-linux-gnu-objdump
 # x86, Cortex-M3, Cortex-M0 (which divides nothing) and RISC-V

@@ -5,7 +5,7 @@
 #   tests/host.sh             the library is built (make lib) and tried
 #   tests/host.sh FOLDER..    the libasternhaken.a of each folder is tried instead
 #
-# On another processor than x86-64 two archives are tried: that of rt staticlib, with programs for x86-64 in an emulator, and the one that is made of the same
+# On another processor than x86-64 two archives are tried: that of tools/library, with programs for x86-64 in an emulator, and the one that is made of the same
 # module for the machine itself, which is the one that valgrind can follow.
 set -u
 export LC_ALL=C
@@ -143,7 +143,7 @@ kinds() {
     sed -n 's/^    ASTERNHAKEN_FIELD_\([A-Z0-9_]*\) = \([0-9]*\).*/\1 \2/p' "$1" > "$tmp/kinds"
     sed -n 's/^pub const \([A-Z0-9_]*\): u64 = \([0-9]*\);$/\1 \2/p' crates/trace/src/kinds.rt | diff - "$tmp/kinds" || return 1
     tr -d _ < "$tmp/kinds" > "$tmp/kinds.plain"
-    sed -n 's/^\([a-z][A-Za-z0-9]*\) = \([0-9]*\)$/\1 \2/p' "${2:-crates/trace/specs/Names.antt}" | diff -i - "$tmp/kinds.plain" || return 1
+    sed -n 's/^\([a-z][A-Za-z0-9_]*\) = \([0-9]*\)$/\1 \2/p' "${2:-crates/trace/specs/Names.antt}" | tr -d _ | diff -i - "$tmp/kinds.plain" || return 1
     [ "$(wc -l < "$tmp/kinds")" -ge 50 ] && awk '$2 != NR { exit 1 }' "$tmp/kinds" && [ -z "$(cut -d ' ' -f 1 "$tmp/kinds" | sort | uniq -d)" ] || return 1
     ! grep -E '^    ASTERNHAKEN_FIELD_.*[.] (0 no|1 a|1 an) .* follows?' "$1" | grep -v '_GIVEN = '
 }

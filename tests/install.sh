@@ -5,7 +5,7 @@
 #   tests/install.sh             the library is built (make lib) and installed
 #   tests/install.sh FOLDER..    the libasternhaken.a of each folder is installed instead
 #
-# On another processor than x86-64 two archives are tried: the stand-in for the machine itself in all of this, and that of rt staticlib in what a program linked with it does; the
+# On another processor than x86-64 two archives are tried: the stand-in for the machine itself in all of this, and that of tools/library in what a program linked with it does; the
 # command is built over the first alone, since libpcap is there for the machine itself.
 set -uo pipefail
 export LC_ALL=C.UTF-8 PYTHONDONTWRITEBYTECODE=1

@@ -26,12 +26,14 @@ rows() {
     }
     END { for (f in stated) if (!(f in row)) print f " stands in no row"; if (!all) print "no function is stated" }' "$1" "$2"
 }
-# promises PROMISES: what is wrong with the promises that it names. A promise is a word in quotes with a capital and hyphens; a page of promises is crate/specs/Page.
+records=$(sed -n "s/^records='\(.*\)'$/\1/p" tools/audit | tr ' ' '\n')
+# promises PROMISES: what is wrong with the promises that it names. A promise is a word in quotes of three or more with capitals, or one that ends in Determines, and no record of those that
+# tools/audit lists; a page of promises is crate/specs/Page.
 promises() {
     local page name
     sed -n -E 's/^(abbrev )?pub (record )?([^ ]+) : Type [0-9].*/\3/p' crates/*/specs/*Promises.antt > "$tmp/promised"
     [ -s "$tmp/promised" ] || echo 'no page promises anything'
-    grep -oE '`[A-Z][A-Za-z0-9]*(-[A-Za-z0-9]+)+`' "$1" | tr -d '`' | sort -u | while read -r name; do grep -qxF -e "$name" "$tmp/promised" || echo "$name is no promise"; done
+    grep -oE '`[A-Z][a-z0-9]*([A-Z][a-z0-9]*([A-Z][A-Za-z0-9]*)|Determines)`' "$1" | tr -d '`' | sort -u | grep -vxF -e "$records" | while read -r name; do grep -qxF -e "$name" "$tmp/promised" || echo "$name is no promise"; done
     for page in crates/*/specs/*Promises.antt; do
         name=${page#crates/} name=${name%.antt}
         grep -qE "(^|[^a-z_])$name" "$1" || echo "it does not name the page $name"
@@ -41,8 +43,17 @@ good() { rows docs/STATEMENTS.md "$1"; promises "$1"; }
 
 tools/statements | cmp - docs/STATEMENTS.md
 note $? "docs/STATEMENTS.md is not what tools/statements writes"
-[ "$(grep -c '^## ' docs/STATEMENTS.md)" = "$(tools/audit | sed -n 's/^audit: \([0-9]*\) public functions.*/\1/p')" ]
-note $? "tools/audit does not count the functions of docs/STATEMENTS.md"
+# What C calls is stated word for word as the library states it.
+exports=0
+for crate in $(sed -n 's/^\([a-z0-9_]*\)_c staticlib:.*/\1/p' crates.txt); do
+    tools/statements "$crate" > "$tmp/library"
+    tools/statements "${crate}_c" > "$tmp/static"
+    sed "s/^## ${crate}_c/## $crate/" "$tmp/static" | cmp - "$tmp/library" && [ -s "$tmp/library" ]
+    note $? "crates/${crate}_c does not state what crates/$crate states"
+    exports=$((exports + $(grep -c '^## ' "$tmp/static")))
+done
+[ "$(($(grep -c '^## ' docs/STATEMENTS.md) + exports))" = "$(tools/audit | sed -n 's/^audit: \([0-9]*\) public functions.*/\1/p')" ]
+note $? "tools/audit does not count the functions of docs/STATEMENTS.md and the $exports that C calls"
 good docs/PROMISES.md > "$tmp/said"
 sed 's/^/docs\/PROMISES.md: /' "$tmp/said"
 wrong=$(wc -l < "$tmp/said")
@@ -68,14 +79,14 @@ moves() {
     ! cmp -s "crates/$3.antt" "$tmp/tree/crates/$3.antt" && [ "$((${now:-0} - all))" = "$2" ]
     note $? "with $1, ${now:-no} lines must be believed: not $2 more than $all"
 }
-moves 'a clause more' 1 isolation/specs/One 's/^goneBy onFacch = .*/&\n&/'
-moves 'a comment more' 0 isolation/specs/One 's/^goneBy onFacch = .*/-- as is said\n\n&/'
-moves 'a definition that the promise comes to' 2 isolation/specs/Calls 's/^timerOf c s = (.*)/timerOf c s = doubled (\1)\n\nabbrev pub doubled : ℕ → ℕ\ndoubled n = n + n/'
-moves 'a definition that nothing comes to' 0 isolation/specs/Calls 's/^timerOf c s = .*/&\n\nabbrev pub doubled : ℕ → ℕ\ndoubled n = n + n/'
-moves 'a definition of another crate' 2 isolation/specs/Calls 's/^(use .*csn1[.]specs[.]Told[.][{])(.*)/\1isOne, \2/; s/^laidOut l = /&pick (isOne 1) [] /'
-moves 'an import left out' -2 isolation/specs/Calls '/^use .*[.]Channels[.][{]Channel, everyChannel/d'
-moves 'a line more in a module' 1 isolation/specs/Calls 's/^      replyBy = /      replyBy =\n          /'
-moves 'a promise of another name' -"$all" isolation/specs/Promises 's/The-answer-is-the-calls/The-answer-is-ours/' 2> /dev/null
+moves 'a clause more' 1 isolation/specs/One 's/^gone_by onFacch = .*/&\n&/'
+moves 'a comment more' 0 isolation/specs/One 's/^gone_by onFacch = .*/-- as is said\n\n&/'
+moves 'a definition that the promise comes to' 2 isolation/specs/Calls 's/^timer_of c s = (.*)/timer_of c s = doubled (\1)\n\nabbrev pub doubled : ℕ → ℕ\ndoubled n = n + n/'
+moves 'a definition that nothing comes to' 0 isolation/specs/Calls 's/^timer_of c s = .*/&\n\nabbrev pub doubled : ℕ → ℕ\ndoubled n = n + n/'
+moves 'a definition of another crate' 2 isolation/specs/Calls 's/^(use .*csn1[.]specs[.]Told[.][{])(.*)/\1is_one, \2/; s/^laid_out l = /&pick (is_one 1) [] /'
+moves 'an import left out' -2 isolation/specs/Calls 's/^(use .*[.]Channels[.][{]Channel), every_channel/\1/'
+moves 'a line more in a module' 1 isolation/specs/Calls 's/^      reply_by = /      reply_by =\n          /'
+moves 'a promise of another name' -"$all" isolation/specs/Promises 's/TheAnswerIsTheCalls/TheAnswerIsOurs/' 2> /dev/null
 
 # bad LABEL SAID EDIT [STATEMENT]: the page with this edit, beside one more statement if need be, is refused as SAID, and for nothing else.
 bad() {
@@ -92,7 +103,7 @@ bad 'a function that is not there' 'no public function is named bits::fetched' '
 bad 'a path that is not whole' 'no public function is named fetch
 bits::fetch stands in no row' 's/^\| `bits::fetch`/| `fetch`/'
 bad 'a function in two rows' 'bits::put stands in two rows' 's/^\| `bits::fetch`/&, `put`/'
-bad 'a promise that is not made' 'No-call-is-lost is no promise' '$s/$/ `No-call-is-lost`/'
+bad 'a promise that is not made' 'NoCallIsLost is no promise' '$s/$/ `NoCallIsLost`/'
 bad 'a page of promises left out' 'it does not name the page facch/specs/Promises' 's#facch/specs/Promises#the promises#'
 echo "$passed passed, $failed failed"
 [ "$failed" = 0 ] && [ "$passed" -gt 100 ]

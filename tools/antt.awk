@@ -2,7 +2,7 @@
 # A name of the logic's language is a run of characters up to a space or one of ( ) { } . ; , @ " and the two angle quotes. Bytes, not characters, are looked at.
 
 # Reads a file into T[1] to T[N]: its words in order, without comments and with "" for a text. L[i] is the line of a word, B[i] its indentation if its line begins with
-# it and -1 otherwise. Dots are words of three kinds, as the spaces around them have a meaning: PROJECT ("x .f"), ENDS ("λ x. e") and "." ("M.x"). S[n] is the bare text of line n.
+# it and -1 otherwise. Dots are words of three kinds, as the spaces around them have a meaning: PROJECT ("x .f"), ENDS ("λ x. e") and "." ("M.x" and "x.f"). S[n] is the bare text of line n.
 function lex(file, rust,    s, n, i, k, w, out, hit, deep, got) {
     N = LINES = deep = 0
     while ((got = (getline s < file)) > 0) {
@@ -19,9 +19,9 @@ function lex(file, rust,    s, n, i, k, w, out, hit, deep, got) {
         S[n] = s = out s
         i = match(s, /[^ \t]/) - 1
         s = " " s " "
-        gsub(/""/, " & ", s); gsub(/«/, " «", s); gsub(/»/, "» ", s)
+        gsub(/""/, " & ", s); gsub(/\.«/, ".\003", s); gsub(/«/, " «", s); gsub(/»/, "» ", s); gsub(/» \./, "».", s)
         gsub(/[ \t]\./, " " PROJECT, s); gsub(/\.[ \t]/, " " ENDS " ", s); gsub(/\./, " . ", s); gsub(PROJECT, " " PROJECT " ", s)
-        gsub(/[(){};,@]/, " & ", s)
+        gsub(/[(){};,@]/, " & ", s); gsub(/\003/, "«", s)
         k = split(s, w, " ")
         for (hit = 1; hit <= k; hit++) { T[++N] = w[hit]; L[N] = n; B[N] = hit == 1 ? i : -1 }
     }
@@ -35,6 +35,19 @@ function named(t) { return t != "" && t !~ /^[(){};,@.:]$/ && t != PROJECT && t 
 
 # «x» is x, unless it has an underscore, which is no argument's place then.
 function plain(t) { return t ~ /^«[^_]*»$/ ? substr(t, 3, length(t) - 4) : t }
+
+# The crate that a path of an import leads into, one of ours, by the list OURS; "" for a path into the library.
+function ours(path) {
+    if (path !~ /^Rattle[.]/) return ""
+    sub(/^Rattle[.]/, "", path); sub(/[.].*/, "", path)
+    return index(" " OURS " ", " " path " ") ? path : ""
+}
+# The crate and the page of a module of ours: "gcc Octet" of Rattle.gcc.specs.Octet; "" for anything else.
+function page(path,    c) {
+    if ((c = ours(path)) == "" || path !~ /^Rattle[.][^.]*[.]specs[.]/) return ""
+    sub(/^Rattle[.][^.]*[.]specs[.]/, "", path)
+    return c " " path
+}
 
 # The imports of the file that was read, U of them: PATH[k] the module, ITEM[k] the thing in it ("" for the module itself), AS[k] its name here, AT[k] its line,
 # GIVES[k] whether others get it from here, RUST[k] whether it is source that is imported. IN[i] marks the words of import lines.

@@ -1,9 +1,9 @@
 # What public functions state. (a) A function that another crate or C can call states its result, (b) and asks nothing of its caller.
-# (j) What it states determines the result. It is `ensures { λ r. ⌜ .. ⌝ }` once, with equations joined by × inside: `r ≡ ..`, or `r .field ≡ ..` for each field of
-# the result's struct, and `now (x .exit) ≡ ..` for each &mut x that it is lent; each once, and several as a tuple if need be. A right side names r or an exit only
-# where an equation before it has said what that is, so by induction two results that meet a contract are equal. Or it is a record of the list RECORDS, applied to r and
-# to every exit: of that it is a theorem, NAME-determines (audit-promises.awk).
-# (k) `≡` is the one of mathlib.Core.Path, and no parameter hides a name of the library in its function's contract. Nothing foreign is declared, whose contract would be assumed.
+# (j) What it states determines the result. It is `ensures { .. }`, or several with a name each, with equations joined by × inside: `result ≡ ..`, or `result.field ≡ ..` for each field of
+# the result's struct, and `x.new ≡ ..` for each &mut x that it is lent; each once, and several as a tuple if need be. A right side names the result or what is lent at the return only
+# where an equation before it has said what that is, so by induction two results that meet a contract are equal. Or it is a record of the list RECORDS, applied to the result and
+# to all that is lent at the return: of that it is a theorem, NAMEDetermines (audit-promises.awk).
+# (k) `≡` is the one of the library, and no parameter hides a name of the library in its function's contract. Nothing foreign is declared, whose contract would be assumed.
 function say(line, what) { print file ":" line ": " what; found++ }
 function wrong(what) { say(from, "public function " name ": " what) }
 
@@ -48,18 +48,19 @@ function lends(type,    w, k) {
 function head(i,    j, depth, text, clause, said) {
     F++; f_file[F] = file; f_crate[F] = crate; f_line[F] = L[i]
     f_name[F] = T[i + 1]; sub(/[<(].*/, "", f_name[F])
-    for (j = i + 1; j <= N && (depth || T[j] !~ /^(ensures|requires|[{;])$/); j++) {
+    for (j = i + 1; j <= N && (depth || T[j] !~ /^((ensures|requires)[*]?|[{;])$/); j++) {
         depth += gsub(/[([]/, "&", T[j]) - gsub(/[])]/, "&", T[j])
         text = text " " T[j]
     }
     f_head[F] = text
-    for (; T[j] == "ensures" || T[j] == "requires"; ) {
+    for (; T[j] ~ /^(ensures|requires)[*]?$/; ) {
         clause = T[j]
-        if (clause == "ensures") f_said[F]++; else f_asks[F] = 1
+        if (clause ~ /^ensures/) f_said[F]++; else f_asks[F] = 1
+        if (clause ~ /[*]$/) f_starred[F] = 1
         for (depth = said = 0; j <= N; j++) {
             if (T[j] == "{") depth++
             if (T[j] == "}") { depth--; if (!depth) break }
-            if (clause == "ensures" && said) f_says[F] = f_says[F] " " T[j]
+            if (clause ~ /^ensures/ && said) f_says[F, f_said[F]] = f_says[F, f_said[F]] " " T[j]
             if (T[j] == "{") said = 1
         }
         j++
@@ -110,9 +111,9 @@ function equation(k, m,    i, sign, left, n, w) {
     for (n = split(left, w, "\n"); n; n--) { if (w[n] in known) wrong("it says twice what " shown(w[n]) " is"); known[w[n]] }
 }
 function left_side(k, m) {
-    if (m == k && C[k] == r) return "r"
-    if (m == k + 2 && C[k] == r && dot(C[k + 1])) return "r ." bare(C[m])
-    if (m == k + 5 && C[k] == "now" && C[k + 1] == "(" && dot(C[k + 3]) && C[k + 4] == "exit" && C[m] == ")") return "exit " bare(C[k + 2])
+    if (m == k && C[k] == "result") return "r"
+    if (m == k + 2 && C[k] == "result" && dot(C[k + 1])) return "r ." bare(C[m])
+    if (m == k + 2 && dot(C[k + 1]) && C[m] == "new") return "exit " bare(C[k])
 }
 # A right side: what it names is known, and outside of brackets there are functions, their arguments, and the library's operators that bind closer than ≡.
 function right(k, m,    i) {
@@ -125,29 +126,30 @@ function right(k, m,    i) {
         return
     }
 }
-# A name of the result, or of what is lent at exit, that no equation before has determined; and a blank, which could be anything.
+# A name of the result, or of what is lent at the return, that no equation before has determined; and a blank, which could be anything.
 function mentions(k, m,    i, bound) {
     for (i = k; i <= m; i++) {
         if (C[i] == "λ") bound = 1
         if (C[i] == ENDS) bound = 0
         if ((C[i] == "_" && !bound) || C[i] ~ /^[?]/) wrong("a blank stands on the right side")
-        if (C[i] == "exit" && dot(C[i - 1]) && !(("exit " bare(C[i - 2])) in known)) wrong("the right side names an exit that is not said yet: " C[i - 2])
+        if (C[i] == "new" && dot(C[i - 1]) && !(("exit " bare(C[i - 2])) in known)) wrong("the right side names a return that is not said yet: " C[i - 2])
         # another thing's field, or the name of a field in a record, is not the result
-        if (C[i] != r || r == "_" || dot(C[i - 1]) || (C[i + 1] == "=" && C[i - 1] ~ /^[{;]$/)) continue
+        if (C[i] != "result" || dot(C[i - 1]) || (C[i + 1] == "=" && C[i - 1] ~ /^[{;]$/)) continue
         if (!("r" in known) && !(dot(C[i + 1]) && ("r ." bare(C[i + 2])) in known)) wrong("the right side names the result itself")
     }
 }
-# A record of the list: its arguments are the result once, every exit once, and otherwise neither.
+# A record of the list: its arguments are the result once, all that is lent at the return once, and otherwise neither.
 function stated(k, m,    i, left) {
     for (i = k + 1; i <= m; i++) {
         left = ""
-        if (C[i] == r) left = "r"
+        if (C[i] == "result" && !dot(C[i + 1])) left = "r"
+        else if (i + 2 <= m && dot(C[i + 1]) && C[i + 2] == "new") { left = left_side(i, i + 2); i += 2 }
         else if (C[i] == "(") left = left_side(i + 1, pair[i] - 1)
         if (left != "") { if (left in known) wrong("it says twice what " shown(left) " is"); known[left] }
         if (C[i] ~ /^[({]$/) { if (left == "") mentions(i, pair[i]); i = pair[i] }
     }
 }
-function shown(left) { return left == "r" ? "the result" : left ~ /^r / ? "the field" substr(left, 2) : "now (" substr(left, 6) " .exit)" }
+function shown(left) { return left == "r" ? "the result" : left ~ /^r / ? "the field" substr(left, 2) : substr(left, 6) ".new" }
 function words(k, m,    i, s) { for (i = k; i <= m; i++) s = s (i > k ? " " : "") (C[i] == PROJECT ? "." : C[i]); gsub(/[.] /, ".", s); return s }
 
 # The parameters of a head, with what is lent by &mut in mutable[].
@@ -173,34 +175,25 @@ function parameters(text,    i, c, s, depth, list, k, w, n, type) {
         if (type ~ /^ *&([^,]* )?mut /) { mutable[n]; sub(/^ *&([^,]* )?mut /, "", type) }
         if (lends(type " ")) wrong("the parameter " n " holds a &mut, of which nothing is looked at here")
         if (index(lib, " " n " ")) wrong("the parameter " n " hides a name of the library")
-        if (n == "now") lends_now = 1
     }
 }
 
 # The contract of function f.
 function contract(    i, k, n, w, type, list, said) {
     for (n in known) delete known[n]
-    lends_now = 0
     parameters(f_head[f])
-    if (f_said[f] > 1) { wrong("it has more than one ensures"); return }
-    k = split(f_says[f], C, " "); C[k + 1] = C[k + 2] = ""
-    # λ r. ⌜ .. ⌝, or with the type of r
-    i = 2
-    if (C[2] == "(") { r = C[3]; while (i < k && C[i] != ")") i++ } else r = C[2]
-    if (C[1] != "λ" || C[i + 1] != ENDS || C[i + 2] != "⌜" || C[k] != "⌝") { wrong("its ensures is not `λ r. ⌜ .. ⌝`"); return }
-    if (f_path[f] != "mathlib.Core.Path") wrong("≡ is not that of mathlib.Core.Path")
-    for (n = 1; lends_now && n <= k; n++) {
-        if (C[n] != "now" || !dot(C[n + 3]) || C[n + 4] !~ /^(entry|exit)$/) continue
-        wrong("the parameter now hides what reads lent memory")
-        break
-    }
-    if (i + 3 == k) { wrong("it states nothing"); return }
-    pairs(i + 3, k - 1)
+    if (f_starred[f]) { wrong("a starred clause says what is not looked at here"); return }
+    if (f_path[f] !~ /^(Rattle[.]std[.]specs[.]Prelude|mathlib[.]Core[.]Path)$/) wrong("≡ is not that of the library")
     said = found
-    states(i + 3, k - 1)
+    for (n = 1; n <= f_said[f]; n++) {
+        k = split(f_says[f, n], C, " "); C[k + 1] = C[k + 2] = ""
+        if (!k) { wrong("it states nothing"); return }
+        pairs(1, k)
+        states(1, k)
+    }
     if (found > said) return
-    for (n in mutable) if (!(("exit " n) in known)) wrong("it does not say what is lent as " n " at exit")
-    for (n in known) if (n ~ /^exit / && !(substr(n, 6) in mutable)) wrong("what it says of an exit is of no &mut: " substr(n, 6))
+    for (n in mutable) if (!(("exit " n) in known)) wrong("it does not say what is lent as " n " at the return")
+    for (n in known) if (n ~ /^exit / && !(substr(n, 6) in mutable)) wrong("what it says of a return is of no &mut: " substr(n, 6))
     if (result == "" || result == "( )") { for (n in known) if (n ~ /^r/) wrong("there is no result"); return }
     if ("r" in known) return
     type = result; sub(/^[ &]*/, "", type); sub(/[<\[ ].*/, "", type); sub(/.*::/, "", type)
@@ -212,7 +205,7 @@ function contract(    i, k, n, w, type, list, said) {
 }
 
 BEGIN {
-    split("→ × λ ∀ let in do elim ≡ = ↦ | [ ] ∧ ∨ ↔ ¬ ≢ ⊎ < ≤ ∗ unfold ⌜ ⌝ ; , @ : " ENDS, w, " "); for (k in w) syntax[w[k]]
+    split("→ × λ ∀ let in do elim ≡ = ↦ | [ ] ∧ ∨ ↔ ¬ ≢ ⊎ < ≤ ∗ == && || if then else unfold ⌜ ⌝ ; , @ : " ENDS, w, " "); for (k in w) syntax[w[k]]
     split("+ - * / % ^ ∷ ++", w, " "); for (k in w) closer[w[k]]
     split(RECORDS, w, " "); for (k in w) records[w[k]]
 }
@@ -223,9 +216,9 @@ BEGIN {
     operators = names = " "; equality = ""
     for (k = 1; k <= U; k++) {
         if (RUST[k] || ITEM[k] == "") continue
-        if (AS[k] == "_≡_") equality = ITEM[k] == "_≡_" ? PATH[k] : ITEM[k]
-        if (PATH[k] !~ /^Rattle·/) names = names AS[k] " "
-        if (AS[k] ~ /_/) for (j = split(AS[k], w, "_"); j; j--) if (w[j] != "") operators = operators w[j] " "
+        if (AS[k] == "◌≡◌") equality = ITEM[k] == "◌≡◌" ? PATH[k] : ITEM[k]
+        if (ours(PATH[k]) == "") names = names AS[k] " "
+        if (AS[k] ~ /◌/) for (j = split(AS[k], w, "◌"); j; j--) if (w[j] != "") operators = operators w[j] " "
     }
     heads()
 }

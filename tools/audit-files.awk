@@ -30,7 +30,7 @@ BEGIN {
     machine = "(^|[^A-Za-z0-9_.~)}*-])/(work|tmp|opt|root|home)/"
     registry = "https?://[^/ ]*(registry|crates[.]io|npmjs|yarnpkg|pypi|pythonhosted|rubygems|proxy[.]golang|maven|nexus|artifactory|docker|ghcr[.]io|deb[.]debian|archive[.]ubuntu|hackage|conda)"
     for (file = "crates.txt"; (getline s < file) > 0; ) {
-        row++; sub(/#.*/, "", s); sub(/:.*/, "", s); gsub(/[ \t]/, "", s)
+        row++; sub(/#.*/, "", s); sub(/:.*/, "", s); sub(/ +staticlib *$/, "", s); gsub(/[ \t]/, "", s)
         if (s != "") { listed[s] = row; crates++ }
     }
 }

@@ -1,5 +1,5 @@
 # (i) No file imports what it does not use. An operator is used where its first part stands, a module where a dot comes behind it; behind a dot, or before an equals sign in
-# braces, a word is a field's name. What a file passes on is used. In a source, what a contract imports is used in a contract, and source in the code.
+# braces, a word is a field's name. The minus is in a name with a dash too, since `rt tidy` keeps its import there. What a file passes on is used. In a source, what a contract imports is used in a contract, and source in the code.
 function say(line, what) { print file ":" line ": " what; found++ }
 
 # Whether word i is a name by itself, and names nothing's field.
@@ -15,22 +15,33 @@ function words(rust,    i, t, depth, clause, params, own) {
             # a function's own parameters hide what is imported, in its contract
             if (T[i] == "fn") { for (t in own) delete own[t]; params = 1 }
             if (params && T[i] ~ /:$/) { t = T[i]; sub(/:$/, "", t); own[t] }
-            if (T[i] ~ /^(ensures|requires)$/ && T[i + 1] == "{") { clause = 1; params = depth = 0; continue }
-            if (!clause) { if (T[i] == "{") params = 0; continue }
-            if (T[i] == "{") depth++
-            if (T[i] == "}" && !--depth) { clause = 0; continue }
+            if (!clause) {
+                clause = opens(i); depth = 0
+                if (clause == "{}" || T[i] == "{") params = 0
+                if (clause == "()") for (t in own) delete own[t]
+                continue
+            }
+            if (T[i] == substr(clause, 1, 1)) depth++
+            if (T[i] == substr(clause, 2) && !--depth) { clause = ""; continue }
             if (T[i] in own) continue
         }
         if (!free(i)) continue
         t = plain(T[i])
         used[t]; if (T[i + 1] == ".") led[t]
-        if (t == "←" || t == "do") { used["_>>=_"]; used[">>="]; used[">>"] }
-        if (t ~ /^_|_$/ && t != "_") { sub(/^_/, "", t); sub(/_$/, "", t); used[t] }
+        if (t ~ /[A-Za-z]-[a-z]/) used["-"]
+        if (t == "←" || t == "do") { used["◌>>=◌"]; used[">>="]; used[">>"] }
+        if (t ~ /^◌|◌$/ && t != "◌") { sub(/^◌/, "", t); sub(/◌$/, "", t); used[t] }
     }
     # a path may begin with an imported name
     for (i = 1; i <= U; i++) { t = PATH[i]; if (sub(/[.].*/, "", t)) led[t]; else if (ITEM[i] != "") led[t] }
 }
-function first_part(name,    w, k, n) { n = split(name, w, "_"); for (k = 1; k <= n; k++) if (w[k] != "") return w[k] }
+function first_part(name,    w, k, n) { n = split(name, w, "◌"); for (k = 1; k <= n; k++) if (w[k] != "") return w[k] }
+# Where a clause of a contract, a ghost item or what a tactic is told begins with word i, the brackets of what is the logic's in it.
+function opens(i) {
+    if (T[i] ~ /^#!?\[tactic$/) return "()"
+    if (T[i] ~ /^(ensures|requires)[*]?$/) return T[i + 1] == "{" || (named(T[i + 1]) && T[i + 2] == "{") ? "{}" : ""
+    return T[i] == "ghost" && T[i + 1] != "use" ? "{}" : ""
+}
 
 # In the code: a name in lower case is a module before ::, or a function before a bracket; any other is a type or a constant.
 function coded(name,    n, pattern) {
@@ -49,7 +60,7 @@ function coded(name,    n, pattern) {
         if (GIVES[k]) continue
         if (RUST[k]) there = coded(AS[k])
         else if (ITEM[k] == "") there = AS[k] in led
-        else there = AS[k] in used || (AS[k] ~ /_/ && first_part(AS[k]) in used)
+        else there = AS[k] in used || (AS[k] ~ /◌/ && first_part(AS[k]) in used)
         if (!there) say(AT[k], "imports " AS[k] " and does not use it")
     }
 }

@@ -2,18 +2,10 @@
 # the definitions of specs/ that it names, and on those that they name. What only contracts of private functions rest on stands in the crate's specs/Inner.antt, and nothing else
 # does; what no statement rests on stands nowhere. The crates of the list ELSEWHERE are not looked at: their Inner is not there yet.
 function say(line, what) { print file ":" line ": " what; found++ }
-# "gcc Octet" of a module's path Rattle·gcc·specs.specs.Octet or Rattle·gcc.specs.Octet; "" for anything else.
-function page(path,    c) {
-    sub(/^package[.]/, "", path)
-    if (path !~ /^Rattle·[A-Za-z0-9_]*(·specs)?[.]specs[.]/) return ""
-    c = path; sub(/^Rattle·/, "", c); sub(/(·specs)?[.].*/, "", c)
-    sub(/^[^.]*[.]specs[.]/, "", path)
-    return c " " path
-}
 # A name of the file that is read stands for a definition; an operator does by each of its parts.
 function stands(name, key,    w, k) {
     means[name] = key
-    if (name ~ /_/) for (k = split(name, w, "_"); k; k--) if (w[k] != "") means[w[k]] = key
+    if (name ~ /◌/) for (k = split(name, w, "◌"); k; k--) if (w[k] != "") means[w[k]] = key
 }
 function brought(    k, p) {
     for (k in means) delete means[k]

@@ -1,17 +1,8 @@
 # (l) Promises and proofs, one for one. Whatever a page specs/*Promises.antt declares with a closed type, `Name : Type n`, is a promise, a record or data too. It names something
 # of the specifications, and exactly one proof has it for its type, `name : Name`, at the left edge of a file of proofs/ that lines `mod` reach. All else on such a page is
 # named in a specification. No file of proofs/ makes a promise.
-# (m) For each record of the list RECORDS there is the promise NAME-determines, which speaks of two of them; of those of the list AWAITED it is not there yet.
+# (m) For each record of the list RECORDS there is the promise NAMEDetermines, which speaks of two of them; of those of the list AWAITED it is not there yet.
 function say(line, what) { print file ":" line ": " what; found++ }
-# The crate and the page of a module's path: "gcc Promises" of Rattle·gcc·specs.specs.Promises and of Rattle·gcc.specs.Promises.
-function page(path,    c) {
-    sub(/^package[.]/, "", path)
-    if (path !~ /^Rattle·[A-Za-z0-9_]*(·specs)?[.]specs[.]/) return ""
-    c = path; sub(/^Rattle·/, "", c); sub(/(·specs)?[.].*/, "", c)
-    sub(/^[^.]*[.]specs[.]/, "", path)
-    return c " " path
-}
-
 # Where the declaration of word i ends: before the next word at the left edge that is not this name again (a clause of it).
 function declared_to(i,    j) { for (j = i + 1; j <= N && !(B[j] == 0 && T[j] != T[i] && T[j] != "unfolding"); j++); return j - 1 }
 
@@ -40,7 +31,7 @@ function closed(d,    c) {
 function promises(    d, i, k, key, own) {
     declarations()
     for (d = 1; d <= D; d++) own[plain(T[d_name[d]])]
-    for (k = 1; k <= U; k++) if (PATH[k] ~ /^(package[.])?Rattle·/) own[AS[k]]
+    for (k = 1; k <= U; k++) if (ours(PATH[k]) != "") own[AS[k]]
     for (d = 1; d <= D; d++) {
         i = d_name[d]
         if (!closed(d)) { helper[file, plain(T[i])] = L[i]; continue }
@@ -117,11 +108,11 @@ END {
     n = split(RECORDS, w, " ")
     for (k = 1; k <= n; k++) {
         awaited = index(" " AWAITED " ", " " w[k] " ")
-        for (there = P; there && p_name[there] != w[k] "-determines"; there--);
+        for (there = P; there && p_name[there] != w[k] "Determines"; there--);
         file = there ? p_file[there] : "tools/audit"
-        if (!there && !awaited) say(1, "contracts state " w[k] ", and no page promises " w[k] "-determines")
-        if (there && awaited) say(p_line[there], w[k] "-determines is there: tools/audit awaits it no more")
-        if (there && p_says[there, w[k]] < 2) say(p_line[there], w[k] "-determines does not speak of two of " w[k])
+        if (!there && !awaited) say(1, "contracts state " w[k] ", and no page promises " w[k] "Determines")
+        if (there && awaited) say(p_line[there], w[k] "Determines is there: tools/audit awaits it no more")
+        if (there && p_says[there, w[k]] < 2) say(p_line[there], w[k] "Determines does not speak of two of " w[k])
     }
     if (found) exit 1
     printf "audit: %d promises, each with its proof\n", P

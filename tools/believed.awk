@@ -2,22 +2,17 @@
 # Every definition that a root's text reaches is counted, by name, through the lines `use`; behind a stop nothing is. A variable that has a definition's name is taken
 # for the definition, so that too much is counted rather than too little. What the libraries define and the code's own structs (specs.declared) have no lines here.
 function say(what) { print "tools/believed: " what > "/dev/stderr"; found++ }
-# The file of a module's path: crates/gcc/specs/Promises.antt of Rattle·gcc·specs.specs.Promises and of Rattle·gcc.specs.Promises.
-function file_of(path,    c) {
-    sub(/^package[.]/, "", path)
-    c = path; sub(/^Rattle·/, "", c); sub(/(·specs)?[.].*/, "", c)
-    sub(/^[^.]*[.]specs[.]/, "", path); gsub(/[.]/, "/", path)
-    return "crates/" c "/specs/" path ".antt"
-}
+# The file of a module's path: crates/gcc/specs/Promises.antt of Rattle.gcc.specs.Promises.
+function file_of(path,    w) { split(page(path), w, " "); gsub(/[.]/, "/", w[2]); return "crates/" w[1] "/specs/" w[2] ".antt" }
 function short(f) { sub(/^crates\//, "", f); sub(/[.]antt$/, "", f); return f }
 
 # One definition more, in the module that is open. It gives its name, and each part of an operator's.
 function unit(name, kind) { M++; u_file[M] = file; u_name[M] = name; u_kind[M] = kind; u_in[M] = outer[deep]; gives(name); return M }
-function gives(name,    w, k) { at[file, name] = M; for (k = split(name, w, "_"); k; k--) if (w[k] != "") at[file, w[k]] = M }
+function gives(name,    w, k) { at[file, name] = M; if (name ~ /◌/) for (k = split(name, w, "◌"); k; k--) if (w[k] != "") at[file, w[k]] = M }
 # A word of definition u: its line is one of the definition's, and what it may name is kept. A field's name is no name of a definition.
 function belongs(i, u) {
     if (L[i] != u_last[u]) { u_last[u] = L[i]; u_lines[u]++; if (!u_line[u]) u_line[u] = L[i] }
-    if (!named(T[i]) || T[i - 1] == PROJECT || (T[i + 1] == "=" && T[i - 1] ~ /^[{;]$/)) return
+    if (!named(T[i]) || T[i - 1] == PROJECT || (T[i - 1] == "." && !named(T[i - 2])) || (T[i + 1] == "=" && T[i - 1] ~ /^[{;]$/)) return
     u_words[u] = u_words[u] (T[i - 1] == "." ? plain(T[i - 2]) "." : "") plain(T[i]) " "
 }
 # Whether the words from i on are a name with its type, over parameters, and no clause.
@@ -43,7 +38,7 @@ function definitions(    i, j, k, n, u, w) {
         } else if (B[i] >= 0 && u_kind[u] == "data") for (k = i; named(T[k]); k++) gives(plain(T[k])) # constructors
         if (u) belongs(i, u)
     }
-    for (k = 1; k <= U; k++) { brings(AS[k], k); n = split(AS[k], w, "_"); for (j = 1; j <= n; j++) if (w[j] != "") brings(w[j], k) }
+    for (k = 1; k <= U; k++) { brings(AS[k], k); n = AS[k] ~ /◌/ ? split(AS[k], w, "◌") : 0; for (j = 1; j <= n; j++) if (w[j] != "") brings(w[j], k) }
 }
 function brings(name, k) { i_path[file, name] = PATH[k]; i_item[file, name] = ITEM[k] }
 
@@ -53,7 +48,7 @@ function meant(f, word,    path, item, k) {
     k = index(word, ".")
     if (k > 1 && (f, substr(word, 1, k - 1)) in i_path) { path = i_path[f, substr(word, 1, k - 1)]; item = substr(word, k + 1) }
     else if ((f, word) in i_path && i_item[f, word] != "") { path = i_path[f, word]; item = i_item[f, word] }
-    if (path !~ /^(package[.])?Rattle·/ || path ~ /[.]declared[.]/) return 0
+    if (page(path) == "" || path ~ /[.]declared[.]/) return 0
     if ((file_of(path), item) in at) return at[file_of(path), item]
     say(f " imports " item ", which " file_of(path) " does not define")
     return 0

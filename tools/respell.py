@@ -1,7 +1,7 @@
 #!/usr/bin/env python3
 """Respells the repository's own definitions and lemmas as today's Rattle has names: words in snake case, facts and types in camel case, a dash between two names.
 
-usage: python3 tools/respell.py [--plan]     in the repository, once, after /opt/rattle/port/port.py; --plan writes nothing
+usage: python3 tools/respell.py [--plan]     in the repository, once, after the kit's port/port.py; --plan writes nothing
 
 It goes by whole names. Names of src/ (functions, fields, variants), strings and comments in English stay. The table of what was renamed is docs/respelled.tsv.
 Where two names would fall together in a file, the lemma gets `_lem` behind it.

@@ -61,7 +61,7 @@ link() { gcc "$@" -o "$build/bench"; }
 run() { "$build/bench" "$@"; }
 if [ "$emulated" ]; then
     rt=$(readlink -f "$(command -v rt)")
-    kit=$(dirname "$(dirname "$rt")")/on/$(uname -m)
+    kit=$(dirname "$(dirname "$rt")")
     emulator=$(command -v qemu-x86_64 || echo "$kit/toolchain/bin/qemu-x86_64")
     # what plain.c takes of this machine's headers is the same for x86-64
     cross="clang --target=x86_64-linux-gnu -isystem /usr/include/$(gcc -print-multiarch)"

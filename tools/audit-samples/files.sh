@@ -11,7 +11,9 @@ worse 'c: by its path, in specs' $specs 19 'axiom: lem' '
 x = "--" (P.lem)'
 bad 'c: what rests on one' $proof 2 'axiom: Axiom' '-- A proof of it.
 x = Axiom.resize'
-bad 'd: no folder' crates.txt 2 'crates/gone is not there' 'good:
+bad 'd: no folder' crates.txt 4 'crates/gone is not there' 'good:
+low:
+low_c staticlib: low
 gone: good'
 tree
 mkdir "$t/crates/other"

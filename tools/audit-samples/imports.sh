@@ -1,12 +1,12 @@
 # Bad files for tools/audit-imports.awk: imports that are not used.
 bad 'i: a name' $proof 2 'imports refl and does not use it' '-- A proof of refl.
-use mathlib.Core.Path.{_≡_, refl}
+use mathlib.Core.Path.{◌≡◌, refl}
 x = y ≡ z'
-bad 'i: an operator' $proof 2 'imports _≡_ and does not use it' '-- A proof of a ≡ b.
-use mathlib.Core.Path.{_≡_, refl}
+bad 'i: an operator' $proof 2 'imports ◌≡◌ and does not use it' '-- A proof of a ≡ b.
+use mathlib.Core.Path.{◌≡◌, refl}
 x = refl'
-bad 'i: an operator of several parts' $proof 2 'imports _≡⟨_⟩_ and does not use it' '-- A proof of it.
-use mathlib.Core.Path.{_≡⟨_⟩_, _∎}
+bad 'i: an operator of several parts' $proof 2 'imports ◌≡⟨◌⟩◌ and does not use it' '-- A proof of it.
+use mathlib.Core.Path.{◌≡⟨◌⟩◌, ◌∎}
 x = y ∎'
 bad 'i: renamed' $proof 2 'imports pow-field and does not use it' '-- A proof of it.
 use lib.Pow.{field as pow-field}
@@ -37,14 +37,14 @@ crates/good/specs/Lib.antt:4: imports length and does not use it' 'use lib.ListN
 bad 'i: in a contract' $more 2 'imports length and does not use it' '// More of it.
 ghost use lib.ListN.{length};
 fn told(xs: &[u8]) -> usize
-    ensures { λ r. ⌜ r xs ⌝ }
+    ensures { result xs }
 {
     length(xs)
 }'
 bad 'i: a parameter of that name' $more 2 'imports tick and does not use it' '// More of it.
-ghost use Rattle·good·specs.specs.Half.{tick};
+ghost use Rattle.good.specs.Half.{tick};
 fn told(tick: u32) -> usize
-    ensures { λ r. ⌜ r tick ⌝ }
+    ensures { result tick }
 {
 }'
 bad 'i: source' $more 2 'imports Thing and does not use it' '// A Thing of it.

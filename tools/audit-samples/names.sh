@@ -1,21 +1,21 @@
 # Bad files for tools/audit-names.awk: names of the library that mean another thing, and statements that rest on no specification.
 other=crates/good/specs/Other.antt
-path='use mathlib.Core.Path.{_≡_}'
+path='use Rattle.std.specs.Prelude.{◌≡◌}'
 
 # The one that was tried and proved: an equality of one's own, and a function that is said to return 7 and returns 8.
-bad 'g: an equality of our own' $other 4 '_≡_ is defined here' '-- What is equal. Assumes nothing.
-use Prim.Native.Nat.{ℕ}
+bad 'g: an equality of our own' $other 4 '◌≡◌ is defined here' '-- What is equal. Assumes nothing.
+use Rattle.std.specs.Prelude.{ℕ}
 
-abbrev pub _≡_ : ℕ → ℕ → Type 0
-_≡_ a b = Unit {0}'
-bad 'g: and a contract with it' $more 2 '_≡_ comes from Rattle·good·specs.specs.Other' '// More of it.
-ghost use Rattle·good·specs.specs.Other.{_≡_};
+abbrev pub ◌≡◌ : ℕ → ℕ → Type 0
+◌≡◌ a b = Unit {0}'
+bad 'g: and a contract with it' $more 2 '◌≡◌ comes from Rattle.good.specs.Other' '// More of it.
+ghost use Rattle.good.specs.Other.{◌≡◌};
 fn told() -> u8
-    ensures { λ r. ⌜ r ≡ 7 ⌝ }
+    ensures { result ≡ 7 }
 {
     8
 }'
-for name in '_<_' '_≤_' '_+_' '_*_' '_/_' '_%_' '_^_' '_-_' '_∷_' '_++_' length ⊥ Unit; do
+for name in '◌<◌' '◌≤◌' '◌+◌' '◌*◌' '◌/◌' '◌%◌' '◌^◌' '◌-◌' '◌∷◌' '◌++◌' length ⊥ Unit; do
     bad "g: $name" $other 2 "$name is defined here" "-- Of our own. Assumes nothing.
 unfoldable pub $name {ℓ} : Type ℓ
 $name = x"
@@ -32,10 +32,10 @@ bad 'g: in quotes' $other 2 'length is defined here' '-- Of our own. Assumes not
 «length» : Type 0'
 worse 'g: under where' $specs 18 'length is defined here' '    length : Type 0
     length = x'
-bad 'g: a constructor' $other 4 '_∷_ is defined here' '-- Of our own. Assumes nothing.
+bad 'g: a constructor' $other 4 '◌∷◌ is defined here' '-- Of our own. Assumes nothing.
 
 pub data Both : Type 0 where
-  none-of _∷_ : Both'
+  none-of ◌∷◌ : Both'
 bad 'g: a field' $other 3 'length is defined here' '-- Of our own. Assumes nothing.
 pub record Both (a : x) : Type 0 where
   pub length : y'
@@ -48,18 +48,18 @@ pub data Both : Type 0 where
   deriving Discrete as length'
 bad 'g: a rule set' $other 2 'length is defined here' '-- Of our own. Assumes nothing.
 ruleset length = (a, b)'
-bad 'g: a fixity' $other 2 '_≡_ is defined here' '-- Of our own. Assumes nothing.
-infixr 9 _⊕_ _≡_'
-bad 'g: opened' $other 2 '_≡_ is defined here' '-- Of our own. Assumes nothing.
-open Pointed ℕ• using (base, point as _≡_)'
-bad 'g: a part of an operator of ours' $other 2 '_≡_, the library'\''s, by _≡_or_ is defined here' '-- Of our own. Assumes nothing.
-pub _≡_or_ : Type 0'
-bad 'g: the sign alone' $other 2 '_≡_, the library'\''s, by ≡ is defined here' '-- Of our own. Assumes nothing.
+bad 'g: a fixity' $other 2 '◌≡◌ is defined here' '-- Of our own. Assumes nothing.
+infixr 9 ◌⊕◌ ◌≡◌'
+bad 'g: opened' $other 2 '◌≡◌ is defined here' '-- Of our own. Assumes nothing.
+open Pointed ℕ• using (base, point as ◌≡◌)'
+bad 'g: a part of an operator of ours' $other 2 '◌≡◌, the library'\''s, by ◌≡◌or◌ is defined here' '-- Of our own. Assumes nothing.
+pub ◌≡◌or◌ : Type 0'
+bad 'g: the sign alone' $other 2 '◌≡◌, the library'\''s, by ≡ is defined here' '-- Of our own. Assumes nothing.
 ≡ : Type 0'
 bad 'g: a parameter' $other 2 'length is a variable here' '-- Of our own. Assumes nothing.
 pub f : (xs length : x) → y'
-bad 'g: a section'\''s parameter' $other 2 '_≡_ is a variable here' '-- Of our own. Assumes nothing.
-module _ {A : x} (_≡_ : y) where'
+bad 'g: a section'\''s parameter' $other 2 '◌≡◌ is a variable here' '-- Of our own. Assumes nothing.
+module _ {A : x} (◌≡◌ : y) where'
 bad 'g: of a function' $other 2 'length is a variable here' '-- Of our own. Assumes nothing.
 f = λ x (y : z) length. length'
 bad 'g: of a clause' $other 3 'length is a variable here' '-- Of our own. Assumes nothing.
@@ -71,41 +71,41 @@ f =
 bad 'g: with its type' $other 3 'length is a variable here' '-- Of our own. Assumes nothing.
 f =
     let length : x = y in length'
-bad 'g: renamed' $other 2 '_≡_ is another name of _≤_' '-- Of our own. Assumes nothing.
-use Prim.Native.Nat.{_≤_ as _≡_}
-x = _≡_'
-bad 'g: renamed, in a contract' $more 2 '_≡_ is another name of _≈_' '// More of it.
-ghost use Rattle·good·specs.specs.Half.{_≈_ as _≡_};
+bad 'g: renamed' $other 2 '◌≡◌ is another name of ◌≤◌' '-- Of our own. Assumes nothing.
+use Rattle.std.specs.Prelude.{◌≤◌ as ◌≡◌}
+x = ◌≡◌'
+bad 'g: renamed, in a contract' $more 2 '◌≡◌ is another name of ◌≈◌' '// More of it.
+ghost use Rattle.good.specs.Half.{◌≈◌ as ◌≡◌};
 fn told() -> u8
-    ensures { λ r. ⌜ r ≡ 7 ⌝ }
+    ensures { result ≡ 7 }
 {
 }'
 bad 'g: renamed, in a proof' $proof 2 'length is another name of size' '-- A proof of it.
-use Rattle·good.specs.Half.{size as length}
+use Rattle.good.specs.Half.{size as length}
 x = length'
 bad 'g: passed on' $other 2 'length is another name of size' '-- Of our own. Assumes nothing.
-pub use Rattle·good·specs.specs.Half.{size as length}'
-bad 'g: from two modules of the library' $other 2 '_≡_ comes from std.Path here and from mathlib.Core.Path in crates/good/specs/Half.antt' '-- Of our own. Assumes nothing.
-use std.Path.{_≡_}
+pub use Rattle.good.specs.Half.{size as length}'
+bad 'g: from two modules of the library' $other 2 '◌≡◌ comes from std.Path here and from Rattle.std.specs.Prelude in crates/good/specs/Half.antt' '-- Of our own. Assumes nothing.
+use std.Path.{◌≡◌}
 x = a ≡ b'
 bad 'g: a library hidden by a module' $other 2 "lib is a library's name" '-- Of our own. Assumes nothing.
-use Rattle·good·specs.specs.Half as lib
+use Rattle.good.specs.Half as lib
 x = lib.x'
 bad 'g: by the last word of a path' $other 2 "mathlib is a library's name" '-- Of our own. Assumes nothing.
-use Rattle·good·specs.specs.mathlib
+use Rattle.good.specs.mathlib
 x = mathlib.x'
 bad 'g: by a module below' $other 2 "mathlib is a library's name" '-- Of our own. Assumes nothing.
 pub mod mathlib'
 bad 'g: a path through another import' $other 3 'the path begins with q, which is no library and no crate' '-- Of our own. Assumes nothing.
-use Rattle·good·specs.specs.Half as q
+use Rattle.good.specs.Half as q
 use q.{half}
 x = half'
-bad 'h: a specification rests on a proof' $other 2 'a statement imports what is no specification: Rattle·low.proofs.Laws' '-- Of our own. Assumes nothing.
-use Rattle·low.proofs.Laws.{size}
+bad 'h: a specification rests on a proof' $other 2 'a statement imports what is no specification: Rattle.low.proofs.Laws' '-- Of our own. Assumes nothing.
+use Rattle.low.proofs.Laws.{size}
 x = size'
-bad 'h: and a contract' $more 2 'a statement imports what is no specification: Rattle·low.proofs.Laws' '// More of it.
-ghost use Rattle·low.proofs.Laws as laws;
+bad 'h: and a contract' $more 2 'a statement imports what is no specification: Rattle.low.proofs.Laws' '// More of it.
+ghost use Rattle.low.proofs.Laws as laws;
 fn told() -> u8
-    ensures { λ r. ⌜ laws.size r ⌝ }
+    ensures { laws.size result }
 {
 }'

@@ -1,7 +1,7 @@
 # Bad files for tools/audit-promises.awk: promises without a proof, proofs of what is not promised.
 page='-- What is promised besides. Assumes nothing.
-use mathlib.Core.Path.{_≡_}
-use Rattle·good·specs.specs.Half.{half}
+use Rattle.std.specs.Prelude.{◌≡◌}
+use Rattle.good.specs.Half.{half}
 '
 more_promises=crates/good/specs/MorePromises.antt
 more_proofs=crates/good/proofs/Promises.antt
@@ -29,17 +29,17 @@ sed -i 's/^pub a-half-is-low : .*/-- &/' "$t/$more_proofs"
 sed -i 's/A-half-is-low, //' "$t/$more_proofs"
 holds 'l: a comment is no proof' 1 "$promises:10: the promise A-half-is-low has no proof"
 tree
-sed -i 's/^use Rattle·good.specs.Promises/use Rattle·low.specs.Promises/' "$t/$more_proofs"
+sed -i 's/^use Rattle.good.specs.Promises/use Rattle.low.specs.Promises/' "$t/$more_proofs"
 holds "l: another crate's promises of these names" 1 "$more_proofs:5: a proof of a promise that is not there: A-half-is-low of crates/low/specs/Promises.antt
-$more_proofs:8: a proof of a promise that is not there: Kept-determines of crates/low/specs/Promises.antt
+$more_proofs:8: a proof of a promise that is not there: KeptDetermines of crates/low/specs/Promises.antt
 $promises:10: the promise A-half-is-low has no proof
-$promises:16: the promise Kept-determines has no proof"
+$promises:16: the promise KeptDetermines has no proof"
 tree
 sed -i 's/^pub mod Promises/pub mod Others/' "$t/crates/good/proofs/Lib.antt"
 holds 'l: proofs that nobody reads' 1 "$more_proofs:5: a proof that no line \`mod\` reaches: a-half-is-low
 $more_proofs:8: a proof that no line \`mod\` reaches: kept-determines
 $promises:10: the promise A-half-is-low has no proof
-$promises:16: the promise Kept-determines has no proof"
+$promises:16: the promise KeptDetermines has no proof"
 worse 'l: a second proof' $more_proofs 12 'a second proof of A-half-is-low of crates/good/specs/Promises.antt' '
 also-low : A-half-is-low
 also-low = a-half-is-low'
@@ -67,17 +67,17 @@ No-half-is-lost n = half n ≡ 0'
 tree
 rm "$t/$promises" "$t/crates/good/proofs/Laws.antt" "$t/$more_proofs"
 holds 'l: no promise' 1 'crates.txt:1: there is no promise
-tools/audit:1: contracts state Kept, and no page promises Kept-determines'
+tools/audit:1: contracts state Kept, and no page promises KeptDetermines'
 tree
-sed -i '/^abbrev pub Kept-determines/,$d' "$t/$promises"
+sed -i '/^abbrev pub KeptDetermines/,$d' "$t/$promises"
 sed -i '/^kept-determines/,$d' "$t/$more_proofs"
 sed -i 's/half, Kept}/half}/' "$t/$promises"
-sed -i 's/, Kept-determines as Determined}/}/' "$t/$more_proofs"
-holds 'm: nothing that determines' 1 'tools/audit:1: contracts state Kept, and no page promises Kept-determines'
+sed -i 's/, KeptDetermines as Determined}/}/' "$t/$more_proofs"
+holds 'm: nothing that determines' 1 'tools/audit:1: contracts state Kept, and no page promises KeptDetermines'
 tree
 sed -i 's/ → Kept before halves b n → / → /' "$t/$promises"
-holds 'm: of one alone' 1 "$promises:16: Kept-determines does not speak of two of Kept"
+holds 'm: of one alone' 1 "$promises:16: KeptDetermines does not speak of two of Kept"
 tree
 sed 's/^awaited=.*/awaited=Kept/' "$audit" > "$top/tools/awaits"
 chmod +x "$top/tools/awaits"
-audit=$top/tools/awaits holds 'm: awaited and there' 1 "$promises:16: Kept-determines is there: tools/audit awaits it no more"
+audit=$top/tools/awaits holds 'm: awaited and there' 1 "$promises:16: KeptDetermines is there: tools/audit awaits it no more"

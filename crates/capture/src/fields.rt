@@ -90,7 +90,7 @@ fn copy(kept: &mut [u8], got: usize, piece: &[u8], n: usize)
 // Gathers octets of a field whose head is there: how many are left to its last one is known, and they are copied at a stroke.
 fn gather_rest(kept: &mut [u8], got: usize, piece: &[u8]) -> Gathered
     requires { (length kept.old ≡ kept_length) × (head_length ≤ got) }
-    ensures { record { kept = kept.exit.now; taken = result.taken; whole = result.whole; have = result.have } ≡ gathering kept.entry.now got piece.now }
+    ensures { record { kept = kept.new; taken = result.taken; whole = result.whole; have = result.have } ≡ gathering kept.old got piece.now }
 {
     let n = octets_to(HEAD - 1 + length_in(kept), got);
     if piece.len() < n {
@@ -112,7 +112,7 @@ fn gather_rest(kept: &mut [u8], got: usize, piece: &[u8]) -> Gathered
 // Gathers the octets of a piece up to the one that ends the field, or all of them.
 pub(crate) fn gather(kept: &mut [u8], got: usize, piece: &[u8]) -> Gathered
     requires { length kept.old ≡ kept_length }
-    ensures { record { kept = kept.exit.now; taken = result.taken; whole = result.whole; have = result.have } ≡ gathering kept.entry.now got piece.now }
+    ensures { record { kept = kept.new; taken = result.taken; whole = result.whole; have = result.have } ≡ gathering kept.old got piece.now }
 {
     let mut have = got;
     let mut i: usize = 0;

@@ -17,7 +17,7 @@ const TIMES: usize = 8;
 pub const KEPT: usize = HEAD + TIMES + 4 * Setup::KEYS + 1;
 
 // Where a run stands: no setup came yet, the receiver is in the lent state, or the run has ended.
-#[derive(Drop)]
+#[derive(Clone, Copy)]
 pub enum Phase {
     Before,
     Running,
@@ -25,7 +25,7 @@ pub enum Phase {
 }
 
 // What is held between two octets of a capture, beside the octets kept of the present field and the lent state.
-#[derive(Drop)]
+#[derive(Clone, Copy)]
 pub struct Replay {
     // The number of the present field, counted from 1.
     pub number: u64,
@@ -43,7 +43,7 @@ pub struct Fed {
 }
 
 // What is held between two octets of a capture that is mended: the same, and the offset of the present field's tag.
-#[derive(Drop)]
+#[derive(Clone, Copy)]
 pub struct Mend {
     pub replay: Replay,
     pub offset: u64,

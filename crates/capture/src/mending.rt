@@ -66,9 +66,9 @@ fn put_part(
     listed: usize,
 ) -> Ends
     requires { listed + most_listed ≤ length list.old }
-    ensures { record { copy = record { octets = copy.exit.now; at = result.copied }; list = record { octets = list.new; at = result.listed } }
-        ≡ wrote octets.entry.now m.replay.number m.offset refusal
-        (record { copy = record { octets = copy.entry.now; at = copied }; list = record { octets = list.old; at = listed } }) }
+    ensures { record { copy = record { octets = copy.new; at = result.copied }; list = record { octets = list.new; at = result.listed } }
+        ≡ wrote octets.old m.replay.number m.offset refusal
+        (record { copy = record { octets = copy.old; at = copied }; list = record { octets = list.old; at = listed } }) }
 {
     if refusal == 0 {
         return Ends {
@@ -104,8 +104,8 @@ fn step(
     requires { (length kept.old ≡ kept_length) × ((length state.old ≡ state_length) × ((both (nat_le (copied + most_copied) (length copy.old)) (nat_le (listed + most_listed) (length list.old)) ≡ true)
         × ((is_over (stage_in m.replay.phase []) ≡ false) × (0 < length piece.now)))) }
     ensures { MendStepped (mending_of m kept.old state.old) piece.now
-        (record { copy = record { octets = copy.entry.now; at = copied }; list = record { octets = list.old; at = listed } }) result
-        kept.new state.new copy.exit.now list.new }
+        (record { copy = record { octets = copy.old; at = copied }; list = record { octets = list.old; at = listed } }) result
+        kept.new state.new copy.new list.new }
 {
     let r = m.replay;
     let phase = r.phase;
@@ -157,8 +157,8 @@ pub fn feed(
     listed: usize,
 ) -> Mended
     ensures { MendFed (mending_of m kept.old state.old) piece.now
-        (record { copy = record { octets = copy.entry.now; at = copied }; list = record { octets = list.old; at = listed } }) result
-        kept.new state.new copy.exit.now list.new }
+        (record { copy = record { octets = copy.old; at = copied }; list = record { octets = list.old; at = listed } }) result
+        kept.new state.new copy.new list.new }
 {
     if kept.len() != KEPT {
         return Mended {

@@ -1,10 +1,16 @@
 // Reads NOTIFICATION/FACCH messages in hexadecimal, a message to a line, and shows of each its record and as many octets written again, or its refusal.
+#![tactic(auto)]
+
 ghost use Rattle.std.specs.Prelude.{◌≤◌, length};
 
 use call::{Call, Description};
 use facch::{Notification, Page, Release6, Release7};
-use libc::STDOUT_FILENO;
+use std::io;
+use std::io::Stdout;
 use text::Line;
+
+// The most octets of input that are read.
+const INPUT: usize = 65536;
 
 // The octets of a line that are kept: a message has no more.
 const ROOM: usize = 64;
@@ -142,26 +148,28 @@ fn show_message(octets: &[u8]) -> Line
 }
 
 // The octets of a line, of which 64 are kept at most.
-fn show_line(digits: &[u8]) {
+fn show_line(digits: &[u8], out: &mut Stdout) -> io::Result<()> {
     let mut octets = [0u8; ROOM];
     let n = text::read_hex(digits, &mut octets);
-    show_message(&octets[..n]).end(STDOUT_FILENO);
+    show_message(&octets[..n]).end(out)?;
+    Ok(())
 }
 
-fn show_lines(text: &[u8]) {
+fn show_lines(text: &[u8], out: &mut Stdout) -> io::Result<()> {
     let mut start: usize = 0;
     let mut i: usize = 0;
     while i < text.len() {
         if text[i] == b'\n' {
-            show_line(&text[start..i]);
+            show_line(&text[start..i], out)?;
             start = i + 1;
         }
         i += 1;
     }
+    Ok(())
 }
 
-fn main() {
-    let mut text = io::large_buffer();
-    let n = io::read_full(0, &mut text);
-    show_lines(&text[..n]);
+fn main(rt: HostRuntime) -> io::Result<()> {
+    let mut text = [0u8; INPUT];
+    let n = text::read_full(&mut rt.stdin(), &mut text)?;
+    show_lines(&text[..n], &mut rt.stdout())
 }

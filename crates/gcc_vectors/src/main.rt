@@ -3,11 +3,17 @@
 // Standard input is vectors/osmo-msc-1.13.0-call-reference.tsv, of which the last column alone is read: the octets. From them each row is
 // made again, the octets as the writer puts them back; a refused row is its refusal number. So what must be written follows from the
 // vectors' own columns, as tools/expected works it out: the row, or 4 where its reference is above 99,999,999.
+#![tactic(auto)]
+
 ghost use Rattle.std.specs.Prelude.{◌+◌, ◌≤◌, length};
 
 use gcc::call_reference::Priority;
-use libc::STDOUT_FILENO;
+use std::io;
+use std::io::Stdout;
 use text::Line;
+
+// The most octets of input that are read.
+const INPUT: usize = 65536;
 
 fn wide(octet: u8) -> u64 {
     octet as u64
@@ -64,41 +70,45 @@ fn show_row(octets: [u8; 4]) -> Line {
 }
 
 // The row of the eight hexadecimal digits from a place on; a line that ends otherwise, as the first, has none.
-fn show_line(text: &[u8], at: usize)
+fn show_line(text: &[u8], at: usize, out: &mut Stdout) -> io::Result<()>
     requires { at + 8 ≤ length text.now }
 {
     let Octet::Is(a) = octet_at(text, at) else {
-        return;
+        return Ok(());
     };
     let Octet::Is(b) = octet_at(text, at + 2) else {
-        return;
+        return Ok(());
     };
     let Octet::Is(c) = octet_at(text, at + 4) else {
-        return;
+        return Ok(());
     };
     let Octet::Is(d) = octet_at(text, at + 6) else {
-        return;
+        return Ok(());
     };
-    show_row([a, b, c, d]).end(STDOUT_FILENO);
+    show_row([a, b, c, d]).end(out)?;
+    Ok(())
 }
 
-fn show_lines(text: &[u8]) {
+fn show_lines(text: &[u8], out: &mut Stdout) -> io::Result<()> {
     let mut i: usize = 0;
     while i < text.len() {
         if text[i] == b'\n' {
             if 8 <= i {
-                show_line(text, i - 8);
+                show_line(text, i - 8, out)?;
             }
         }
         i += 1;
     }
+    Ok(())
 }
 
-fn main() {
-    let mut text = io::large_buffer();
-    let n = io::read_full(0, &mut text);
-    show_lines(&text[..n]);
+fn main(rt: HostRuntime) -> io::Result<()> {
+    let mut text = [0u8; INPUT];
+    let n = text::read_full(&mut rt.stdin(), &mut text)?;
+    let mut out = rt.stdout();
+    show_lines(&text[..n], &mut out)?;
     let r = gcc::digits::read(&[0xe8, 0xd4, 0xa5, 0x0f, 0xff]);
     let digits = r.digits;
-    Line::new().word(&digits).end(STDOUT_FILENO);
+    Line::new().word(&digits).end(&mut out)?;
+    Ok(())
 }

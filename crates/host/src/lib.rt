@@ -1,3 +1,3 @@
 // The C library: the receiver on a lent state and the lookup of a key, as include/asternhaken.h declares them, each function a thin one over the crate that does the work.
-mod finding;
-mod state;
+pub mod finding;
+pub mod state;

@@ -1,4 +1,6 @@
 // The C library: a message as the list of its fields, as include/asternhaken.h declares it, each function a thin one over trace.
+#![tactic(auto)]
+
 ghost use Rattle.std.specs.Prelude.{◌≡◌, length};
 ghost use Rattle.trace.specs.Fields.{listing};
 ghost use Rattle.trace.specs.NchKinds.{nch_met};

@@ -1,4 +1,6 @@
 // The C library: the uplink on a lent state of its own, as include/asternhaken.h declares it, each function a thin one over uplink_lent.
+#![tactic(auto)]
+
 ghost use Rattle.std.specs.Prelude.{◌≡◌};
 ghost use Rattle.uplink.specs.declared.Signal.TheVariants.{Free, Busy, Request, Tick};
 ghost use Rattle.uplink_lent.specs.State.{setup_code, setup_octets, code_of, octets_after};

@@ -1,9 +1,10 @@
 // Runs the listed inputs of document 01 through the readers and the receiver, and says of each what came out, in the document's words.
 // The inputs marked * there are proved as one table in specs/Listed; this is the same table at work.
 use gcc::cause::Meaning;
-use libc::STDOUT_FILENO;
 use nch::Notification;
 use receiver::{Answer, Receiver, Setup};
+use std::io;
+use std::io::Stdout;
 use steps::events;
 use text::Line;
 
@@ -54,14 +55,15 @@ fn show_octets(row: &[u8], octets: &[u8]) -> Line {
     show_parts(Line::new().word(row), m, r.used as u64)
 }
 
-fn nch_rows() {
-    show_octets(b"twenty 2B", &[0x2b; 20]).end(STDOUT_FILENO);
-    show_octets(b"twenty 00", &[0x00; 20]).end(STDOUT_FILENO);
+fn nch_rows(out: &mut Stdout) -> io::Result<()> {
+    show_octets(b"twenty 2B", &[0x2b; 20]).end(out)?;
+    show_octets(b"twenty 00", &[0x00; 20]).end(out)?;
     let mut octets = [0x2bu8; 20];
     octets[0] = 0xcb;
-    show_octets(b"CB, nineteen 2B", &octets).end(STDOUT_FILENO);
-    show_octets(b"twenty FF", &[0xff; 20]).end(STDOUT_FILENO);
-    show_octets(b"19 octets", &[0x2b; 19]).end(STDOUT_FILENO);
+    show_octets(b"CB, nineteen 2B", &octets).end(out)?;
+    show_octets(b"twenty FF", &[0xff; 20]).end(out)?;
+    show_octets(b"19 octets", &[0x2b; 19]).end(out)?;
+    Ok(())
 }
 
 // ## The receiver
@@ -125,11 +127,12 @@ fn show_halves(row: &[u8], second: u32) -> Line {
     show_told(Line::new().word(row).word(b": "), b)
 }
 
-fn clock_rows() {
-    show_step(b"last tick 4,294,967,290, new 10", 4294967290, 10).end(STDOUT_FILENO);
-    show_step(b"step 2,147,483,648", 0, 2147483648).end(STDOUT_FILENO);
-    show_halves(b"T3206 5,000, first half at 1,000, second at 5,999", 5999).end(STDOUT_FILENO);
-    show_halves(b"the same at 6,000", 6000).end(STDOUT_FILENO);
+fn clock_rows(out: &mut Stdout) -> io::Result<()> {
+    show_step(b"last tick 4,294,967,290, new 10", 4294967290, 10).end(out)?;
+    show_step(b"step 2,147,483,648", 0, 2147483648).end(out)?;
+    show_halves(b"T3206 5,000, first half at 1,000, second at 5,999", 5999).end(out)?;
+    show_halves(b"the same at 6,000", 6000).end(out)?;
+    Ok(())
 }
 
 // ## GCC elements
@@ -165,17 +168,19 @@ fn show_digits(row: &[u8], octets: &[u8]) -> Line {
     Line::new().word(row).word(b": ").word(&digits)
 }
 
-fn gcc_rows() {
-    show_cause(b"cause 90", &[0x90]).end(STDOUT_FILENO);
-    show_cause(b"cause 10 91", &[0x10, 0x91]).end(STDOUT_FILENO);
-    show_cause(b"cause 10", &[0x10]).end(STDOUT_FILENO);
-    show_digits(b"00 00 00 23 A3", &[0x00, 0x00, 0x00, 0x23, 0xa3]).end(STDOUT_FILENO);
-    show_digits(b"E8 D4 A5 10 00", &[0xe8, 0xd4, 0xa5, 0x10, 0x00]).end(STDOUT_FILENO);
-    show_digits(b"E8 D4 A5 0F FF", &[0xe8, 0xd4, 0xa5, 0x0f, 0xff]).end(STDOUT_FILENO);
+fn gcc_rows(out: &mut Stdout) -> io::Result<()> {
+    show_cause(b"cause 90", &[0x90]).end(out)?;
+    show_cause(b"cause 10 91", &[0x10, 0x91]).end(out)?;
+    show_cause(b"cause 10", &[0x10]).end(out)?;
+    show_digits(b"00 00 00 23 A3", &[0x00, 0x00, 0x00, 0x23, 0xa3]).end(out)?;
+    show_digits(b"E8 D4 A5 10 00", &[0xe8, 0xd4, 0xa5, 0x10, 0x00]).end(out)?;
+    show_digits(b"E8 D4 A5 0F FF", &[0xe8, 0xd4, 0xa5, 0x0f, 0xff]).end(out)?;
+    Ok(())
 }
 
-fn main() {
-    nch_rows();
-    clock_rows();
-    gcc_rows();
+fn main(rt: HostRuntime) -> io::Result<()> {
+    let mut out = rt.stdout();
+    nch_rows(&mut out)?;
+    clock_rows(&mut out)?;
+    gcc_rows(&mut out)
 }

@@ -1,4 +1,6 @@
 // The writer of NT/N Rest Octets. The form is put together in words and its bits are counted on behind the last of 160, so that its length is known at its end; octets are touched last.
+#![tactic(auto)]
+
 ghost use Rattle.std.specs.Prelude.{◌≡◌, true, [], ◌∷◌, map, ◌+◌, ◌-◌, ◌≤◌, ◌<◌, ◌^◌, length, take, eqb};
 ghost use Rattle.bits.specs.Field.{pick};
 ghost use Rattle.csn1.specs.Format.{num, num_bits, opt, list, release, pad_bit, ◌⨟◌};
@@ -20,7 +22,7 @@ mod calls;
 pub mod checks;
 
 // What is written of the form, and how many bits it is.
-#[derive(Drop)]
+#[derive(Clone, Copy)]
 struct Pen {
     words: Words,
     at: usize,

@@ -5,9 +5,13 @@
 ghost use Rattle.std.specs.Prelude.{◌≤◌, length};
 
 use call::{Call, Description};
-use libc::STDOUT_FILENO;
 use receiver::{Answer, Common, Receiver, Record, Setup, Started, Told};
+use std::io;
+use std::io::Stdout;
 use text::Line;
+
+// The most octets of input that are read.
+const INPUT: usize = 65536;
 
 fn show_description(line: Line, d: Description) -> Line {
     let line = line.hex(b" channel ", d.channel as u64, 6);
@@ -95,28 +99,35 @@ fn show_told(t: Told) -> Line {
     line
 }
 
-fn show_head(refusal: u8, expired: usize, dropped: usize, count: usize) {
+fn show_head(
+    refusal: u8,
+    expired: usize,
+    dropped: usize,
+    count: usize,
+    out: &mut Stdout,
+) -> io::Result<()> {
     Line::new()
         .number(b"", refusal as u64)
         .number(b" ", expired as u64)
         .number(b" ", dropped as u64)
         .number(b" ", count as u64)
-        .end(STDOUT_FILENO);
+        .end(out)?;
+    Ok(())
 }
 
 // Shows an answer, and hands on the receiver in it.
-fn answered(a: Answer) -> Receiver {
-    show_head(a.refusal.number, a.expired, a.dropped, a.count);
+fn answered(a: Answer, out: &mut Stdout) -> io::Result<Receiver> {
+    show_head(a.refusal.number, a.expired, a.dropped, a.count, out)?;
     let entries = a.entries;
     let mut i: usize = 0;
     while i < 9 {
         if i < a.count {
             let t = entries[i];
-            show_told(t).end(STDOUT_FILENO);
+            show_told(t).end(out)?;
         }
         i += 1;
     }
-    a.receiver
+    Ok(a.receiver)
 }
 
 // The number whose decimal digits stand from a place on, less whole times 2^32.
@@ -177,7 +188,7 @@ fn started(setup: Setup, line: &[u8], from: usize) -> Started
     setup.start(&keys[..n], &sets[..n])
 }
 
-fn set_up(r: Receiver, line: &[u8], first: usize) -> Receiver
+fn set_up(r: Receiver, line: &[u8], first: usize, out: &mut Stdout) -> io::Result<Receiver>
     requires { first ≤ length line.now }
 {
     let tick = number(line, first);
@@ -196,11 +207,11 @@ fn set_up(r: Receiver, line: &[u8], first: usize) -> Receiver
         line,
         keys,
     );
-    show_head(s.refusal.number, 0, 0, 0);
+    show_head(s.refusal.number, 0, 0, 0, out)?;
     if s.refusal.number != 0 {
-        return r;
+        return Ok(r);
     }
-    s.receiver
+    Ok(s.receiver)
 }
 
 // An event without octets, by the first and the third letter of its word.
@@ -220,24 +231,24 @@ fn other(r: Receiver, first: u8, third: u8, tick: u32, key: u32) -> Answer {
     steps::events::reconfigured(r, tick)
 }
 
-fn event(r: Receiver, line: &[u8]) -> Receiver {
+fn event(r: Receiver, line: &[u8], out: &mut Stdout) -> io::Result<Receiver> {
     if line.len() < 3 {
-        return r;
+        return Ok(r);
     }
     let first = line[0];
     let at = after(line, 0);
     if first == b's' {
-        return set_up(r, line, at);
+        return set_up(r, line, at, out);
     }
     let tick = number(line, at);
     let rest = after(line, at);
     if first == b'n' {
-        return answered(message(r, tick, &line[rest..line.len()], true));
+        return answered(message(r, tick, &line[rest..line.len()], true), out);
     }
     if first == b'f' {
-        return answered(message(r, tick, &line[rest..line.len()], false));
+        return answered(message(r, tick, &line[rest..line.len()], false), out);
     }
-    answered(other(r, first, line[2], tick, number(line, rest)))
+    answered(other(r, first, line[2], tick, number(line, rest)), out)
 }
 
 // Before the first setup the receiver has no key.
@@ -248,21 +259,22 @@ fn no_receiver() -> Receiver {
     s.receiver
 }
 
-fn events(text: &[u8]) {
+fn events(text: &[u8], out: &mut Stdout) -> io::Result<()> {
     let mut r = no_receiver();
     let mut start: usize = 0;
     let mut i: usize = 0;
     while i < text.len() {
         if text[i] == b'\n' {
-            r = event(r, &text[start..i]);
+            r = event(r, &text[start..i], out)?;
             start = i + 1;
         }
         i += 1;
     }
+    Ok(())
 }
 
-fn main() {
-    let mut text = io::large_buffer();
-    let n = io::read_full(0, &mut text);
-    events(&text[..n]);
+fn main(rt: HostRuntime) -> io::Result<()> {
+    let mut text = [0u8; INPUT];
+    let n = text::read_full(&mut rt.stdin(), &mut text)?;
+    events(&text[..n], &mut rt.stdout())
 }

@@ -1,4 +1,4 @@
--- The digits that the kit's io finds are the numeral's. Assumes nothing.
+-- The digits that are found are the numeral's. Assumes nothing.
 use mathlib.Core.Path.{◌≡◌, refl}
 use mathlib.Core.Bool.{Bool, true, false, cond}
 use mathlib.Core.List.{List, []}
@@ -7,7 +7,7 @@ use native.Mathlib.Nat.{pow-zero, pow-suc, pow-succ', one-le-pow, pow-le-pow_rig
 use borrow.Author.Tests.{le-ltb, le-leb, lt-leb, ltb-false}
 use Prim.Native.Nat.{ℕ, zero, suc, ◌-◌, ◌*◌, ◌/◌, ◌^◌, ◌≤◌, ◌<◌, min, max}
 use lib.Dec.{ltb, leb}
-use Rattle.io.specs.Digits.{last_digits, IsDigitCount}
+use Rattle.text.specs.Found.{last_digits, IsDigitCount}
 use Rattle.text.specs.Digits.{more, numeral}
 
 cond_same : {A : Type 0} (t : Bool) (a : A) → cond t a a ≡ a
@@ -54,9 +54,9 @@ module _ (b : ℕ) (base : 1 < b) where
   within-room : (k m n r : ℕ) → m ≤ k → n < b ^ k → IsDigitCount b m n r → r ≤ k
   within-room k m n r l h f = by_contra r k (λ g. omega (arith, f.2 (omega arith), pow-le-pow_right {n = b} (omega arith) {i = k} {j = r - 1} (omega arith)))
 
-  pub io_digits : (k least n r : ℕ) → 0 < k → n < b ^ k → IsDigitCount b (min (max least 1) k) n r → last_digits b r n ≡ numeral b k least n
-  io_digits k least n zero p h f = absurd (omega (arith, f.0))
-  io_digits k least n (suc r) p h f = right-digits k least n r record {
+  pub found_digits : (k least n r : ℕ) → 0 < k → n < b ^ k → IsDigitCount b (min (max least 1) k) n r → last_digits b r n ≡ numeral b k least n
+  found_digits k least n zero p h f = absurd (omega (arith, f.0))
+  found_digits k least n (suc r) p h f = right-digits k least n r record {
     room = within-room k (min (max least 1) k) n (suc r) (omega arith) h f;
     holds = f.1;
     asked = omega (arith, f.0);

@@ -3,4 +3,5 @@ pub mod Found
 pub mod Lines
 pub mod Numerals
 pub mod Pairs
+pub mod Powers
 pub mod Promises

@@ -8,8 +8,7 @@ use borrow.Author.Tests.{le-ltb, le-leb, lt-leb, ltb-true, ltb-false, leb-true, 
 use Prim.Native.Nat.{ℕ, zero, suc, ◌+◌, ◌-◌, ◌*◌, ◌/◌, ◌%◌, ◌^◌, ◌≤◌, ◌<◌}
 use lib.ListN.{length, get_or, length-append}
 use lib.Dec.{ltb, leb}
-use Rattle.io.specs.Digits.{hex_digit_ascii}
-use Rattle.text.specs.Digits.{more, numeral, value, number_spelled}
+use Rattle.text.specs.Digits.{hex_digit_ascii, more, numeral, value, number_spelled}
 
 value_glyph : (d : ℕ) (t : Bool) → ltb d 10 ≡ t → d < 16 → value (cond t (48 + d) (87 + d)) ≡ d
 unfolding value

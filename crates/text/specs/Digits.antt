@@ -1,12 +1,15 @@
 -- Numbers as digits, the most significant first, and what digits are worth. Assumes nothing.
 use Rattle.std.specs.Prelude.{Bool, true, cond, List, [], ◌∷◌, ◌++◌, ℕ, zero, suc, ◌+◌, ◌-◌, ◌*◌, ◌/◌, ◌%◌, min, length, ltb, leb}
-use Rattle.io.specs.Digits.{hex_digit_ascii}
+
+-- the ASCII code of a digit below 16: `0` to `9`, then `a` to `f`
+abbrev pub hex_digit_ascii : ℕ → ℕ
+hex_digit_ascii d = cond (ltb d 10) (48 + d) (87 + d)
 
 -- whether there are digits before the last: more than one is asked for, or the number is not below the base
 abbrev pub more : ℕ → ℕ → ℕ → Bool
 more b least n = cond (ltb 1 least) true (leb b n)
 
--- the digits of n in base b: at least `least`, and at most k. Each is its ASCII code, `glyph` of the kit's io: `0` to `9`, then `a` to `f`
+-- the digits of n in base b: at least `least`, and at most k. Each is its ASCII code
 unfoldable pub numeral : ℕ → ℕ → ℕ → ℕ → List ℕ
 numeral b zero least n = []
 numeral b (suc k) least n = cond (more b least n) (numeral b k (least - 1) (n / b)) [] ++ (hex_digit_ascii (n % b) ∷ [])

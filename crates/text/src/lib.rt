@@ -1,10 +1,18 @@
-// Lines of text: words, decimal numbers and hexadecimal digits put behind one another and handed to a file; and hexadecimal digits read.
+// Lines of text: words, decimal numbers and hexadecimal digits put behind one another and handed to a file; and octets and hexadecimal digits read.
 //
 // A line is passed by value, and what puts something behind it answers the longer line.
-ghost use Rattle.std.specs.Prelude.{◌≡◌, [], ◌∷◌};
+#![tactic(auto)]
+
+ghost use Rattle.std.specs.Prelude.{◌≡◌, ◌≤◌, [], ◌∷◌, IfOk, length};
 ghost use Rattle.std.proofs.Math.Seq.{paste};
 ghost use Rattle.text.specs.Lines.{empty, added};
 ghost use Rattle.text.specs.Digits.{decimal, hexadecimal, value, octets_of, pairs};
+
+mod number;
+
+use number::{find_decimal, find_hex};
+use std::io;
+use std::io::{Read, Write};
 
 // How many octets have room in a line.
 pub const ROOM: usize = 512;
@@ -21,8 +29,8 @@ pub struct Line {
 
 // Puts a word from a place on, all of it or nothing where it does not fit, and answers the place behind it.
 pub fn put(octets: &mut [u8], at: usize, word: &[u8]) -> usize
-    ensures { (result ≡ (added word.now (record { octets = octets.entry.now; at = at })).at)
-        × (octets.exit.now ≡ (added word.now (record { octets = octets.entry.now; at = at })).octets) }
+    ensures { (result ≡ (added word.now (record { octets = octets.old; at = at })).at)
+        × (octets.new ≡ (added word.now (record { octets = octets.old; at = at })).octets) }
 {
     if octets.len() < at {
         return FULL;
@@ -40,21 +48,20 @@ pub fn put(octets: &mut [u8], at: usize, word: &[u8]) -> usize
 
 // Puts a number from a place on in decimal digits, likewise.
 pub fn put_decimal(octets: &mut [u8], at: usize, n: u64) -> usize
-    ensures { (result ≡ (added (decimal n) (record { octets = octets.entry.now; at = at })).at)
-        × (octets.exit.now ≡ (added (decimal n) (record { octets = octets.entry.now; at = at })).octets) }
+    ensures { (result ≡ (added (decimal n) (record { octets = octets.old; at = at })).at)
+        × (octets.new ≡ (added (decimal n) (record { octets = octets.old; at = at })).octets) }
 {
     let mut digits = [0u8; 20];
-    let k = io::decimal(n, &mut digits);
+    let k = find_decimal(n, &mut digits);
     put(octets, at, &digits[..k])
 }
 
 // Hands the first octets to a file: no contract can say what it gets. Of a line that is full it gets a question mark.
-fn hand(file: i32, octets: &[u8], at: usize) {
+fn hand<W: Write>(file: &mut W, octets: &[u8], at: usize) -> io::Result<()> {
     if octets.len() < at {
-        io::write_all(file, b"?\n");
-        return;
+        return file.write_all(b"?\n");
     }
-    io::write_all(file, &octets[..at]);
+    file.write_all(&octets[..at])
 }
 
 impl Line {
@@ -82,7 +89,7 @@ impl Line {
         ensures { result ≡ added (decimal n) (added word.now self) }
     {
         let mut digits = [0u8; 20];
-        let k = io::decimal(n, &mut digits);
+        let k = find_decimal(n, &mut digits);
         self.word(word).word(&digits[..k])
     }
 
@@ -91,18 +98,18 @@ impl Line {
         ensures { result ≡ added (hexadecimal least n) (added word.now self) }
     {
         let mut digits = [0u8; 16];
-        let k = io::hex(n, least, &mut digits);
+        let k = find_hex(n, least, &mut digits);
         self.word(word).word(&digits[..k])
     }
 
-    // Puts a line end and hands the line to a file. Answers what was handed on.
-    pub fn end(self, file: i32) -> Line
-        ensures { result ≡ added (10 ∷ []) self }
+    // Puts a line end and hands the line to a file. Answers what was handed on, or why the file did not take it.
+    pub fn end<W: Write>(self, file: &mut W) -> io::Result<Line>
+        ensures { IfOk result (λ line. line ≡ added (10 ∷ []) self) }
     {
         let line = self.word(b"\n");
         let octets = line.octets;
-        hand(file, &octets, line.at);
-        line
+        hand(file, &octets, line.at)?;
+        Ok(line)
     }
 }
 
@@ -139,4 +146,19 @@ pub fn read_hex(digits: &[u8], octets: &mut [u8]) -> usize
         n += 1;
     }
     n
+}
+
+// Reads until there is no more room or the input ends, and answers how many octets were read.
+pub fn read_full<R: Read>(input: &mut R, octets: &mut [u8]) -> io::Result<usize>
+    ensures { IfOk result (λ n. n ≤ length octets.new) }
+{
+    let mut n: usize = 0;
+    while n < octets.len() {
+        let more = input.read(&mut octets[n..])?;
+        if more == 0 {
+            break;
+        }
+        n += more;
+    }
+    Ok(n)
 }

@@ -1,0 +1,14 @@
+-- `layout::places::held_at` meets its contract. Assumes nothing.
+use mathlib.Core.Path.{sym, ◌∙◌}
+use Rattle.receiver.specs.Channels.{places}
+use Rattle.layout.proofs.States.{in_none, no_such, at_place}
+use Rattle.layout.proofs.places.held_at.Goals as goal
+
+pub returns-then-b-ne-LENGTH : goal.returns-then-b-ne-LENGTH
+returns-then-b-ne-LENGTH c = let a = c.args in c.no_record.ensures ∙ sym (in_none a.b.now places a.i _ _ c.if-b-ne-LENGTH.true)
+
+pub returns-then-i-ge-PLACES : goal.returns-then-i-ge-PLACES
+returns-then-i-ge-PLACES c = let a = c.args in c.no_record-then-i-ge-PLACES.ensures ∙ sym (no_such a.b.now places a.i _ _ c.if-b-ne-LENGTH.false c.if-i-ge-PLACES.true)
+
+pub returns : goal.returns
+returns c = let a = c.args in c.record_at.ensures ∙ sym (at_place a.b.now a.i _ _ c.if-b-ne-LENGTH.false c.if-i-ge-PLACES.false)

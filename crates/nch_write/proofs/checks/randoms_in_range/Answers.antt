@@ -1,0 +1,25 @@
+-- `nch_write::checks::randoms_in_range` meets its contract. Assumes nothing.
+use Rattle.csn1.proofs.Telling.{fails, passes}
+use Rattle.nch_write.proofs.Testing.{places_begin, places-used, places-unused, places-end, places_failed}
+use native.Mathlib.Omega.{arith}
+use Rattle.nch_write.proofs.checks.randoms_in_range.Goals as goal
+use Rattle.nch_write.proofs.checks.randoms_in_range.Goals.{then-i-n+else-not-flagged_right, else-i-n+else-not-random_is_zero}
+
+pub loop-i-init : goal.loop-i-init
+loop-i-init c = places_begin _ _ _ _ _ (omega arith)
+
+pub returns-then-not-flagged_right : goal.returns-then-not-flagged_right
+returns-then-not-flagged_right c = places_failed (places-used c.loop-i.invariant _ c.loop-i-test.true c.if-i-n.true (fails c.if-not-flagged_right.true-raw c.flagged_right.ensures))
+
+pub returns-then-not-random_is_zero : goal.returns-then-not-random_is_zero
+returns-then-not-random_is_zero c = places_failed (places-unused c.loop-i.invariant _ c.loop-i-test.true c.if-i-n.false (fails c.if-not-random_is_zero.true-raw c.random_is_zero.ensures))
+
+pub loop-i-preserved : goal.loop-i-preserved
+loop-i-preserved c =
+    elim c.if-i-n.branch [
+      | then-i-n+else-not-flagged_right w ↦ places-used c.loop-i.invariant _ c.loop-i-test.true w.if-i-n.true (passes w.if-not-flagged_right.false-raw w.flagged_right.ensures)
+      | else-i-n+else-not-random_is_zero w ↦ places-unused c.loop-i.invariant _ c.loop-i-test.true w.if-i-n.false (passes w.if-not-random_is_zero.false-raw w.random_is_zero.ensures)
+    ]
+
+pub returns : goal.returns
+returns c = places-end c.loop-i.invariant c.loop-i-test.false

@@ -1,0 +1,31 @@
+-- `numbers::on_nch::write` meets its contract. Assumes nothing.
+use mathlib.Core.Path.{◌∙◌}
+use borrow.Author.Tests.{not-true, not-false}
+use Rattle.arrays.proofs.Within.{within-rest}
+use Rattle.nch.specs.Places.{numbered_at}
+use Rattle.nch.specs.NotificationNumbers.{most}
+use Rattle.nch.proofs.NotificationFits.{record_whole, write_long, write_wide, write_held}
+use native.Mathlib.Omega.{arith}
+use Rattle.numbers.proofs.on_nch.write.Goals as goal
+
+pub returns-then-numbers-ne-LENGTH : goal.returns-then-numbers-ne-LENGTH
+returns-then-numbers-ne-LENGTH c = let a = c.args in write_long a.numbers.now a.octets.now c.if-numbers-ne-LENGTH.true
+
+pub returns-then-not-holds : goal.returns-then-not-holds
+unfolding most
+returns-then-not-holds c =
+    let a = c.args in
+    write_wide a.numbers.now a.octets.now c.if-numbers-ne-LENGTH.false
+    (within-rest numbered_at a.numbers.now most _ c.holds.ensures ∙ not-true _ c.if-not-holds.true-raw)
+
+pub record_from-m-requires : goal.record_from-m-requires
+record_from-m-requires c = tt
+
+pub returns : goal.returns
+unfolding most
+returns c =
+    let a = c.args in
+    let n = c.if-numbers-ne-LENGTH.false in
+    let h = within-rest numbered_at a.numbers.now most _ c.holds.ensures ∙ not-false _ c.if-not-holds.false-raw in
+    let f = record_whole a.numbers.now (record { long = omega (arith, n); held = h }) in
+    write_held a.numbers.now a.octets.now n c.record_from-m.result c.write.result _ h (c.record_from-m.ensures ∙ f) c.write.ensures.0 c.write.ensures.1
