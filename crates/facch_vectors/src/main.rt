@@ -1,4 +1,6 @@
 // Reads NOTIFICATION/FACCH messages in hexadecimal, a message to a line, and shows of each its record and as many octets written again, or its refusal.
+#![tactic(auto)]
+
 ghost use Rattle.std.specs.Prelude.{◌≤◌, length};
 
 use call::{Call, Description};

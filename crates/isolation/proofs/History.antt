@@ -39,6 +39,8 @@ module _ (key : ℕ) (c : Channel) (timer : ℕ) where
         summed = sym b.1;
         young = omega (arith, b.1);
       }
+  to_story (wait _ ∷ past) h long (inr (b, f)) = absurd b
+  to_story (happens _ _ ∷ past) h long (inr (b, f)) = absurd b
   to_story (m ∷ past) h long (inl s) =
       let o = to_story past (younger (took m) h) long s.3 in
       record {

@@ -1,4 +1,6 @@
 // Reads NT/N Rest Octets in hexadecimal, a message to a line, and shows of each its record and the octets written again, or its refusal.
+#![tactic(auto)]
+
 use call::{Call, Description};
 use nch::{Notification, Random, Reduced, Release6, Release7};
 use std::io;

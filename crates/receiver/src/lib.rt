@@ -84,7 +84,7 @@ pub const NO_KEY: u32 = 4294967295;
 pub const PLACES: usize = channels::CHANNELS * Setup::KEYS;
 
 // The place of subscription i on channel ch is channels::CHANNELS * i + ch.
-#[derive(Drop)]
+#[derive(Clone, Copy)]
 pub struct Receiver {
     pub slots: [Slot; PLACES],
     pub keys: [u32; Setup::KEYS],
@@ -100,7 +100,7 @@ pub struct Receiver {
 }
 
 // What an entry is told: document 01's number, and for 1 to 3 the record.
-#[derive(Drop)]
+#[derive(Clone, Copy)]
 pub struct Told {
     // Reference times 2 plus service flag.
     pub key: u64,

@@ -18,7 +18,7 @@ use receiver::messages::Owned;
 use receiver::{Common, MOST_ENTRIES, Record, meeting, messages};
 
 // The entries of a message, in order.
-#[derive(Drop)]
+#[derive(Clone, Copy)]
 pub struct Entries {
     pub items: [Record; MOST_ENTRIES],
     pub count: usize,
