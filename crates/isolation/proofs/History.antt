@@ -26,8 +26,6 @@ module _ (key : ℕ) (c : Channel) (timer : ℕ) where
   to_story : (past : List Moment) (h : Half) → 1 ≤ timer → Standing key c timer past h → CameAndStayed key c timer past h
   unfolding Standing
   to_story [] h long s = absurd s
-  to_story (wait _ ∷ past) h long (inr s) = absurd s.0
-  to_story (happens _ _ ∷ past) h long (inr s) = absurd s.0
   to_story (entry e ∷ past) h long (inr (b, f)) =
       record {
         before = past;
