@@ -1,0 +1,10 @@
+-- `host_views::state::asternhaken_next_expiry` meets its contract. Assumes nothing.
+use borrow.Author.Tests.{eq-eqb, ne_eqb}
+use Rattle.layout.specs.Layout.{state_length}
+use Rattle.host_views.proofs.state.asternhaken_next_expiry.Goals as goal
+
+pub returns-then-state-ne-LENGTH : goal.returns-then-state-ne-LENGTH
+returns-then-state-ne-LENGTH c = (rw (ne_eqb _ state_length c.if-state-ne-LENGTH.true), c.next_expiry.ensures)
+
+pub returns : goal.returns
+returns c = (rw (eq-eqb _ state_length c.if-state-ne-LENGTH.false), c.next_expiry.ensures)
