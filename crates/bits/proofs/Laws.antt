@@ -144,7 +144,8 @@ unfolding field set_field
 field-set-same s at zero v h l = omega arith
 field-set-same s at (suc w) v h l =
     let t : List ℕ = set_field s at w (v / 2) in
-    let e1 : field (set_bit t (at + w) (v % 2)) at w ≡ field t at w = field_cong (set_bit t (at + w) (v % 2)) t at w (λ k q. bit-set-other t (at + w) (at + k) (v % 2) (omega arith) (λ e. omega arith)) in
+    let e1 : field (set_bit t (at + w) (v % 2)) at w ≡ field t at w =
+    field_cong (set_bit t (at + w) (v % 2)) t at w (λ k q. bit-set-other t (at + w) (at + k) (v % 2) (omega arith) (λ e. omega arith)) in
     let e2 : field t at w ≡ v / 2 = field-set-same s at w (v / 2) (omega (arith, pow-suc 2 w)) (omega arith) in
     let e3 : bit (set_bit t (at + w) (v % 2)) (at + w) ≡ v % 2 = bit-set-same t (at + w) (v % 2) (omega arith) (omega (arith, length-set_field s at w (v / 2))) in
     omega arith

@@ -87,7 +87,8 @@ module _ (n p : ℕ) where
   value-size (l, none) e = simp length-append (omega (arith, length-row widths l e))
   value-size (l, some d) e =
       let q : ℕ = p + length (row_bits widths l) in
-      length-append (row_bits widths l) (1 ∷ (format description).bits n (q + 1) d) ∙ omega (arith, length-row widths l e, ap length (description_anywhere n (q + 1) d), ap length (description_anywhere n p d), description-size d)
+      length-append (row_bits widths l) (1 ∷ (format description).bits n (q + 1) d)
+      ∙ omega (arith, length-row widths l e, ap length (description_anywhere n (q + 1) d), ap length (description_anywhere n p d), description-size d)
 
 -- of a record: whether it is described, whether it hops, whether over a short list, and the allocation's length
 abbrev pub size_from : Bool → Bool → Bool → ℕ → ℕ

@@ -71,7 +71,8 @@ module _ (s d : List ℕ) (p : ℕ) (c : Description) (r : Room (format descript
     description_put =
         let b = as_bit c.hopping in
         let o = there c.hopping (frequencies_of c) in
-        let e : num_bits 25 (c.channel * 2 + bool_byte c.hopping) ≡ num_bits 24 c.channel ++ num_bits 1 b = ap (λ (k : ℕ). num_bits 25 (c.channel * 2 + k)) (flag_byte c.hopping) ∙ num-join 24 1 c.channel b (flag_lt c.hopping) in
+        let e : num_bits 25 (c.channel * 2 + bool_byte c.hopping) ≡ num_bits 24 c.channel ++ num_bits 1 b = ap (λ (k : ℕ). num_bits 25 (c.channel * 2 + k)) (flag_byte c.hopping)
+        ∙ num-join 24 1 c.channel b (flag_lt c.hopping) in
         put_then s d p 25 (c.channel * 2 + bool_byte c.hopping) x (omega arith) channel-within channel_lt (when_bits (format frequencies) 0 0 o)
         ∙ ap₂ (λ (a b : List ℕ). put_bits s p (a ++ b)) e (sym (when_anywhere (format frequencies) frequencies_anywhere 0 (0 + length (num_bits 24 c.channel ++ num_bits 1 b)) o))
 
@@ -119,7 +120,8 @@ module _ (s d : List ℕ) (p : ℕ) (c : Call) (r : Room group_call (call_value 
       let bs = when_bits (format description) 0 0 (there t (description_value c.description)) in
       let e : num_bits 37 (head_number c) ++ bs ≡ row_bits widths l ++ (as_bit t ∷ bs) = ap (λ (k : ℕ). num_bits 37 k ++ bs) head-is ∙ sym (row-led widths l (as_bit t) bs r.fits.0.0 (flag_lt t)) in
       put_then s d p 37 (head_number c) x (omega arith) head-within head_lt bs
-      ∙ ap (put_bits s p) (e ∙ ap (λ (b : List ℕ). row_bits widths l ++ b) (opt_anywhere (format description) description_anywhere 0 (0 + length (row_bits widths l)) t (description_value c.description)))
+      ∙ ap (put_bits s p) (e ∙ ap (λ (b : List ℕ). row_bits widths l ++ b)
+      (opt_anywhere (format description) description_anywhere 0 (0 + length (row_bits widths l)) t (description_value c.description)))
 
   pub plain_put : c.hasDescription ≡ false → d ≡ put_bits s p (group_call.bits 0 0 (call_value c))
   plain_put e =

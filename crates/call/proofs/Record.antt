@@ -17,7 +17,8 @@ use Rattle.bits.proofs.Answers.{both_true}
 use Rattle.csn1.proofs.Writing.{fits-length, bit-back, flag-back, flag_lt, there_back}
 use Rattle.call.specs.declared.Call.{Call}
 use Rattle.call.specs.declared.Description.{Description}
-use Rattle.call.specs.Call.{CallValue, DescriptionValue, group_call, description, frequencies, call_of, call_value, description_of, description_value, with_frequencies, no_call, no_description, one_to_eight, hopping_bit}
+use Rattle.call.specs.Call.{CallValue, DescriptionValue, group_call, description, frequencies, call_of, call_value}
+use Rattle.call.specs.Call.{description_of, description_value, with_frequencies, no_call, no_description, one_to_eight, hopping_bit}
 use Rattle.call.specs.Write.{call_in_range, call_is_zero, call_is_low, call_length_right, call_hops_right, frequencies_in_range, description_in_range, description_is_zero, head_in_range}
 use Rattle.call.proofs.Laws.{widths, value-size}
 

@@ -13,7 +13,8 @@ use borrow.Author.Tests.{le-leb, lt-leb, eq-eqb, leb-true, leb-false}
 use Rattle.bits.specs.Field.{bit, field, pick}
 use Rattle.bits.proofs.Laws.{field-zero}
 use Rattle.csn1.specs.declared.Refusal.{Refusal}
-use Rattle.csn1.specs.Format.{Res, ok, bad, ◌then◌, ran_out, ground, is_clip, Format, num, row, total, fields_at, pad_bit, coded, ◌▹◌, ◌⨟◌, opt, list, release, checked, either, when, numbered_as, in_release}
+use Rattle.csn1.specs.Format.{Res, ok, bad, ◌then◌, ran_out, ground, is_clip, Format, num, row, total, fields_at}
+use Rattle.csn1.specs.Format.{pad_bit, coded, ◌▹◌, ◌⨟◌, opt, list, release, checked, either, when, numbered_as, in_release}
 use Rattle.csn1.specs.Told.{lead}
 use Rattle.csn1.specs.Clip.{Coming, BothThere, Agree}
 use Rattle.csn1.proofs.Lawful.{flag-back, flag-stands}

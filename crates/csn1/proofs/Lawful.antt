@@ -13,7 +13,8 @@ use borrow.Author.Tests.{le-leb, leb-true, eq-eqb, ne_eqb, eqb-true, eqb-false}
 use Rattle.bits.specs.Field.{bit, field, pick}
 use Rattle.bits.proofs.Laws.{field-suc, field-zero, field_lt}
 use Rattle.csn1.specs.declared.Refusal.{Refusal}
-use Rattle.csn1.specs.Format.{Res, ok, bad, ◌then◌, ran_out, ground, Format, num_bits, num, total, row_bits, fields_at, RowFits, row, ◌▹◌, ◌⨟◌, opt, opt_bits, OptFits, items_bits, read_items, ItemsFit, list, pad_bit, coded_bit, coded, release_bits, release, checked, renumbered, is_clip, numbered_as, in_release, either_bits, EitherFits, either, when_bits, WhenFits, when, Holds, Binary}
+use Rattle.csn1.specs.Format.{Res, ok, bad, ◌then◌, ran_out, ground, Format, num_bits, num, total, row_bits, fields_at, RowFits, row, ◌▹◌, ◌⨟◌, opt, opt_bits, OptFits, items_bits}
+use Rattle.csn1.specs.Format.{read_items, ItemsFit, list, pad_bit, coded_bit, coded, release_bits, release, checked, renumbered, is_clip, numbered_as, in_release, either_bits, EitherFits, either, when_bits, WhenFits, when, Holds, Binary}
 use Rattle.csn1.specs.Promises.{Stands, Grounded, Lawful}
 use Rattle.csn1.proofs.Holding.{holds-join, holds-left, holds-right, binary-join, num_bits-binary, length-num_bits, holds-field, field-holds}
 

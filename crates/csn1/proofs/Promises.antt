@@ -8,7 +8,8 @@ use Rattle.csn1.specs.Format.{Format, ok, put_bits, Holds}
 use Rattle.csn1.specs.Grammar.{Grammar, number, numbers, low-high, ◌and◌, ◌then_by◌, flagged, listed, later, one_of, only_if, refuse, inside, format, Numbered}
 use Rattle.csn1.specs.Promises.{Lawful, EveryGrammarIsLawful, WhatWasWrittenIsRead}
 use Rattle.csn1.proofs.Holding.{length_put, holds_put}
-use Rattle.csn1.proofs.Lawful.{num-lawful, row_lawful, coded-lawful, after-lawful, seq_lawful, opt_lawful, list_lawful, release-lawful, checked-lawful, clip_not_zero, inside-lawful, either_lawful, when-lawful}
+use Rattle.csn1.proofs.Lawful.{num-lawful, row_lawful, coded-lawful, after-lawful, seq_lawful, opt_lawful}
+use Rattle.csn1.proofs.Lawful.{list_lawful, release-lawful, checked-lawful, clip_not_zero, inside-lawful, either_lawful, when-lawful}
 
 pub lawful : {A : Type 0} (f : Grammar A) → Numbered f → Lawful (format f)
 lawful (number w) n = num-lawful w

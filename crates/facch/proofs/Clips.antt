@@ -25,7 +25,8 @@ use Rattle.call.proofs.Numbering.{call_plain, call-outside}
 use Rattle.facch.specs.declared.Reading.{Reading}
 use Rattle.facch.specs.Message.{counts, release6, release7, paging, Value, message, notification}
 use Rattle.facch.specs.Told.{record_of, reading_of, read_of}
-use Rattle.facch.specs.Promises.{AClipIsToldWhereItIs, TheNumberSaysTheRelease, TheListedClipsAreToldSo, ToldAsAClip, refused, before-release7, before-release6, AClipIsToldAsAClip, without_both, without7}
+use Rattle.facch.specs.Promises.{AClipIsToldWhereItIs, TheNumberSaysTheRelease, TheListedClipsAreToldSo, ToldAsAClip, refused}
+use Rattle.facch.specs.Promises.{before-release7, before-release6, AClipIsToldAsAClip, without_both, without7}
 use Rattle.facch.proofs.Numbering.{message-numbered}
 
 -- ## Where bits ran out

@@ -29,7 +29,8 @@ use Rattle.facch.specs.declared.Notification.{Notification}
 use Rattle.facch.specs.Message.{one_to_nine, PagingValue, paging, Release6Value, release6, Release7Value, release7, Value, notification}
 use Rattle.facch.specs.Told.{no_page, page_of, cell_count_in, b22_count_in, release6_of, release7_of, is_paging, call_in, page_in, record_of}
 use Rattle.facch.specs.Back.{paging_value, release6_value, release7_value, value_of}
-use Rattle.facch_write.specs.Write.{identity_in_range, page_in_range, page_is_zero, notified_in_range, release6_in_range, release7_in_range, in_range, identity_right, record_tests, record_refusal, form_fits, write_number}
+use Rattle.facch_write.specs.Write.{identity_in_range, page_in_range, page_is_zero, notified_in_range, release6_in_range, release7_in_range}
+use Rattle.facch_write.specs.Write.{in_range, identity_right, record_tests, record_refusal, form_fits, write_number}
 
 -- only 0 is below 1
 pub below_one : (n : ℕ) → eqb n 0 ≡ ltb n 1

@@ -13,7 +13,8 @@ use lib.Seq.{length-take-le, take-append_seam, drop-append_seam}
 use Rattle.bits.specs.Field.{pick, both}
 use Rattle.gcc.specs.Octet.{all_between}
 use Rattle.gcc.specs.Numeral.{Spells}
-use Rattle.gcc.specs.Cause.{meaning_numbers, is_listed, parse, led, single, meaning_of, in_places, cause_of, refused, said, told, read_of, cause_octets, parts_of, diagnostics_of, right, write_number, write_to}
+use Rattle.gcc.specs.Cause.{meaning_numbers, is_listed, parse, led, single, meaning_of, in_places, cause_of, refused}
+use Rattle.gcc.specs.Cause.{said, told, read_of, cause_octets, parts_of, diagnostics_of, right, write_number, write_to}
 use Rattle.gcc.specs.Inner.{closing}
 use Rattle.gcc.specs.Promises as promises
 use Rattle.gcc.specs.declared.cause.Cause.{Cause}

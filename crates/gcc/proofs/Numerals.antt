@@ -3,7 +3,8 @@ use mathlib.Core.Path.{◌≡◌, refl, sym, ap, ◌∙◌}
 use mathlib.Core.Bool.{true}
 use mathlib.Core.List.{List, [], ◌∷◌, ◌++◌, append_assoc}
 use native.Mathlib.Omega.{arith}
-use native.Mathlib.Nat.{pow-zero, pow-suc, pow-succ', div-one, div-div-eq-div-mul, mul_assoc, one-mul, add-mul, mul-le-mul_right, mod-one, div-eq_of_lt-le, pow-le-pow_right, one-le-pow, mod-eq_of_lt, mod-lt, zero-mul, mul_comm, zero-add, suc-add}
+use native.Mathlib.Nat.{pow-zero, pow-suc, pow-succ', div-one, div-div-eq-div-mul, mul_assoc, one-mul, add-mul, mul-le-mul_right}
+use native.Mathlib.Nat.{mod-one, div-eq_of_lt-le, pow-le-pow_right, one-le-pow, mod-eq_of_lt, mod-lt, zero-mul, mul_comm, zero-add, suc-add}
 use native.Mathlib.Numerals.{add-one}
 use borrow.Author.Tests.{le-leb}
 use Prim.Native.Nat.{ℕ, zero, suc, ◌+◌, ◌-◌, ◌*◌, ◌/◌, ◌%◌, ◌^◌, ◌≤◌, ◌<◌, zero-le, suc-le-suc}

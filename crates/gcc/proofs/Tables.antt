@@ -9,7 +9,8 @@ use lib.Dec.{leb, eqb}
 use Rattle.bits.specs.Field.{pick, both}
 use Rattle.gcc.specs.Octet.{is_set}
 use Rattle.gcc.specs.declared.message_type.Kind.{Kind}
-use Rattle.gcc.specs.declared.message_type.Kind.TheVariants.{ImmediateSetup, Setup, Connect, Termination, TerminationRequest, TerminationReject, Status, GetStatus, SetParameter, ImmediateSetup2, Nothing}
+use Rattle.gcc.specs.declared.message_type.Kind.TheVariants.{ImmediateSetup, Setup, Connect, Termination, TerminationRequest}
+use Rattle.gcc.specs.declared.message_type.Kind.TheVariants.{TerminationReject, Status, GetStatus, SetParameter, ImmediateSetup2, Nothing}
 use Rattle.gcc.specs.declared.message_type.Written.{Written}
 use Rattle.gcc.specs.declared.call_state.State.{State}
 use Rattle.gcc.specs.declared.call_state.State.TheVariants.{U0, U1, U2sl, U3, U4, U5, U0p, U2wr, U2r, U2ws, U2sr, U2nc, Reserved}
@@ -176,7 +177,11 @@ pub state_attributes_are_read_back : promises.StateAttributesAreReadBack
 unfolding state-attributes.read_of state-attributes.written_of is_set
 state_attributes_are_read_back a = go a.da a.ua a.comm a.oi
   where
-    go : (da ua comm oi : Bool) → state-attributes.read_of (state-attributes.written_of (record { da = da; ua = ua; comm = comm; oi = oi })) ≡ record { refusal = 0; attributes = record { da = da; ua = ua; comm = comm; oi = oi } }
+    go : (da ua comm oi : Bool) → state-attributes.read_of (state-attributes.written_of (record { da = da; ua = ua; comm = comm; oi = oi })) ≡ record {
+      refusal = 0;
+      attributes =
+          record { da = da; ua = ua; comm = comm; oi = oi };
+    }
     go true true true true = refl
     go true true true false = refl
     go true true false true = refl

@@ -21,7 +21,8 @@ use Rattle.gcc.specs.CallState as call-state
 use Rattle.gcc.specs.Cause as cause
 use Rattle.gcc.specs.Talker as talker
 use Rattle.gcc.specs.declared.message_type.Kind.{Kind}
-use Rattle.gcc.specs.declared.message_type.Kind.TheVariants.{ImmediateSetup, Setup, Connect, Termination, TerminationRequest, TerminationReject, Status, GetStatus, SetParameter, ImmediateSetup2, Nothing}
+use Rattle.gcc.specs.declared.message_type.Kind.TheVariants.{ImmediateSetup, Setup, Connect, Termination, TerminationRequest}
+use Rattle.gcc.specs.declared.message_type.Kind.TheVariants.{TerminationReject, Status, GetStatus, SetParameter, ImmediateSetup2, Nothing}
 use Rattle.gcc.specs.declared.call_reference.Priority.{Priority}
 use Rattle.gcc.specs.declared.call_reference.Priority.TheVariants.{Absent, Reserved, Level4, Level3, Level2, Level1, Level0, LevelB, LevelA}
 use Rattle.gcc.specs.declared.call_state.State.{State}
@@ -31,7 +32,8 @@ use Rattle.gcc.specs.declared.cause.Meaning.TheVariants.{Nothing as No-meaning, 
 use Rattle.gcc.specs.declared.talker.Priority.{Priority as Talker}
 use Rattle.gcc.specs.declared.talker.Priority.TheVariants.{Normal, Privileged, Emergency}
 use Rattle.gcc.proofs.Tests.{agree, agree_where}
-use Rattle.gcc_numbers.specs.ElementNumbers.{fits, type_most, reference_most, priority_from, state_most, cause_numbers, cause_length, cause_most, cause_holds, cause_fits, cause_from, originator_most, attributes_most, sms_most, talker_most}
+use Rattle.gcc_numbers.specs.ElementNumbers.{fits, type_most, reference_most, priority_from, state_most, cause_numbers, cause_length}
+use Rattle.gcc_numbers.specs.ElementNumbers.{cause_most, cause_holds, cause_fits, cause_from, originator_most, attributes_most, sms_most, talker_most}
 use Rattle.gcc_numbers.specs.Promises as promises
 use Rattle.gcc_numbers.proofs.CauseNumbers.{meaning_two}
 

@@ -13,7 +13,8 @@ use Rattle.receiver.specs.declared.Record.{Record}
 use Rattle.receiver.specs.Model.{agree, joined_of}
 use Rattle.receiver.specs.Channels.{Channel}
 use Rattle.receiver.specs.Step.{Cause, nothing, joining, paged, moving, numbered}
-use Rattle.isolation.specs.One.{may_lead, gone_by, Kind, clear, piece, first, second, bare, unusable, kind_on, Which, theFirst, theSecond, Half, Known, One, Said, Heard, saying, said_by, met, meet_kind, says, new_half, meet_one, Sight, aged, changed, held_after_of, said_of, spared_by, spared}
+use Rattle.isolation.specs.One.{may_lead, gone_by, Kind, clear, piece, first, second, bare, unusable, kind_on, Which, theFirst, theSecond, Half, Known, One}
+use Rattle.isolation.specs.One.{Said, Heard, saying, said_by, met, meet_kind, says, new_half, meet_one, Sight, aged, changed, held_after_of, said_of, spared_by, spared}
 use Rattle.isolation.specs.History.{Opposite}
 use Rattle.isolation.specs.Promises.{OppositeHeld, joined_with}
 

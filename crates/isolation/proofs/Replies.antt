@@ -26,7 +26,8 @@ use Rattle.receiver.specs.Model.{empty_slot, wrap_sub, late_step, late, key_of, 
 use Rattle.receiver.specs.Model.{ran_out_of, taken_of, kept_of, map_at, swept_slots, expired_of, dropped_of, started_of}
 use Rattle.receiver.specs.Step.{Event, grounds_of, refusal_of, rule_of, ours, slots_after, told_of, all_after, all_told, step_of}
 use Rattle.isolation.specs.One.{Half, Known, One, Listed, listed_in, accepts, aged, mine, meet_one, held_after_of, said_by}
-use Rattle.isolation.specs.Calls.{last_tick, event_entries, channel_in, call_after, call_at, left_by, lost, total_over, subscribed, named, not_ours_of, set_under, known_on, said_under, toldTo, laid_out, refused_by, acceptedBy, ground_by, reply_by}
+use Rattle.isolation.specs.Calls.{last_tick, event_entries, channel_in, call_after, call_at, left_by, lost, total_over, subscribed, named}
+use Rattle.isolation.specs.Calls.{not_ours_of, set_under, known_on, said_under, toldTo, laid_out, refused_by, acceptedBy, ground_by, reply_by}
 use Rattle.isolation.specs.Promises.{Ticks, held_of, slot_in, reply_of}
 use Rattle.isolation.proofs.Tables.{listed_same, paged-same}
 use Rattle.isolation.proofs.Places.{number_lt, timer_in, timer-at}

@@ -101,7 +101,8 @@ module _ (keys : List ℕ) (now : ℕ) where
       module _ (sets : List ℕ) (cell : Cell) (timer : ℕ) (t : now < 2 ^ 32) (some : 1 ≤ timer) where
         -- what the entries do to the half and are told, beside what they do at the one-call receiver
         pub record Same (l : List Slot) (es : List Record) : Type 0 where
-          pub held : held_of now (get_or (all_after keys (number_of c) now l es) (place_at keys key c) empty_slot) ≡ held_after_of c (held_of now (get_or l (place_at keys key c) empty_slot)) (mine key es)
+          pub held : held_of now (get_or (all_after keys (number_of c) now l es) (place_at keys key c) empty_slot)
+              ≡ held_after_of c (held_of now (get_or l (place_at keys key c) empty_slot)) (mine key es)
           pub said : under key (all_told keys sets cell (number_of c) now l es) ≡ said_of c (own sets cell) (known c cell) (held_of now (get_or l (place_at keys key c) empty_slot)) (mine key es)
           pub sound : Sound now timer (get_or (all_after keys (number_of c) now l es) (place_at keys key c) empty_slot)
 

@@ -13,7 +13,8 @@ use Rattle.receiver.specs.declared.Move.TheVariants.{Reselection, Handover, Reco
 use Rattle.receiver.specs.Channels.{asks, leads, Channel, onNch, onFacch, onPch, number_of, hasNln, has_pages, drops, forgets, forgets_count}
 use Rattle.receiver.specs.Count.{counting, counting_over}
 use Rattle.receiver.specs.Step.{Happening, heardNch, heardFacch, heard_pch, joins, moves, bit_is, passes, Cause, nothing, joining, paged, moving, numbered, numbering, Content, content_of}
-use Rattle.isolation.specs.One.{has_segments, may_lead, shows_nln, shows_pages, hears, gone_by, forgotten_by, count_forgotten_by, listed_in, Sight, mine, nln_seen, page_seen, cause_seen, count_seen, over_seen, news_seen, sight_of}
+use Rattle.isolation.specs.One.{has_segments, may_lead, shows_nln, shows_pages, hears, gone_by, forgotten_by, count_forgotten_by, listed_in}
+use Rattle.isolation.specs.One.{Sight, mine, nln_seen, page_seen, cause_seen, count_seen, over_seen, news_seen, sight_of}
 use Rattle.isolation.specs.Calls.{paged_in}
 use Rattle.receiver.specs.Model.{key_of}
 

@@ -1,6 +1,6 @@
--- The receiver of one call on one channel, and what it sees of the events. It is written apart from the receiver, with tables of its own for what tells the
--- channels apart and for what each event shows, discards and forgets. What both share, and no more: the types Record, Channel (with by_channel, a value for each), Move, Event, Happening, Cause and News; a message
--- as it is read, and its entries (read_of, nch_entries, facch_entries, pch_entries, no_record); an entry's key (key_of), whether it is ciphered (is_ciphered), the comparison of references
+-- The receiver of one call on one channel, and what it sees of the events. It is written apart from the receiver, with tables of its own for what tells the channels apart and for what
+-- each event shows, discards and forgets. What both share, and no more: the types Record, Channel (with by_channel, a value for each), Move, Event, Happening, Cause and News; a message as
+-- it is read, and its entries (read_of, nch_entries, facch_entries, pch_entries, no_record); an entry's key (key_of), whether it is ciphered (is_ciphered), the comparison of references
 -- (agree) and the joined record (joined_of); whether a set of group keys has a key number (holds); and what beside the clock refuses an event (grounds_of). Assumes nothing.
 use Rattle.std.specs.Prelude.{List, [], ◌∷◌, ◌++◌, Bool, true, false, not, ℕ, ◌+◌, ◌-◌, ◌%◌, ◌^◌, ltb, eqb}
 use Rattle.std.proofs.Math.Option.{Option, none, some}

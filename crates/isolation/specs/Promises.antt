@@ -21,7 +21,8 @@ use Rattle.receiver.specs.declared.Cell.{Cell}
 use Rattle.receiver.specs.Count.{holds}
 use Rattle.receiver.specs.Entries.{paged_of}
 use Rattle.receiver.specs.Step.{no_told, Event, Happening, heardNch, heardFacch, heard_pch, joins, moves, bit_is, passes, facch, refusal_of, rule_of, step_of}
-use Rattle.isolation.specs.One.{kind_on, Which, theFirst, theSecond, Half, One, Said, Seen, seen, sees, sight_of, held_after_of, spared, passed, step_said, saying, known_then, run_one, run_each, one_after, fresh, hears}
+use Rattle.isolation.specs.One.{kind_on, Which, theFirst, theSecond, Half, One, Said, Seen, seen, sees, sight_of}
+use Rattle.isolation.specs.One.{held_after_of, spared, passed, step_said, saying, known_then, run_one, run_each, one_after, fresh, hears}
 use Rattle.isolation.specs.Calls.{timer_of, subscribed, not_ours_of, set_under, last_tick, known_on, Reply, reply_by, channel_in}
 use Rattle.isolation.specs.History.{Moment, until_entry, past_of, Opposite, CameAndStayed}
 use Rattle.isolation.specs.Kept.{since, last_bit, kept_count}

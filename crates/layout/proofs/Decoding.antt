@@ -24,7 +24,8 @@ use Rattle.receiver.specs.Model.{no_record, no_paged, empty_slot, remade, with_s
 use Rattle.receiver.specs.Step.{most_entries, no_told}
 use Rattle.receiver.proofs.Cases.{by-test}
 use Rattle.layout.specs.Octets.{le_at, flag_at, low_octets, tabulate}
-use Rattle.layout.specs.Layout.{tick_from, timers_from, cell_from, count_from, keys_from, sets_from, kinds_from, record_size, answer_from, paged_from, tolds_from, told_length, state_length, record_at, entry_flags, message_flags, small_numbers, wide_octets, record_octets, kind_place, since_place, record_place, slot_no, key_no, set_no, cell_at, cell_octets, decode_of, put_slot, told_place, carries, told_no, paged_at, paged_octets, last_of, put_number, put_carried, put_told, put_counts, put_head}
+use Rattle.layout.specs.Layout.{tick_from, timers_from, cell_from, count_from, keys_from, sets_from, kinds_from, record_size, answer_from, paged_from, tolds_from, told_length, state_length, record_at, entry_flags, message_flags, small_numbers, wide_octets, record_octets, kind_place}
+use Rattle.layout.specs.Layout.{since_place, record_place, slot_no, key_no, set_no, cell_at, cell_octets, decode_of, put_slot, told_place, carries, told_no, paged_at, paged_octets, last_of, put_number, put_carried, put_told, put_counts, put_head}
 use Rattle.layout.proofs.Numbers.{length-octets, le_ext, le_stored, le_zero, le_alone, le_before, length-table, get_d_table, table_ext, table-set}
 use Rattle.layout.proofs.Wide.{Wide, wide-none}
 

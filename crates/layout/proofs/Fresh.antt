@@ -18,7 +18,8 @@ use Rattle.csn1.specs.Told.{padded}
 use Rattle.receiver.specs.Model.{empty_slot, no_cell, no_key, new_receiver, key_places, set_places}
 use Rattle.receiver.specs.Step.{most_entries, no_told}
 use Rattle.layout.specs.Octets.{le_at, low_octets, tabulate}
-use Rattle.layout.specs.Layout.{tick_from, cell_from, count_from, mark_from, keys_from, sets_from, kinds_from, answer_from, paged_from, state_length, mark_octets, is_marked, kind_place, slot_no, key_no, set_no, cell_at, cell_octets, decode_of, told_no, last_of, keys_octets, fresh_octets}
+use Rattle.layout.specs.Layout.{tick_from, cell_from, count_from, mark_from, keys_from, sets_from, kinds_from, answer_from, paged_from, state_length, mark_octets}
+use Rattle.layout.specs.Layout.{is_marked, kind_place, slot_no, key_no, set_no, cell_at, cell_octets, decode_of, told_no, last_of, keys_octets, fresh_octets}
 use Rattle.layout.specs.Setup.{no_answer}
 use Rattle.layout.proofs.Numbers.{length-octets, le_ext, le_zero, le_alone, le_before, le_set, table_ext, table_same, table-list}
 use Rattle.layout.proofs.Decoding.{field, numbers-same, cell_same, same-receiver, slot-empty, cell-fits, cell-back, paged-none}

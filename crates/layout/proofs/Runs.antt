@@ -19,7 +19,8 @@ use Rattle.layout.specs.Layout.{kinds_from, state_length, is_state, kind_place, 
 use Rattle.layout.specs.Sweep.{timer_no, goes, swept_at, swept_run, swept_octets}
 use Rattle.layout.proofs.Decoding.{slot_held}
 use Rattle.layout.proofs.States.{at-state}
-use Rattle.layout.proofs.Sweeps.{ran-empty, swept_kept, taken-empty, goes-empty, length_run, run-then, run-timer, run-slot, run-still, count_run, count-zero, count_next, count-then, count_most, count_ext, count-table, count-expired, count-dropped, still-expired, still-dropped}
+use Rattle.layout.proofs.Sweeps.{ran-empty, swept_kept, taken-empty, goes-empty, length_run, run-then, run-timer, run-slot, run-still, count_run}
+use Rattle.layout.proofs.Sweeps.{count-zero, count_next, count-then, count_most, count_ext, count-table, count-expired, count-dropped, still-expired, still-dropped}
 
 -- ## One place
 

@@ -17,7 +17,8 @@ use Rattle.csn1.specs.Told.{padded}
 use Rattle.receiver.specs.Model.{no_cell, new_receiver, key_places, set_places, setup_right, started_of}
 use Rattle.receiver.proofs.Cases.{by-test}
 use Rattle.layout.specs.Octets.{le_at, low_octets}
-use Rattle.layout.specs.Layout.{tick_from, timers_from, cell_from, count_from, mark_from, keys_from, sets_from, state_length, is_state, layout_number, mark_octets, is_marked, cell_octets, decode_of, keys_octets, fresh_octets}
+use Rattle.layout.specs.Layout.{tick_from, timers_from, cell_from, count_from, mark_from, keys_from, sets_from, state_length}
+use Rattle.layout.specs.Layout.{is_state, layout_number, mark_octets, is_marked, cell_octets, decode_of, keys_octets, fresh_octets}
 use Rattle.layout.specs.Setup.{setup_code, setup_octets, SetUp}
 use Rattle.layout.proofs.States.{at-state, no_state}
 use Rattle.layout.proofs.Numbers.{length-octets, four_runs}

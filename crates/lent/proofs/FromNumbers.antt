@@ -16,7 +16,8 @@ use Rattle.arrays.proofs.Running.{parts_at}
 use Rattle.nch.specs.Told.{no_reduced, no_random}
 use Rattle.nch.specs.Write.{calls_of}
 use Rattle.nch.specs.Owners.{nth, randoms_of, marks_of}
-use Rattle.nch.specs.Places.{numbered_at, calls_at, first_call, call_length, most_calls, reduceds_at, first_reduced, reduced_length, most_reduceds, randoms_at, first_random, random_length, most_randoms, marks_at, first_mark, most_marks, all_length}
+use Rattle.nch.specs.Places.{numbered_at, calls_at, first_call, call_length, most_calls, reduceds_at, first_reduced, reduced_length}
+use Rattle.nch.specs.Places.{most_reduceds, randoms_at, first_random, random_length, most_randoms, marks_at, first_mark, most_marks, all_length}
 use Rattle.nch.specs.CallNumbers.{call_from_of, call_by}
 use Rattle.nch.specs.Inner.{CallFits, reduced_from, ReducedFits}
 use Rattle.nch.specs.NotificationNumbers.{random_from, release6_by, release7_by, record_from, most, Fits, record_by, reduced_by}

@@ -27,7 +27,8 @@ use Rattle.receiver.proofs.Cases.{by-test}
 use Rattle.receiver.proofs.Classes.{meet_whole, meet_none, meet_first, meet_second, meet_early, meet_stored, class_least}
 use Rattle.receiver.specs.Step.{most_entries, set_at, told_as, told_only, slots_after, told_of}
 use Rattle.layout.specs.Octets.{octet_at}
-use Rattle.layout.specs.Layout.{state_length, is_state, is_place, is_entry, record_at, record_octets, kind_place, record_place, slot_no, decode_of, carries, put_slot, put_number, put_carried, told_no, put_told, keys_in, set_no, sets_in}
+use Rattle.layout.specs.Layout.{state_length, is_state, is_place, is_entry, record_at, record_octets, kind_place, record_place, slot_no}
+use Rattle.layout.specs.Layout.{decode_of, carries, put_slot, put_number, put_carried, told_no, put_told, keys_in, set_no, sets_in}
 use Rattle.lent.specs.Events.{met_octets, tell_octets}
 use Rattle.lent.specs.Inner.{Packed, met_half, Telling}
 use Rattle.layout.proofs.States.{at-state, at_one, at_place, at_entry}

@@ -17,7 +17,8 @@ use Rattle.receiver.specs.declared.Receiver.{Receiver}
 use Rattle.receiver.specs.declared.Told.{Told}
 use Rattle.receiver.specs.declared.Met.{Met}
 use Rattle.receiver.specs.Channels.{channels, key_count, places, place_on, leads}
-use Rattle.receiver.specs.Model.{no_record, empty_slot, key_of, keys_of, index_of, is_clear, is_whole, is_first, is_second, is_bare, class_of, agree, joined_of, only, complete, storing, meet_half, meet_of, with_slots}
+use Rattle.receiver.specs.Model.{no_record, empty_slot, key_of, keys_of, index_of, is_clear, is_whole, is_first, is_second}
+use Rattle.receiver.specs.Model.{is_bare, class_of, agree, joined_of, only, complete, storing, meet_half, meet_of, with_slots}
 use Rattle.receiver.specs.declared.Cell.{Cell}
 use Rattle.receiver.specs.Step.{no_told, most_entries, set_at, told_as, told_only, slots_after, told_of, all_after, all_told}
 use Rattle.receiver.proofs.Cases.{by-test}

@@ -43,7 +43,8 @@ not_refused-at-all s z = none-refused rest_octets octets-numbered (length s ≡ 
 pub told_by_result : (s : List ℕ) → (code_of (read_of s).refusal % 256 ≡ (read_of s).refusal.number) × (code_of (read_of s).refusal / 256 ≡ (read_of s).refusal.bit)
 told_by_result s = result_tells rest_octets octets-numbered (length s ≡ 20) s (read_of s).refusal (λ l. omega arith) (why s)
 
-outside : Outside (flagged (number 2) and listed call_grammar and (flagged (number 2) and listed reduced and listed random) and listed (number 1) and flagged (number 1) and flagged amr and flagged sms_bits)
+outside : Outside (flagged (number 2) and listed call_grammar and (flagged (number 2) and listed reduced and listed random) and listed (number 1) and flagged
+    (number 1) and flagged amr and flagged sms_bits)
 unfolding Outside
 outside = (tt, (call-outside, ((tt, (tt, (tt, tt))), (tt, (tt, ((tt, tt), (tt, tt)))))))
 

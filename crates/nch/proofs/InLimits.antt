@@ -29,7 +29,8 @@ use Rattle.nch.specs.Octets.{Release6Value, Release7Value, Value, reduced, rando
 use Rattle.nch.specs.Told.{reduced_of, no_reduced, random_of, no_random, release6_of, release7_of, record_of, read_of}
 use Rattle.nch.specs.Places.{most_calls, most_reduceds, most_randoms, most_marks, used_at, all_length}
 use Rattle.nch.specs.CallNumbers.{call_numbers, call_most}
-use Rattle.nch.specs.NotificationNumbers.{reduced_numbers, random_numbers, mark_numbers, release6_numbers, parts_numbers, release7_numbers, numbers_of, read_numbers, record_from, head_most, reduced_most, random_most, release6_most, parts_most, release7_most, most, fields_hold, Fits}
+use Rattle.nch.specs.NotificationNumbers.{reduced_numbers, random_numbers, mark_numbers, release6_numbers, parts_numbers, release7_numbers, numbers_of, read_numbers, record_from}
+use Rattle.nch.specs.NotificationNumbers.{head_most, reduced_most, random_most, release6_most, parts_most, release7_most, most, fields_hold, Fits}
 use Rattle.nch.proofs.Releases.{Right6, Right7, reduced-range}
 use Rattle.nch.proofs.Record.{Right, Fits as Said}
 use Rattle.nch.proofs.Round.{Accepted, read-accepted, again-right}

@@ -26,7 +26,8 @@ use Rattle.nch.specs.Told.{Shaped, no_reduced, no_random, reading_of, read_of}
 use Rattle.nch.specs.Places.{most_calls, most_reduceds, most_randoms, most_marks, numbered_at, all_length}
 use Rattle.nch.proofs.Ends.{record_length}
 use Rattle.nch.specs.CallNumbers.{call_numbers, description_by, call_by}
-use Rattle.nch.specs.NotificationNumbers.{reduced_numbers, random_numbers, mark_numbers, release6_numbers, parts_numbers, release7_numbers, numbers_of, reduced_by, random_from, release6_by, release7_by, record_by, record_from, read_numbers, most, Fits}
+use Rattle.nch.specs.NotificationNumbers.{reduced_numbers, random_numbers, mark_numbers, release6_numbers, parts_numbers, release7_numbers, numbers_of, reduced_by}
+use Rattle.nch.specs.NotificationNumbers.{random_from, release6_by, release7_by, record_by, record_from, read_numbers, most, Fits}
 
 -- ## From numbers to their record and back
 
@@ -79,7 +80,8 @@ tabled-rest [] n e = absurd (omega arith)
 tabled-rest (x ∷ l) n e = tabled-behind x l 0 n ∙ tabled-all l n (omega arith)
 
 through-all : (ns : List ℕ) → numbers_of (record_from ns) ≡ through (tabled ns numbered_at record_length) most
-unfolding tabled through most each call_numbers description_by call_by reduced_numbers random_numbers mark_numbers release6_numbers parts_numbers release7_numbers numbers_of reduced_by random_from release6_by release7_by record_by
+unfolding tabled through most each call_numbers description_by call_by reduced_numbers random_numbers mark_numbers release6_numbers parts_numbers release7_numbers numbers_of reduced_by
+    random_from release6_by release7_by record_by
 through-all ns = refl
 
 pub numbers-back : (ns : List ℕ) → length ns ≡ all_length → Fits ns → numbers_of (record_from ns) ≡ drop numbered_at ns
@@ -164,7 +166,8 @@ spread_same m s =
 
 -- whatever number stands before its own
 spread-back : (m : Notification) (used : ℕ) → record_from (used ∷ numbers_of (spread-out m)) ≡ spread-out m
-unfolding spread-out spread each call_numbers description_by call_by reduced_numbers random_numbers mark_numbers release6_numbers parts_numbers release7_numbers numbers_of reduced_by random_from release6_by release7_by record_by
+unfolding spread-out spread each call_numbers description_by call_by reduced_numbers random_numbers mark_numbers release6_numbers parts_numbers release7_numbers numbers_of reduced_by
+    random_from release6_by release7_by record_by
 spread-back m used = simp flag-back
 
 pub record_back : (m : Notification) (used : ℕ) → Shaped m → record_from (used ∷ numbers_of m) ≡ m

@@ -17,7 +17,8 @@ use Rattle.nch.specs.declared.Release7.{Release7}
 use Rattle.nch.specs.declared.Notification.{Notification}
 use Rattle.nch.specs.Octets.{Release6Value, Release7Value, Value, read_octets}
 use Rattle.nch.specs.Told.{read_of, reading_of, release6_of, release7_of, reduced_of, random_of, no_reduced, no_random, record_of, Shaped}
-use Rattle.nch.specs.Places.{numbered_at, calls_at, call_length, most_calls, release6_at, reduceds_at, reduced_length, most_reduceds, randoms_at, random_length, most_randoms, release7_at, marks_at, most_marks, uplinked_at, amr_at, sms_at, all_length}
+use Rattle.nch.specs.Places.{numbered_at, calls_at, call_length, most_calls, release6_at, reduceds_at, reduced_length, most_reduceds, randoms_at}
+use Rattle.nch.specs.Places.{random_length, most_randoms, release7_at, marks_at, most_marks, uplinked_at, amr_at, sms_at, all_length}
 use Rattle.nch.proofs.Ends.{record_length, release6_length, release7_length}
 use Rattle.nch.specs.CallNumbers.{call_numbers}
 use Rattle.nch.specs.NotificationNumbers.{reduced_numbers, random_numbers, mark_numbers, release6_numbers, parts_numbers, release7_numbers, numbers_of, read_numbers}

@@ -24,7 +24,8 @@ use Rattle.call.proofs.Record.{call_fits, call_back, value-back, value-in_range,
 use Rattle.nch.specs.declared.Notification.{Notification}
 use Rattle.nch.specs.Octets.{Release6Value, Value, release6, release7, notification, count, ciphered_value, described_value, reduceds_in, randoms_in, marks_in}
 use Rattle.nch.specs.Told.{record_of, reduced_value, random_value, release6_value, release7_value, value_of, Shaped}
-use Rattle.nch.specs.Write.{places_right, all, release6_in_range, in_range, calls_of, reduced_is_low, references_low, lengths_right, hops_right, randoms_owned, is_described, marks_owned, record_tests, record_refusal, form_fits, write_number}
+use Rattle.nch.specs.Write.{places_right, all, release6_in_range, in_range, calls_of, reduced_is_low, references_low, lengths_right}
+use Rattle.nch.specs.Write.{hops_right, randoms_owned, is_described, marks_owned, record_tests, record_refusal, form_fits, write_number}
 use Rattle.nch.specs.Inner.{call_right}
 use Rattle.nch.proofs.InPlaces.{places-back, places-good, all_both, items-fit, told-all, told-places, told_back, take-told, count_map, count_le}
 use Rattle.nch.proofs.Releases.{in_use, Right6, right6, range6, fits6, back6, value6, told6, low6, count6, Right7, right7, range7, fits7, back7, value7, told7, count7}

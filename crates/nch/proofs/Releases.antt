@@ -23,7 +23,8 @@ use Rattle.nch.specs.declared.Random.{Random}
 use Rattle.nch.specs.declared.Release6.{Release6}
 use Rattle.nch.specs.declared.Release7.{Release7}
 use Rattle.nch.specs.Octets.{Release6Value, Release7Value, AmrValue, reduced, random, amr, release6, release7, reduceds_in, randoms_in, marks_in}
-use Rattle.nch.specs.Told.{reduced_of, no_reduced, random_of, no_random, release6_of, release7_of, full_rate, half_rate, confidentiality, privacy, reduced_value, random_value, release6_value, release7_value, amr_value}
+use Rattle.nch.specs.Told.{reduced_of, no_reduced, random_of, no_random, release6_of, release7_of, full_rate}
+use Rattle.nch.specs.Told.{half_rate, confidentiality, privacy, reduced_value, random_value, release6_value, release7_value, amr_value}
 use Rattle.nch.specs.Write.{places_right, all, reduced_in_range, reduced_is_zero, random_in_range, random_is_zero, any_mark, amr_in_range, release6_in_range, release7_in_range, reduced_is_low}
 use Rattle.nch.proofs.InPlaces.{places-back, places-empty, places-good, all_both, items-fit, told-all, told-places, told_back}
 

@@ -23,7 +23,8 @@ use Rattle.call.specs.Call.{group_call}
 use Rattle.nch.specs.declared.lists.CallsPassed.{CallsPassed}
 use Rattle.nch.specs.declared.lists.ListPassed.{ListPassed}
 use Rattle.nch.specs.declared.additions.Release6Passed.{Release6Passed}
-use Rattle.nch.specs.Octets.{Value, Release6Value, Release7Value, rest_parts, notification, release6, release7, count, ciphered_value, described_value, reduceds_in, randoms_in, marks_in, randoms_fit, marks_fit, read_octets}
+use Rattle.nch.specs.Octets.{Value, Release6Value, Release7Value, rest_parts, notification, release6, release7, count}
+use Rattle.nch.specs.Octets.{ciphered_value, described_value, reduceds_in, randoms_in, marks_in, randoms_fit, marks_fit, read_octets}
 use Rattle.nch.specs.Inner.{calls_passed, release6_passed, release7_passed}
 use Rattle.nch.proofs.Numbering.{numbered6, numbered7, parts-numbered}
 use Rattle.nch.proofs.Passed.{calls, six, seven}

@@ -21,9 +21,11 @@ use Rattle.arrays.specs.Limits.{within}
 use Rattle.arrays.specs.Runs.{each}
 use Rattle.nch.specs.CallNumbers.{call_numbers, description_by, call_by}
 use Rattle.numbers.specs.FacchNumbers as facch-numbers
-use Rattle.nch.specs.NotificationNumbers.{reduced_numbers, random_numbers, mark_numbers, release6_numbers, parts_numbers, release7_numbers, numbers_of, read_numbers, reduced_by, random_from, release6_by, release7_by, record_by, most, write_code, after_write}
+use Rattle.nch.specs.NotificationNumbers.{reduced_numbers, random_numbers, mark_numbers, release6_numbers, parts_numbers, release7_numbers, numbers_of, read_numbers}
+use Rattle.nch.specs.NotificationNumbers.{reduced_by, random_from, release6_by, release7_by, record_by, most, write_code, after_write}
 use Rattle.numbers.proofs.FacchAgain.{accepted, left_behind, writing_gives_the_facch_octets_back}
-use Rattle.numbers.specs.Promises.{first_parts, first_numbers, every_facch_part, every_facch_number, uplink_part, uplink_numbers, absent_parts, absent_numbers, end_parts, end_numbers, paged_parts, paged_numbers, paged_written, EveryListedInputGivesItsNumbers}
+use Rattle.numbers.specs.Promises.{first_parts, first_numbers, every_facch_part, every_facch_number, uplink_part, uplink_numbers, absent_parts}
+use Rattle.numbers.specs.Promises.{absent_numbers, end_parts, end_numbers, paged_parts, paged_numbers, paged_written, EveryListedInputGivesItsNumbers}
 
 facch-read : facch-numbers.read_numbers every_facch_part ≡ 183 ∷ every_facch_number
 unfolding facch.notification group_call field bit pad_bit call_numbers facch-numbers.numbers_of facch-numbers.read_numbers
@@ -72,15 +74,21 @@ unfolding facch-numbers.write_code
 facch-few = refl
 
 nch-accepted : write_code (140 ∷ first_numbers) 20 ≡ 0
-unfolding write_code within most call_by description_by reduced_by random_from release6_by release7_by record_by records.write_number records.record_refusal records.in_range records.places_right records.all records.release6_in_range records.release7_in_range records.references_low records.lengths_right records.hops_right records.randoms_owned records.marks_owned calls.call_in_range calls.call_is_zero calls.call_is_low calls.call_length_right calls.call_hops_right records.form notification group_call num_bits pad_bit
+unfolding write_code within most call_by description_by reduced_by random_from release6_by release7_by record_by records.write_number records.record_refusal records.in_range
+    records.places_right records.all records.release6_in_range records.release7_in_range records.references_low records.lengths_right records.hops_right records.randoms_owned
+    records.marks_owned calls.call_in_range calls.call_is_zero calls.call_is_low calls.call_length_right calls.call_hops_right records.form notification group_call num_bits pad_bit
 nch-accepted = refl
 
 nch-written : after_write (140 ∷ first_numbers) (replicate 20 0) ≡ first_parts
-unfolding after_write within most call_by description_by reduced_by random_from release6_by release7_by record_by records.after_write records.write_number records.record_refusal records.in_range records.places_right records.all records.release6_in_range records.release7_in_range records.references_low records.lengths_right records.hops_right records.randoms_owned records.marks_owned calls.call_in_range calls.call_is_zero calls.call_is_low calls.call_length_right calls.call_hops_right records.form records.written notification group_call num_bits pad_bit put_bits set_bit with_bit
+unfolding after_write within most call_by description_by reduced_by random_from release6_by release7_by record_by records.after_write records.write_number records.record_refusal
+    records.in_range records.places_right records.all records.release6_in_range records.release7_in_range records.references_low records.lengths_right records.hops_right
+    records.randoms_owned records.marks_owned calls.call_in_range calls.call_is_zero calls.call_is_low calls.call_length_right calls.call_hops_right records.form records.written
+    notification group_call num_bits pad_bit put_bits set_bit with_bit
 nch-written = refl
 
 pub every_listed_input_gives_its_numbers : EveryListedInputGivesItsNumbers
-unfolding notification group_call read_items field bit pad_bit each call_numbers reduced_numbers random_numbers mark_numbers release6_numbers parts_numbers release7_numbers numbers_of read_numbers write_code within most
+unfolding notification group_call read_items field bit pad_bit each call_numbers reduced_numbers random_numbers mark_numbers release6_numbers parts_numbers release7_numbers numbers_of
+    read_numbers write_code within most
 every_listed_input_gives_its_numbers =
     record {
       nothing = refl;

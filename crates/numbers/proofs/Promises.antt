@@ -16,7 +16,8 @@ use Rattle.nch.specs.CallNumbers.{description_by, call_by}
 use Rattle.numbers.specs.FacchNumbers as facch-numbers
 use Rattle.nch.specs.Places.{all_length}
 use Rattle.nch.specs.NotificationNumbers.{fields_hold, Fits, numbers_of, reduced_by, random_from, release6_by, release7_by, record_by, record_from, read_numbers, write_code, after_write}
-use Rattle.numbers.specs.Promises.{ARecordIsItsNumbers, NumbersAreTheirRecord, ReadingGivesTheNumbersBack, WritingGivesTheOctetsBack, TheFirstNumberIsNotLookedAt, AllHaveTheirPlaces, ARefusedReadingIsAllZeros, AResultTellsNumberAndBit}
+use Rattle.numbers.specs.Promises.{ARecordIsItsNumbers, NumbersAreTheirRecord, ReadingGivesTheNumbersBack, WritingGivesTheOctetsBack}
+use Rattle.numbers.specs.Promises.{TheFirstNumberIsNotLookedAt, AllHaveTheirPlaces, ARefusedReadingIsAllZeros, AResultTellsNumberAndBit}
 use Rattle.nch.proofs.Clips.{told_by_result as nch-told-by-result}
 use Rattle.facch.proofs.Clips.{told_by_result as facch-told-by-result}
 use Rattle.numbers.proofs.FacchRuns as facch

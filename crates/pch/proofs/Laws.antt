@@ -12,7 +12,8 @@ use Rattle.csn1.specs.Told.{as_bit}
 use Rattle.call.specs.declared.Call.{Call}
 use Rattle.call.specs.Call.{one_to_eight, ciphered}
 use Rattle.call.specs.Write.{call_in_range, head_in_range, frequencies_in_range}
-use Rattle.pch.specs.Entry.{key_at, ciphered_at, full_at, reference_at, described_at, length_at, number_at, is_set, allocates, description_in, full_call, reduced_call, call_in, entry_in, last_key, length_right, flags_right, reference_right, numbers_right, in_range}
+use Rattle.pch.specs.Entry.{key_at, ciphered_at, full_at, reference_at, described_at, length_at, number_at, is_set, allocates, description_in}
+use Rattle.pch.specs.Entry.{full_call, reduced_call, call_in, entry_in, last_key, length_right, flags_right, reference_right, numbers_right, in_range}
 use Rattle.pch.specs.Inner.{sound, Fits}
 
 -- ## A mark and a flag that must say the same

@@ -14,8 +14,10 @@ use Rattle.csn1.specs.Told.{is_one, as_bit}
 use Rattle.csn1.proofs.Writing.{bit-back}
 use Rattle.call.specs.Call.{ciphered}
 use Rattle.call.specs.Write.{call_in_range}
-use Rattle.pch.specs.Entry.{key_at, ciphered_at, full_at, reference_at, described_at, entry_length, number_at, is_set, full_call, reduced_call, call_in, entry_in, key_is_low, length_right, hops_right, flags_right, reference_right, numbers_right, in_range, ground_in, read_of, last_key}
-use Rattle.pch.specs.Promises.{Accepted, ARefusedEntryIsZero, AnAcceptedEntryIsUnderItsKey, ADescribedEntryIsFull, AFullEntryIsCipheredAsMarked, WhatStandsBehindAnAbsentFlagIsNotLookedAt, TheListedEntriesAreAnsweredSo}
+use Rattle.pch.specs.Entry.{key_at, ciphered_at, full_at, reference_at, described_at, entry_length, number_at, is_set, full_call, reduced_call, call_in}
+use Rattle.pch.specs.Entry.{entry_in, key_is_low, length_right, hops_right, flags_right, reference_right, numbers_right, in_range, ground_in, read_of, last_key}
+use Rattle.pch.specs.Promises.{Accepted, ARefusedEntryIsZero, AnAcceptedEntryIsUnderItsKey}
+use Rattle.pch.specs.Promises.{ADescribedEntryIsFull, AFullEntryIsCipheredAsMarked, WhatStandsBehindAnAbsentFlagIsNotLookedAt, TheListedEntriesAreAnsweredSo}
 
 -- ## What an accepted entry has passed
 
@@ -158,7 +160,8 @@ clean k m f r d c h s l q g v n o =
 
 -- the reading is of the fourteen numbers and the length
 fourteen : (ns : List ℕ) → length ns ≡ entry_length
-    → read_of (number_at ns 0 ∷ number_at ns 1 ∷ number_at ns 2 ∷ number_at ns 3 ∷ number_at ns 4 ∷ number_at ns 5 ∷ number_at ns 6 ∷ number_at ns 7 ∷ number_at ns 8 ∷ number_at ns 9 ∷ number_at ns 10 ∷ number_at ns 11 ∷ number_at ns 12 ∷ number_at ns 13 ∷ []) ≡ read_of ns
+    → read_of (number_at ns 0 ∷ number_at ns 1 ∷ number_at ns 2 ∷ number_at ns 3 ∷ number_at ns 4 ∷ number_at ns 5 ∷ number_at ns 6 ∷ number_at ns 7 ∷ number_at ns 8 ∷ number_at ns 9 ∷
+    number_at ns 10 ∷ number_at ns 11 ∷ number_at ns 12 ∷ number_at ns 13 ∷ []) ≡ read_of ns
 unfolding read_of ground_in call_in length_right hops_right flags_right reference_right numbers_right in_range
 fourteen ns e = rw e
 

@@ -63,7 +63,8 @@ module _ (m : Notification) (four : length m.calls ≡ 4) (five : length m.relea
         let w : e ≡ reduced_entry m j (get_or (reduceds_of m) j no_reduced) = q ∙ rw (g, r, reduced_entry-is m j (get_or (reduceds_of m) j no_reduced)) in
         let n = length-map_at (call_entry m) 0 (calls_of m) in
         ap₂ (λ s v. set s (first + j) v) made w
-        ∙ places-more (reduced_entry m) no_record most_entries (map_at (call_entry m) 0 (calls_of m)) (reduceds_of m) no_reduced j lt (first + j) (omega (arith, n, f)) (omega (arith, f, few-calls m four))
+        ∙ places-more (reduced_entry m) no_record most_entries (map_at (call_entry m) 0 (calls_of m)) (reduceds_of m) no_reduced j lt (first + j)
+        (omega (arith, n, f)) (omega (arith, f, few-calls m four))
 
     pub reduceds_end : (n : ℕ) → j ≡ n → n ≡ min m.release6.reducedcount 5 → record { items = items; count = first + n } ≡ entries_in (nch_entries m)
     unfolding nch_entries

@@ -24,7 +24,8 @@ use Rattle.receiver.specs.Channels.{key_count, onNch, number_of}
 use Rattle.receiver.specs.Count.{News, counting}
 use Rattle.receiver.specs.Halving.{first_of, rises}
 use Rattle.receiver.specs.Model.{no_nln, wrap_sub, keys_of, index_of, swept_slots, started_of}
-use Rattle.receiver.specs.Step.{Event, Happening, heardNch, heardFacch, heard_pch, joins, moves, bit_is, passes, no_told, most_entries, all_told, content_of, numbering, cell_after, rule_by, refusal_of, step_of}
+use Rattle.receiver.specs.Step.{Event, Happening, heardNch, heardFacch, heard_pch, joins, moves, bit_is, passes}
+use Rattle.receiver.specs.Step.{no_told, most_entries, all_told, content_of, numbering, cell_after, rule_by, refusal_of, step_of}
 use Rattle.receiver.proofs.Accepted.{Low, low}
 use Rattle.receiver.proofs.Cases.{by-test}
 use Rattle.receiver.proofs.Halving.{as_from-front, rising, no_later}
@@ -41,7 +42,8 @@ use Rattle.layout.specs.Layout.{decode_of}
 use Rattle.lent.specs.Events.{Returned, event_code}
 use Rattle.yard.specs.Yard.{Shown, Yard, call_count, takes, yard_refusal, leaves_all, left_call, all_in, calls_after, accepted_yard, yard_step, Called, called_from, called_in, yard_right}
 use Rattle.yard.specs.Octets.{yard_length, inside, yard_of, yard_code, yard_octets, YardFed}
-use Rattle.yard.specs.History.{Current, young, latest_in, found, with_call, calls_of, Moment, nln_by, last_nln, clears, said_to, look_back, moment_of, moments_of, Watch, older, clears_one, watch_step, watch_after, fresh_watch, taken}
+use Rattle.yard.specs.History.{Current, young, latest_in, found, with_call, calls_of, Moment, nln_by, last_nln, clears}
+use Rattle.yard.specs.History.{said_to, look_back, moment_of, moments_of, Watch, older, clears_one, watch_step, watch_after, fresh_watch, taken}
 use Rattle.yard.specs.Promises.{yard_after, YardRun, left_behind, TheCallsAreThoseOfTheHistory, NoCallDisturbsAnotherInTheYard, ARefusedEventChangesNoYard}
 use Rattle.yard.specs.Promises.{ARefusedEventLeavesTheYardOctets, TheOctetsAreTheYardSet, TheReceiverInsideIsTheReceiver, YardFedDetermines, YardSetUpDetermines}
 use Rattle.yard.proofs.Currents.{said_in, current, Fits, left-current, left-fits, all-current, all-fits, all_else, length_in-all}

@@ -28,5 +28,6 @@ put_octets-requires c =
 pub returns : goal.returns
 returns c =
     let a = c.args in
-    put_inside a.buf.now a.at a.width c.within.result c.within.ensures a.v c.holds.result c.put_octets.new.buf (a.at / 8 * 8 + a.at % 8) c.if-not-within.false-raw c.holds.ensures c.if-not-holds.false-raw (omega arith)
+    put_inside a.buf.now a.at a.width c.within.result c.within.ensures a.v c.holds.result c.put_octets.new.buf
+    (a.at / 8 * 8 + a.at % 8) c.if-not-within.false-raw c.holds.ensures c.if-not-holds.false-raw (omega arith)
     c.put_octets.ensures

@@ -37,4 +37,5 @@ returns c =
     let a = c.args in
     let v = c.in-Bits.b in
     ap₂ (λ (r : Refusal) (p : ℕ). record { refusal = r; high = not (eqb v p); at = a.at + 1 }) c.no_refusal.ensures c.padding_bit.ensures
-    ∙ sym (ap coded_of (read_at coded a.s.now a.at (omega arith)) ∙ coded-told a.s.now a.at v ((let bit-got' : Bits c.in-Bits.b ≡ fetched c.args.s.now c.args.at 1 = sym c.in-Bits.is ∙ c.field.ensures in bit-got')))
+    ∙ sym (ap coded_of (read_at coded a.s.now a.at (omega arith))
+    ∙ coded-told a.s.now a.at v ((let bit-got' : Bits c.in-Bits.b ≡ fetched c.args.s.now c.args.at 1 = sym c.in-Bits.is ∙ c.field.ensures in bit-got')))

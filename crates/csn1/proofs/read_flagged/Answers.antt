@@ -42,7 +42,8 @@ pub returns-then-flag-eq0 : goal.returns-then-flag-eq0
 returns-then-flag-eq0 c =
     let a = c.args in
     ap (λ (r : Refusal). record { refusal = r; hasValue = false; value = 0; at = a.at + 1 }) c.no_refusal.ensures
-    ∙ sym (ap flagged_of (flagged-at a.s.now a.at a.width (omega arith) (omega arith) ∙ opt_none (num a.width) a.s.now a.at _ ((let flag-got' : Bits c.in-Bits.flag ≡ fetched c.args.s.now c.args.at 1 = sym c.in-Bits.is ∙ c.field.ensures in flag-got')) c.if-flag-eq0.true))
+    ∙ sym (ap flagged_of (flagged-at a.s.now a.at a.width (omega arith) (omega arith)
+    ∙ opt_none (num a.width) a.s.now a.at _ ((let flag-got' : Bits c.in-Bits.flag ≡ fetched c.args.s.now c.args.at 1 = sym c.in-Bits.is ∙ c.field.ensures in flag-got')) c.if-flag-eq0.true))
 
 pub overflow_add-at : goal.overflow_add-at
 overflow_add-at c =
@@ -68,13 +69,15 @@ returns-in_default-field c =
 pub overflow_add-result-2 : goal.overflow_add-result-2
 overflow_add-result-2 c =
     let a = c.args in
-    let f = found a.s.now (a.at + 1) a.width _ ((let value-got' : Bits c.in-Bits-field.value ≡ fetched c.args.s.now (c.args.at + 1) c.args.width = sym c.in-Bits-field.is ∙ c.field-2.ensures in value-got')) in
+    let f = found a.s.now (a.at + 1) a.width _
+    ((let value-got' : Bits c.in-Bits-field.value ≡ fetched c.args.s.now (c.args.at + 1) c.args.width = sym c.in-Bits-field.is ∙ c.field-2.ensures in value-got')) in
     omega arith
 
 pub overflow_add-result-3 : goal.overflow_add-result-3
 overflow_add-result-3 c =
     let a = c.args in
-    let f = found a.s.now (a.at + 1) a.width _ ((let value-got' : Bits c.in-Bits-field.value ≡ fetched c.args.s.now (c.args.at + 1) c.args.width = sym c.in-Bits-field.is ∙ c.field-2.ensures in value-got')) in
+    let f = found a.s.now (a.at + 1) a.width _
+    ((let value-got' : Bits c.in-Bits-field.value ≡ fetched c.args.s.now (c.args.at + 1) c.args.width = sym c.in-Bits-field.is ∙ c.field-2.ensures in value-got')) in
     omega arith
 
 pub returns : goal.returns
@@ -83,4 +86,6 @@ returns c =
     ap (λ (r : Refusal). record { refusal = r; hasValue = true; value = c.in-Bits-field.value; at = a.at + 1 + a.width }) c.no_refusal-2.ensures
     ∙ sym (ap flagged_of (flagged-at a.s.now a.at a.width (omega arith) (omega arith)
     ∙ opt-some (num a.width) a.s.now a.at _ ((let flag-got' : Bits c.in-Bits.flag ≡ fetched c.args.s.now c.args.at 1 = sym c.in-Bits.is ∙ c.field.ensures in flag-got')) c.if-flag-eq0.false
-    ∙ ap (λ (x : Res ℕ). x then λ v q. ok (some v) q) (num-got a.s.now (a.at + 1) a.width _ ((let value-got' : Bits c.in-Bits-field.value ≡ fetched c.args.s.now (c.args.at + 1) c.args.width = sym c.in-Bits-field.is ∙ c.field-2.ensures in value-got')))))
+    ∙ ap (λ (x : Res ℕ). x then λ v q. ok (some v) q)
+    (num-got a.s.now (a.at + 1) a.width _
+    ((let value-got' : Bits c.in-Bits-field.value ≡ fetched c.args.s.now (c.args.at + 1) c.args.width = sym c.in-Bits-field.is ∙ c.field-2.ensures in value-got')))))

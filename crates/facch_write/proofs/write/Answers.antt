@@ -66,7 +66,8 @@ returns-then-n-used c =
     let two-octets' : 2 ≤ length c.args.buffer.now = omega arith in
     let most' : length c.args.buffer.now ≤ 23 = omega arith in
     let end' : ℕ = c.head_size-a.result + c.release6-six.result.width + c.release7-seven.result.width in
-    let end_is' : end' ≡ length (form c.args.m (length c.args.buffer.now)) = used-is c.args.m (length c.args.buffer.now) c.head_size-a.result c.release6-six.result c.release7-seven.result c.head_size-a.ensures.0 c.release6-six.ensures c.release7-seven.ensures in
+    let end_is' : end' ≡ length (form c.args.m (length c.args.buffer.now)) =
+    used-is c.args.m (length c.args.buffer.now) c.head_size-a.result c.release6-six.result c.release7-seven.result c.head_size-a.ensures.0 c.release6-six.ensures c.release7-seven.ensures in
     write_long c.args.m c.args.buffer.now c.refusal-refusal.result c.refusal-refusal.ensures c.if-refusal-ne0.false two-octets' most' end' end_is' (omega arith)
 
 pub put_head-head-requires : goal.put_head-head-requires
@@ -79,7 +80,8 @@ returns c =
     let two-octets' : 2 ≤ length c.args.buffer.now = omega arith in
     let most' : length c.args.buffer.now ≤ 23 = omega arith in
     let end' : ℕ = c.head_size-a.result + c.release6-six.result.width + c.release7-seven.result.width in
-    let end_is' : end' ≡ length (form c.args.m (length c.args.buffer.now)) = used-is c.args.m (length c.args.buffer.now) c.head_size-a.result c.release6-six.result c.release7-seven.result c.head_size-a.ensures.0 c.release6-six.ensures c.release7-seven.ensures in
+    let end_is' : end' ≡ length (form c.args.m (length c.args.buffer.now)) =
+    used-is c.args.m (length c.args.buffer.now) c.head_size-a.result c.release6-six.result c.release7-seven.result c.head_size-a.ensures.0 c.release6-six.ensures c.release7-seven.ensures in
     let fit = c.if-n-used.false in
     let all =
     all_put c.args.m (length c.args.buffer.now) c.head_size-a.result c.release6-six.result c.release7-seven.result c.head_size-a.ensures.0 c.release6-six.ensures c.release7-seven.ensures

@@ -38,7 +38,8 @@ take_release6-six-requires c =
       (words_are _ c.load-w.ensures t, c.take_calls-c.ensures.0),
       (
         omega (arith, calls-length', c.requires.0),
-        zeros-calls a.s.now t a.numbers.now c.requires.1 c.read_flagged-nln.result c.read_flagged-nln.ensures (calls_done c.take_calls-c.result) _ (c.take_calls-c.ensures.1 (was_true _ c.if-not-c.false)) refl,
+        zeros-calls a.s.now t a.numbers.now c.requires.1 c.read_flagged-nln.result c.read_flagged-nln.ensures (calls_done c.take_calls-c.result) _
+            (c.take_calls-c.ensures.1 (was_true _ c.if-not-c.false)) refl,
       ),
     )
 
@@ -62,7 +63,8 @@ take_release7-seven-requires c =
       (words_are _ c.load-w.ensures t, c.take_release6-six.ensures.0),
       (
         omega (arith, six-length', c.requires.0),
-        zeros-six a.s.now t a.numbers.now c.requires.1 c.read_flagged-nln.result c.read_flagged-nln.ensures (calls_done c.take_calls-c.result) _ ec refl (six_done c.take_release6-six.result) _ ea refl,
+        zeros-six a.s.now t a.numbers.now c.requires.1 c.read_flagged-nln.result c.read_flagged-nln.ensures (calls_done c.take_calls-c.result) _ ec refl
+            (six_done c.take_release6-six.result) _ ea refl,
       ),
     )
 
@@ -84,7 +86,8 @@ overflow_add-c c =
     let ea = c.take_release6-six.ensures.1 (was_true _ c.if-not-six.false) in
     let ez = c.take_release7-seven.ensures.1 (was_true _ c.if-not-seven.false) in
     let e =
-    few a.s.now t a.numbers.now c.requires.1 c.read_flagged-nln.result c.read_flagged-nln.ensures (calls_done c.take_calls-c.result) _ ec refl (six_done c.take_release6-six.result) _ ea refl (list_done c.take_release7-seven.result) _ ez refl in
+    few a.s.now t a.numbers.now c.requires.1 c.read_flagged-nln.result c.read_flagged-nln.ensures (calls_done c.take_calls-c.result) _ ec refl
+    (six_done c.take_release6-six.result) _ ea refl (list_done c.take_release7-seven.result) _ ez refl in
     omega (arith, e)
 
 pub shape_of-numbers-then-c-six : goal.shape_of-numbers-then-c-six
@@ -122,5 +125,6 @@ returns c =
     let ea = c.take_release6-six.ensures.1 (was_true _ c.if-not-six.false) in
     let ez = c.take_release7-seven.ensures.1 (was_true _ c.if-not-seven.false) in
     λ d.
-    all-filled a.s.now t a.numbers.now c.requires.1 c.read_flagged-nln.result c.read_flagged-nln.ensures (calls_done c.take_calls-c.result) _ ec refl (six_done c.take_release6-six.result) _ ea refl (list_done c.take_release7-seven.result) _ ez refl
+    all-filled a.s.now t a.numbers.now c.requires.1 c.read_flagged-nln.result c.read_flagged-nln.ensures (calls_done c.take_calls-c.result) _ ec refl
+    (six_done c.take_release6-six.result) _ ea refl (list_done c.take_release7-seven.result) _ ez refl
     (omega (arith, c.if-c-six.false)) (omega (arith, c.if-c-seven.false)) no_refusal refl

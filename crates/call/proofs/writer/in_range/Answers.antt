@@ -18,12 +18,28 @@ returns-then-c-gt15 c = let a = c.args.c in rw (lt-ltb a.reference 134217728 (om
 
 pub returns-then-not-c : goal.returns-then-not-c
 unfolding call_in_range
-returns-then-not-c c = let a = c.args.c in rw (lt-ltb a.reference 134217728 (omega arith), lt-ltb a.priority 8 (omega arith), lt-ltb a.cipher 16 (omega arith), not-true a.hasDescription c.if-not-c.true) c.description_is_zero.ensures
+returns-then-not-c c = let a = c.args.c in rw
+    (lt-ltb a.reference 134217728 (omega arith), lt-ltb a.priority 8 (omega arith), lt-ltb a.cipher 16 (omega arith), not-true a.hasDescription c.if-not-c.true) c.description_is_zero.ensures
 
 pub returns-then-d-gt16777215 : goal.returns-then-d-gt16777215
 unfolding call_in_range
-returns-then-d-gt16777215 c = let a = c.args.c in rw (lt-ltb a.reference 134217728 (omega arith), lt-ltb a.priority 8 (omega arith), lt-ltb a.cipher 16 (omega arith), not-false a.hasDescription c.if-not-c.false, le-ltb a.description.channel 16777216 (omega arith))
+returns-then-d-gt16777215 c = let a =
+    c.args.c in rw (
+      lt-ltb a.reference 134217728 (omega arith),
+      lt-ltb a.priority 8 (omega arith),
+      lt-ltb a.cipher 16
+          (omega arith),
+      not-false a.hasDescription c.if-not-c.false,
+      le-ltb a.description.channel 16777216 (omega arith),
+    )
 
 pub returns : goal.returns
 unfolding call_in_range
-returns c = let a = c.args.c in rw (lt-ltb a.reference 134217728 (omega arith), lt-ltb a.priority 8 (omega arith), lt-ltb a.cipher 16 (omega arith), not-false a.hasDescription c.if-not-c.false, lt-ltb a.description.channel 16777216 (omega arith)) c.frequencies_in_range.ensures
+returns c = let a = c.args.c in rw (
+  lt-ltb a.reference 134217728 (omega arith),
+  lt-ltb a.priority 8 (omega arith),
+  lt-ltb a.cipher 16
+      (omega arith),
+  not-false a.hasDescription c.if-not-c.false,
+  lt-ltb a.description.channel 16777216 (omega arith),
+) c.frequencies_in_range.ensures

@@ -25,8 +25,10 @@ returns-then-c-ne0-3 c = let a = c.args.c in rw (eq-eqb a.reference 0 c.if-c-ne0
 
 pub returns-then-c-3 : goal.returns-then-c-3
 unfolding call_is_zero
-returns-then-c-3 c = let a = c.args.c in rw (eq-eqb a.reference 0 c.if-c-ne0.false, c.if-c.false, c.if-c-2.false, eq-eqb a.priority 0 c.if-c-ne0-2.false, eq-eqb a.cipher 0 c.if-c-ne0-3.false, c.if-c-3.true)
+returns-then-c-3 c = let a = c.args.c in rw
+    (eq-eqb a.reference 0 c.if-c-ne0.false, c.if-c.false, c.if-c-2.false, eq-eqb a.priority 0 c.if-c-ne0-2.false, eq-eqb a.cipher 0 c.if-c-ne0-3.false, c.if-c-3.true)
 
 pub returns : goal.returns
 unfolding call_is_zero
-returns c = let a = c.args.c in rw (eq-eqb a.reference 0 c.if-c-ne0.false, c.if-c.false, c.if-c-2.false, eq-eqb a.priority 0 c.if-c-ne0-2.false, eq-eqb a.cipher 0 c.if-c-ne0-3.false, c.if-c-3.false) c.description_is_zero.ensures
+returns c = let a = c.args.c in rw
+    (eq-eqb a.reference 0 c.if-c-ne0.false, c.if-c.false, c.if-c-2.false, eq-eqb a.priority 0 c.if-c-ne0-2.false, eq-eqb a.cipher 0 c.if-c-ne0-3.false, c.if-c-3.false) c.description_is_zero.ensures

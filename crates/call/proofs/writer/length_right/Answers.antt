@@ -17,7 +17,8 @@ returns-then-c c = let a = c.args.c in rw (not-false a.hasDescription c.if-not-c
 
 pub returns-then-c-lt1 : goal.returns-then-c-lt1
 unfolding call_length_right
-returns-then-c-lt1 c = let a = c.args.c in rw (not-false a.hasDescription c.if-not-c.false, not-false a.description.hopping c.if-not-c-2.false, c.if-c.false, lt-leb 1 a.description.length c.if-c-lt1.true)
+returns-then-c-lt1 c = let a = c.args.c in rw
+    (not-false a.hasDescription c.if-not-c.false, not-false a.description.hopping c.if-not-c-2.false, c.if-c.false, lt-leb 1 a.description.length c.if-c-lt1.true)
 
 pub returns : goal.returns
 unfolding call_length_right

@@ -22,16 +22,19 @@ pub returns-then-l-ne0 : goal.returns-then-l-ne0
 returns-then-l-ne0 c =
     let a = c.args in
     c.refused_release6-then-l-ne0.ensures
-    ∙ sym (ap release6_at_of (read_at (release (format release6)) a.s.now a.at (omega arith) ∙ release-refused (format release6) a.s.now a.at (omega arith) c.read_lead-l.result c.read_lead-l.ensures c.if-l-ne0.true))
+    ∙ sym (ap release6_at_of (read_at (release (format release6)) a.s.now a.at (omega arith)
+    ∙ release-refused (format release6) a.s.now a.at (omega arith) c.read_lead-l.result c.read_lead-l.ensures c.if-l-ne0.true))
 
 pub returns-then-not-l : goal.returns-then-not-l
 returns-then-not-l c =
     let a = c.args in
     ap₂ (λ (r : Refusal) (x : Release6). record { refusal = r; release = x; at = c.read_lead-l.result.at }) c.no_refusal.ensures c.no_release6.ensures
-    ∙ sym (ap release6_at_of (read_at (release (format release6)) a.s.now a.at (omega arith) ∙ release-absent (format release6) a.s.now a.at (omega arith) c.read_lead-l.result c.read_lead-l.ensures c.if-l-ne0.false (not-true _ c.if-not-l.true)))
+    ∙ sym (ap release6_at_of (read_at (release (format release6)) a.s.now a.at (omega arith)
+    ∙ release-absent (format release6) a.s.now a.at (omega arith) c.read_lead-l.result c.read_lead-l.ensures c.if-l-ne0.false (not-true _ c.if-not-l.true)))
 
 pub returns : goal.returns
 returns c =
     let a = c.args in
     c.read_parts6.ensures
-    ∙ sym (ap release6_at_of (read_at (release (format release6)) a.s.now a.at (omega arith) ∙ release-there (format release6) a.s.now a.at (omega arith) c.read_lead-l.result c.read_lead-l.ensures c.if-l-ne0.false (not-false _ c.if-not-l.false)))
+    ∙ sym (ap release6_at_of (read_at (release (format release6)) a.s.now a.at (omega arith)
+    ∙ release-there (format release6) a.s.now a.at (omega arith) c.read_lead-l.result c.read_lead-l.ensures c.if-l-ne0.false (not-false _ c.if-not-l.false)))

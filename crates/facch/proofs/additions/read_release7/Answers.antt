@@ -22,16 +22,19 @@ pub returns-then-l-ne0 : goal.returns-then-l-ne0
 returns-then-l-ne0 c =
     let a = c.args in
     c.refused_release7-then-l-ne0.ensures
-    ∙ sym (ap release7_at_of (read_at (release (format release7)) a.s.now a.at (omega arith) ∙ release-refused (format release7) a.s.now a.at (omega arith) c.read_lead-l.result c.read_lead-l.ensures c.if-l-ne0.true))
+    ∙ sym (ap release7_at_of (read_at (release (format release7)) a.s.now a.at (omega arith)
+    ∙ release-refused (format release7) a.s.now a.at (omega arith) c.read_lead-l.result c.read_lead-l.ensures c.if-l-ne0.true))
 
 pub returns-then-not-l : goal.returns-then-not-l
 returns-then-not-l c =
     let a = c.args in
     ap₂ (λ (r : Refusal) (x : Release7). record { refusal = r; release = x; at = c.read_lead-l.result.at }) c.no_refusal.ensures c.no_release7.ensures
-    ∙ sym (ap release7_at_of (read_at (release (format release7)) a.s.now a.at (omega arith) ∙ release-absent (format release7) a.s.now a.at (omega arith) c.read_lead-l.result c.read_lead-l.ensures c.if-l-ne0.false (not-true _ c.if-not-l.true)))
+    ∙ sym (ap release7_at_of (read_at (release (format release7)) a.s.now a.at (omega arith)
+    ∙ release-absent (format release7) a.s.now a.at (omega arith) c.read_lead-l.result c.read_lead-l.ensures c.if-l-ne0.false (not-true _ c.if-not-l.true)))
 
 pub returns : goal.returns
 returns c =
     let a = c.args in
     c.read_parts7.ensures
-    ∙ sym (ap release7_at_of (read_at (release (format release7)) a.s.now a.at (omega arith) ∙ release-there (format release7) a.s.now a.at (omega arith) c.read_lead-l.result c.read_lead-l.ensures c.if-l-ne0.false (not-false _ c.if-not-l.false)))
+    ∙ sym (ap release7_at_of (read_at (release (format release7)) a.s.now a.at (omega arith)
+    ∙ release-there (format release7) a.s.now a.at (omega arith) c.read_lead-l.result c.read_lead-l.ensures c.if-l-ne0.false (not-false _ c.if-not-l.false)))

@@ -23,23 +23,27 @@ flagged-cause-requires c = let a = c.args in (omega arith, cause_lt a.r a.at a.e
 pub beside-requires : goal.beside-requires
 beside-requires c =
     let a = c.args in
-    cause_beside a.r a.at a.end c.coded-uplink.result c.coded-emergency.result c.coded.result c.flagged-cause.result c.coded-uplink.ensures c.coded-emergency.ensures c.coded.ensures c.flagged-cause.ensures
+    cause_beside a.r a.at a.end c.coded-uplink.result c.coded-emergency.result c.coded.result c.flagged-cause.result c.coded-uplink.ensures c.coded-emergency.ensures c.coded.ensures
+    c.flagged-cause.ensures
 
 pub beside-requires-2 : goal.beside-requires-2
 beside-requires-2 c =
     let a = c.args in
-    emergency-beside a.r a.at a.end c.coded-uplink.result c.coded-emergency.result c.coded.result c.flagged-cause.result c.coded-uplink.ensures c.coded-emergency.ensures c.coded.ensures c.flagged-cause.ensures
+    emergency-beside a.r a.at a.end c.coded-uplink.result c.coded-emergency.result c.coded.result c.flagged-cause.result c.coded-uplink.ensures c.coded-emergency.ensures c.coded.ensures
+    c.flagged-cause.ensures
     c.beside.result c.beside.ensures
 
 pub beside-requires-3 : goal.beside-requires-3
 beside-requires-3 c =
     let a = c.args in
-    seven-beside a.r a.at a.end c.coded-uplink.result c.coded-emergency.result c.coded.result c.flagged-cause.result c.coded-uplink.ensures c.coded-emergency.ensures c.coded.ensures c.flagged-cause.ensures
+    seven-beside a.r a.at a.end c.coded-uplink.result c.coded-emergency.result c.coded.result c.flagged-cause.result c.coded-uplink.ensures c.coded-emergency.ensures c.coded.ensures
+    c.flagged-cause.ensures
     c.beside.result c.beside.ensures c.beside-2.result c.beside-2.ensures
 
 pub returns : goal.returns
 returns c =
     let a = c.args in
-    seven-said a.r a.at a.end c.coded-uplink.result c.coded-emergency.result c.coded.result c.flagged-cause.result c.coded-uplink.ensures c.coded-emergency.ensures c.coded.ensures c.flagged-cause.ensures
+    seven-said a.r a.at a.end c.coded-uplink.result c.coded-emergency.result c.coded.result c.flagged-cause.result c.coded-uplink.ensures c.coded-emergency.ensures c.coded.ensures
+    c.flagged-cause.ensures
     c.beside.result c.beside.ensures c.beside-2.result c.beside-2.ensures
     (not-false a.r.hasRelease c.if-not-r.false) c.beside-3.result c.beside-3.ensures

@@ -10,7 +10,8 @@ returns-then-numbers-ne-LENGTH c =
 pub returns-then-is_wrong_length : goal.returns-then-is_wrong_length
 returns-then-is_wrong_length c =
     let a = c.args in
-    cause-wrong_length a.numbers.now a.octets.now _ c.if-numbers-ne-LENGTH.false c.are_octets.ensures c.if-not-are_octets.true-raw c.is_wrong_length.result c.is_wrong_length.ensures c.if-is_wrong_length.true
+    cause-wrong_length a.numbers.now a.octets.now _ c.if-numbers-ne-LENGTH.false c.are_octets.ensures c.if-not-are_octets.true-raw c.is_wrong_length.result c.is_wrong_length.ensures
+    c.if-is_wrong_length.true
 
 pub returns-then-not-are_octets : goal.returns-then-not-are_octets
 returns-then-not-are_octets c =

@@ -23,11 +23,13 @@ overflow_cast-numbers c =
 pub returns-then-w-ne0 : goal.returns-then-w-ne0
 returns-then-w-ne0 c =
     let fitting' : fits 2 type_most c.args.numbers.now ≡ true = fits-own 2 type_most c.args.numbers.now _ c.if-numbers-ne2.false c.holds.ensures c.if-not-holds.false-raw in
-    let own' : c.write-w.result ≡ written_of (is_flag c.args.numbers.now 0) (kind_of (get_or c.args.numbers.now 1 0)) = c.write-w.ensures ∙ ap (written_of (is_flag c.args.numbers.now 0)) c.kind_of.ensures in
+    let own' : c.write-w.result ≡ written_of (is_flag c.args.numbers.now 0) (kind_of (get_or c.args.numbers.now 1 0)) = c.write-w.ensures
+    ∙ ap (written_of (is_flag c.args.numbers.now 0)) c.kind_of.ensures in
     own-refused 2 type_most c.args.numbers.now (λ w. w.refusal) (λ w. w.octet) _ _ own' fitting' c.if-w-ne0.true _
 
 pub returns : goal.returns
 returns c =
     let fitting' : fits 2 type_most c.args.numbers.now ≡ true = fits-own 2 type_most c.args.numbers.now _ c.if-numbers-ne2.false c.holds.ensures c.if-not-holds.false-raw in
-    let own' : c.write-w.result ≡ written_of (is_flag c.args.numbers.now 0) (kind_of (get_or c.args.numbers.now 1 0)) = c.write-w.ensures ∙ ap (written_of (is_flag c.args.numbers.now 0)) c.kind_of.ensures in
+    let own' : c.write-w.result ≡ written_of (is_flag c.args.numbers.now 0) (kind_of (get_or c.args.numbers.now 1 0)) = c.write-w.ensures
+    ∙ ap (written_of (is_flag c.args.numbers.now 0)) c.kind_of.ensures in
     own-written 2 type_most c.args.numbers.now (λ w. w.refusal) (λ w. w.octet) _ _ own' fitting' c.if-w-ne0.false

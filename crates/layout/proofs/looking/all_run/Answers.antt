@@ -14,7 +14,8 @@ use Rattle.layout.specs.Inner.{Running}
 use Rattle.layout.proofs.Sweeps.{timer-same}
 use Rattle.layout.proofs.NoneOut.{many, running_none, running_more, running-empty}
 use Rattle.layout.proofs.looking.all_run.Goals as goal
-use Rattle.layout.proofs.looking.all_run.Goals.{then-u64_at-ne0+else-not-eight_run, else-u64_at-ne0, then-u64_at-ne0-2+else-not-eight_run-2, else-u64_at-ne0-2, then-u64_at-ne0-3+else-not-eight_run-3, else-u64_at-ne0-3}
+use Rattle.layout.proofs.looking.all_run.Goals.{then-u64_at-ne0+else-not-eight_run, else-u64_at-ne0, then-u64_at-ne0-2+else-not-eight_run-2}
+use Rattle.layout.proofs.looking.all_run.Goals.{else-u64_at-ne0-2, then-u64_at-ne0-3+else-not-eight_run-3, else-u64_at-ne0-3}
 
 -- the timers of eight places, by those of the first places of their channels
 timed : (l : List ℕ) (i s t u : ℕ) → length l ≡ state_length → i + 8 ≤ places → {ta tb tc : ℕ} → ta ≡ timer_no l s → tb ≡ timer_no l t → tc ≡ timer_no l u → side_of s ≡ side_of i
@@ -59,13 +60,25 @@ loop-i-preserved c =
     let q : kinds_from + 8 * l.j + 8 ≡ kind_place (l.i + 8) = omega (arith, l.invariant.1.1.0) in
     let r : kinds_from + 8 * l.j + 16 ≡ kind_place (l.i + 16) = omega (arith, l.invariant.1.1.0) in
     let first : Running now b l.i 8 =
-    elim c.if-u64_at-ne0.branch [ then-u64_at-ne0+else-not-eight_run w ↦ w.eight_run.ensures w.if-not-eight_run.false | else-u64_at-ne0 w ↦ running-empty now b l.i 8 (sym (ap (le_at 8 b) p) ∙ sym c.u64_at.ensures ∙ w.if-u64_at-ne0.false) ]
+    elim c.if-u64_at-ne0.branch [
+      | then-u64_at-ne0+else-not-eight_run w ↦ w.eight_run.ensures w.if-not-eight_run.false
+      | else-u64_at-ne0 w ↦ running-empty now b l.i 8
+          (sym (ap (le_at 8 b) p) ∙ sym c.u64_at.ensures ∙ w.if-u64_at-ne0.false)
+    ]
     in
     let second : Running now b (l.i + 8) 8 =
-    elim c.if-u64_at-ne0-2.branch [ then-u64_at-ne0-2+else-not-eight_run-2 w ↦ w.eight_run-then-u64_at-ne0-2.ensures w.if-not-eight_run-2.false | else-u64_at-ne0-2 w ↦ running-empty now b (l.i + 8) 8 (sym (ap (le_at 8 b) q) ∙ sym c.u64_at-in-loop-i.ensures ∙ w.if-u64_at-ne0-2.false) ]
+    elim c.if-u64_at-ne0-2.branch [
+      | then-u64_at-ne0-2+else-not-eight_run-2 w ↦ w.eight_run-then-u64_at-ne0-2.ensures w.if-not-eight_run-2.false
+      | else-u64_at-ne0-2 w ↦ running-empty now b
+          (l.i + 8) 8 (sym (ap (le_at 8 b) q) ∙ sym c.u64_at-in-loop-i.ensures ∙ w.if-u64_at-ne0-2.false)
+    ]
     in
     let third : Running now b (l.i + 16) 8 =
-    elim c.if-u64_at-ne0-3.branch [ then-u64_at-ne0-3+else-not-eight_run-3 w ↦ w.eight_run-then-u64_at-ne0-3.ensures w.if-not-eight_run-3.false | else-u64_at-ne0-3 w ↦ running-empty now b (l.i + 16) 8 (sym (ap (le_at 8 b) r) ∙ sym c.u64_at-in-loop-i-2.ensures ∙ w.if-u64_at-ne0-3.false) ]
+    elim c.if-u64_at-ne0-3.branch [
+      | then-u64_at-ne0-3+else-not-eight_run-3 w ↦ w.eight_run-then-u64_at-ne0-3.ensures w.if-not-eight_run-3.false
+      | else-u64_at-ne0-3 w ↦ running-empty now b
+          (l.i + 16) 8 (sym (ap (le_at 8 b) r) ∙ sym c.u64_at-in-loop-i-2.ensures ∙ w.if-u64_at-ne0-3.false)
+    ]
     in
     let turn : Running now b (0 + l.i) 24 = rw (zero-add l.i) (running_more now b l.i 16 8 (running_more now b l.i 8 8 first second) third) in
     (omega arith, (omega arith, (omega (arith, l.invariant.1.1.0), running_more now b 0 l.i 24 l.invariant.1.1.1 turn)))

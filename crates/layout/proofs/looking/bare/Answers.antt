@@ -53,7 +53,11 @@ returns-then-rule-3 c =
     λ e.
     bare-said b _ _ _ (seen_more b 0 many l.x _ (kinds_from + many) o refl s.0 c.u64_at-x-2.ensures refl) s.1.0 s.1.1 a.rule
     (λ t. elim c.if-rule.branch [ then-rule+else-not-thirds_empty w ↦ w.thirds_empty.ensures w.if-not-thirds_empty.false | else-rule w ↦ absurd (true≢false (sym t ∙ w.if-rule.false)) ])
-    (λ t. elim c.if-rule-2.branch [ then-rule-2+else-not-thirds_empty-2 w ↦ w.thirds_empty-then-rule-2.ensures w.if-not-thirds_empty-2.false | else-rule-2 w ↦ absurd (true≢false (sym t ∙ w.if-rule-2.false)) ])
+    (λ t. elim c.if-rule-2.branch [
+      | then-rule-2+else-not-thirds_empty-2 w ↦ w.thirds_empty-then-rule-2.ensures w.if-not-thirds_empty-2.false
+      | else-rule-2 w ↦ absurd
+          (true≢false (sym t ∙ w.if-rule-2.false))
+    ])
     (λ t. c.thirds_empty-then-rule-3.ensures e)
 
 pub returns : goal.returns
@@ -67,5 +71,9 @@ returns c =
     λ e.
     bare-said b _ _ _ (seen_more b 0 many l.x _ (kinds_from + many) o refl s.0 c.u64_at-x-2.ensures refl) s.1.0 s.1.1 a.rule
     (λ t. elim c.if-rule.branch [ then-rule+else-not-thirds_empty w ↦ w.thirds_empty.ensures w.if-not-thirds_empty.false | else-rule w ↦ absurd (true≢false (sym t ∙ w.if-rule.false)) ])
-    (λ t. elim c.if-rule-2.branch [ then-rule-2+else-not-thirds_empty-2 w ↦ w.thirds_empty-then-rule-2.ensures w.if-not-thirds_empty-2.false | else-rule-2 w ↦ absurd (true≢false (sym t ∙ w.if-rule-2.false)) ])
+    (λ t. elim c.if-rule-2.branch [
+      | then-rule-2+else-not-thirds_empty-2 w ↦ w.thirds_empty-then-rule-2.ensures w.if-not-thirds_empty-2.false
+      | else-rule-2 w ↦ absurd
+          (true≢false (sym t ∙ w.if-rule-2.false))
+    ])
     (λ t. absurd (true≢false (sym t ∙ c.if-rule-3.false)))

@@ -32,7 +32,11 @@ loop-i-preserved c =
     let low : i < key_count = c.loop-i-test.true in
     let k = c.if-i-numbers.x in
     let e : k ≡ get_or ks i 0 =
-    elim c.if-i-numbers.branch [ then-i-numbers w ↦ w.x-is ∙ sym (place_here a.unused key_count a.numbers.now i low w.if-i-numbers.true) | else-i-numbers w ↦ w.x-is ∙ sym (place_none a.unused key_count a.numbers.now i low w.if-i-numbers.false) ]
+    elim c.if-i-numbers.branch [
+      | then-i-numbers w ↦ w.x-is ∙ sym (place_here a.unused key_count a.numbers.now i low w.if-i-numbers.true)
+      | else-i-numbers w ↦ w.x-is
+          ∙ sym (place_none a.unused key_count a.numbers.now i low w.if-i-numbers.false)
+    ]
     in
     (omega (arith, low), c.put_u32.ensures ∙ keys_next _ l.b a.at ks i k (omega (arith, low, length-places a.unused key_count a.numbers.now)) e l.invariant.1)
 

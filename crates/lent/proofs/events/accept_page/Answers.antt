@@ -28,5 +28,6 @@ returns c =
     let a = c.args in
     let l = a.b.now in
     rw (← cell-read l c.requires _ c.cell_of.ensures, ← c.taken_over-cell.ensures, ← c.paged_of.ensures)
-    (accepted_with l a.time keep _ 1 [] c.requires (omega arith) _ (rest-value _ _ c.paged_of.type_inv) _ _ _ _ _ 0 c.pass-gone.ensures (omega (arith, c.pass-gone.type_inv)) (omega (arith, c.pass-gone.type_inv)) refl
+    (accepted_with l a.time keep _ 1 [] c.requires (omega arith) _ (rest-value _ _ c.paged_of.type_inv) _ _ _ _ _ 0 c.pass-gone.ensures (omega (arith, c.pass-gone.type_inv))
+    (omega (arith, c.pass-gone.type_inv)) refl
     (omega arith) (all_none _ _ 1 a.time) c.put_page.ensures)

@@ -68,7 +68,13 @@ returns c =
     let v : agree c.held_at-h.result e ≡ true = ap (agree c.held_at-h.result) (sym c.record_in-e.ensures) ∙ sym c.agrees.ensures ∙ c.if-not-agrees.false in
     let y : c.if-half-eq1.y ≡ pick (eqb a.half 1) (joined_of e c.held_at-h.result) (joined_of c.held_at-h.result e) =
     rw (← c.record_in-e.ensures)
-    (elim c.if-half-eq1.branch [ then-half-eq1 w ↦ w.y-is ∙ w.join-y.ensures ∙ sym (ap (λ b. pick b (joined_of c.record_in-e.result c.held_at-h.result) (joined_of c.held_at-h.result c.record_in-e.result)) (eq-eqb a.half 1 w.if-half-eq1.true)) | else-half-eq1 w ↦ w.y-is ∙ w.join-y-else-half-eq1.ensures ∙ sym (ap (λ b. pick b (joined_of c.record_in-e.result c.held_at-h.result) (joined_of c.held_at-h.result c.record_in-e.result)) (ne_eqb a.half 1 w.if-half-eq1.false)) ])
+    (elim c.if-half-eq1.branch [
+      | then-half-eq1 w ↦ w.y-is ∙ w.join-y.ensures
+          ∙ sym (ap (λ b. pick b (joined_of c.record_in-e.result c.held_at-h.result) (joined_of c.held_at-h.result c.record_in-e.result)) (eq-eqb a.half 1 w.if-half-eq1.true))
+      | else-half-eq1
+          w ↦ w.y-is ∙ w.join-y-else-half-eq1.ensures
+          ∙ sym (ap (λ b. pick b (joined_of c.record_in-e.result c.held_at-h.result) (joined_of c.held_at-h.result c.record_in-e.result)) (ne_eqb a.half 1 w.if-half-eq1.false))
+    ])
     in
     left-joined a.b.now a.cell a.ch a.j a.i _ a.half e p.0 p.1.1.0 c.place_on-at.ensures q.1.0 _ q.1.1.1.1 _
     c.half_at.ensures c.if-half_at-half.false _ c.held_at-h.ensures _ _ _ v y c.clear.ensures q.0 _ c.set_at-set.ensures _ refl c.put_complete.ensures

@@ -39,8 +39,16 @@ octets_of-o-requires c = tt
 pub ours-requires : goal.ours-requires
 unfolding facch_entry
 ours-requires c =
-    let k = c.key_of-key.ensures ∙ ap (λ (r : Record). key_of r.call) (sym c.facch_entry-e.ensures) in
-    (c.requires, (lit< tt, (lit< tt, (omega (arith, c.if-i-ge-KEYS.false), own-asked c.facch_entry-e.result (wide_value _ _ c.facch_entry-e.type_inv) _ c.octets_of-o.ensures 1 _ _ k c.class-class.ensures))))
+    let k = c.key_of-key.ensures ∙ ap (λ (r : Record). key_of r.call) (sym c.facch_entry-e.ensures) in (
+      c.requires,
+      (
+        lit< tt,
+        (
+          lit< tt,
+          (omega (arith, c.if-i-ge-KEYS.false), own-asked c.facch_entry-e.result (wide_value _ _ c.facch_entry-e.type_inv) _ c.octets_of-o.ensures 1 _ _ k c.class-class.ensures),
+        ),
+      ),
+    )
 
 pub returns : goal.returns
 unfolding facch_entry

@@ -12,7 +12,9 @@ abbrev pub decreases-calls : goal.decreases-calls
 decreases-calls l = l.n - l.i
 
 abbrev pub invariant-reduceds : goal.invariant-reduceds
-invariant-reduceds here = (here.n ≤ here.i) × ((here.i ≤ here.count) × ((l : List ℕ) → ToldTo l here.cell here.tick (record_from here.m) here.initial.random here.mark here.initial.i here.initial.b → ToldTo l here.cell here.tick (record_from here.m) here.random here.mark here.i here.b))
+invariant-reduceds here = (here.n ≤ here.i) ×
+    ((here.i ≤ here.count) × ((l : List ℕ) → ToldTo l here.cell here.tick (record_from here.m) here.initial.random here.mark here.initial.i here.initial.b → ToldTo l here.cell here.tick
+    (record_from here.m) here.random here.mark here.i here.b))
 
 abbrev pub decreases-reduceds : goal.decreases-reduceds
 decreases-reduceds l = l.count - l.i

@@ -48,7 +48,8 @@ returns-then-full-ne0 c =
     let flag-got' : Bits c.in-Bits.flag ≡ fetched c.args.s.now c.args.at 1 = sym c.in-Bits.is ∙ c.field.ensures in
     let a = c.args in
     opt-left-bad (format amr) part_passed amr_run amr_at a.s.now a.at a.numbers.now _ flag-got' c.if-flag-eq0.false _
-    (first-bad (opt (num 4)) (opt (num 4)) a.s.now (a.at + 1) _ (flagged-refused a.s.now (a.at + 1) 4 (omega arith) c.requires.0 c.read_flagged-full.result c.read_flagged-full.ensures c.if-full-ne0.true))
+    (first-bad (opt (num 4)) (opt (num 4)) a.s.now (a.at + 1) _
+    (flagged-refused a.s.now (a.at + 1) 4 (omega arith) c.requires.0 c.read_flagged-full.result c.read_flagged-full.ensures c.if-full-ne0.true))
     _ refl _ c.no_part-then-full-ne0.ensures _
 
 pub returns-then-half-ne0 : goal.returns-then-half-ne0
@@ -89,7 +90,8 @@ returns c =
     let flag-got' : Bits c.in-Bits.flag ≡ fetched c.args.s.now c.args.at 1 = sym c.in-Bits.is ∙ c.field.ensures in
     let full-read' : Answer flags c.read_flagged-full.result ((opt (num 4)).read c.args.s.now (c.args.at + 1)) = let a = c.args in
     flag-answered a.s.now (a.at + 1) 4 (omega arith) c.requires.0 c.read_flagged-full.result c.read_flagged-full.ensures c.if-full-ne0.false in
-    let half-read' : Answer flags c.read_flagged-half.result ((opt (num 4)).read c.args.s.now c.read_flagged-full.result.at) = flag-answered c.args.s.now c.read_flagged-full.result.at 4 (omega arith) c.requires.0 c.read_flagged-half.result c.read_flagged-half.ensures c.if-half-ne0.false in
+    let half-read' : Answer flags c.read_flagged-half.result ((opt (num 4)).read c.args.s.now c.read_flagged-full.result.at) =
+    flag-answered c.args.s.now c.read_flagged-full.result.at 4 (omega arith) c.requires.0 c.read_flagged-half.result c.read_flagged-half.ensures c.if-half-ne0.false in
     let a = c.args in
     let f = full-read' in
     let h = half-read' in

@@ -21,8 +21,14 @@ bounds-numbers-50 c = simp length-set (omega arith)
 
 pub list_reduceds-d-requires : goal.list_reduceds-d-requires
 list_reduceds-d-requires c =
-    let a = c.args in
-    (c.requires.0, (omega (arith, length-led6 a.numbers.now c.read_flagged-c.result, c.requires.1.0), zeros-led6 a.s.now a.at c.requires.0 a.numbers.now c.requires.1.1 c.read_flagged-c.result c.read_flagged-c.ensures))
+    let a = c.args in (
+      c.requires.0,
+      (
+        omega (arith, length-led6 a.numbers.now c.read_flagged-c.result, c.requires.1.0),
+        zeros-led6 a.s.now a.at c.requires.0 a.numbers.now c.requires.1.1
+            c.read_flagged-c.result c.read_flagged-c.ensures,
+      ),
+    )
 
 pub shape_of-numbers-then-d-ne0 : goal.shape_of-numbers-then-d-ne0
 shape_of-numbers-then-d-ne0 c =

@@ -78,7 +78,8 @@ entries-smaller c =
 pub entries-preserved : goal.entries-preserved
 entries-preserved c =
     let flag-got' : Bits c.in-Bits.flag ≡ fetched c.args.s.now c.entries.at 1 = sym c.in-Bits.is ∙ c.field.ensures in
-    let one-read' : Answer one c.read-c.result (group_call.read c.args.s.now (c.entries.at + 1)) = call-read c.args.s.now (c.entries.at + 1) c.requires.0 c.read-c.result c.read-c.ensures c.if-c-ne0.false in
+    let one-read' : Answer one c.read-c.result (group_call.read c.args.s.now (c.entries.at + 1)) =
+    call-read c.args.s.now (c.entries.at + 1) c.requires.0 c.read-c.result c.read-c.ensures c.if-c-ne0.false in
     let flag-within' : c.entries.at + 1 ≤ length c.args.s.now * 8 = (found c.args.s.now c.entries.at 1 _ flag-got').within in
     let one-past' : c.entries.at + 1 ≤ c.read-c.result.at = call-past c.args.s.now (c.entries.at + 1) c.requires.0 c.read-c.result c.read-c.ensures flag-within' c.if-c-ne0.false in
     let a = c.args in

@@ -62,13 +62,17 @@ pub entries-preserved : goal.entries-preserved
 entries-preserved c =
     let flag-got' : Bits c.in-Bits.flag ≡ fetched c.args.s.now c.entries.at 1 = sym c.in-Bits.is ∙ c.field.ensures in
     let mark_got' : Bits c.in-Bits-field.mark ≡ fetched c.args.s.now (c.entries.at + 1) 1 = sym c.in-Bits-field.is ∙ c.field-in-entries.ensures in
-    let mark_read' : (num 1).read c.args.s.now (c.entries.at + 1) ≡ ok c.in-Bits-field.mark (c.entries.at + 2) = num-got c.args.s.now (c.entries.at + 1) 1 _ mark_got' ∙ ap (ok c.in-Bits-field.mark) (omega arith) in
+    let mark_read' : (num 1).read c.args.s.now (c.entries.at + 1) ≡ ok c.in-Bits-field.mark (c.entries.at + 2) = num-got c.args.s.now (c.entries.at + 1) 1 _ mark_got'
+    ∙ ap (ok c.in-Bits-field.mark) (omega arith) in
     let l = c.entries in
     let f = flag-got' in
     let n = c.if-flag-eq0.false in
     let x = mark_read' in
     let two = found_lt _ _ 1 _ mark_got' in
-    elim c.if-count-lt-MOST_MARKS.branch [ then-count-lt-MOST_MARKS w ↦ rw w.numbers-is (marks-one _ _ _ _ _ _ l.invariant _ _ _ f n x (omega arith) two w.if-count-lt-MOST_MARKS.true) | else-count-lt-MOST_MARKS w ↦ rw w.numbers-is (kept_more l.invariant _ _ _ f n x (omega arith) (omega arith)) ]
+    elim c.if-count-lt-MOST_MARKS.branch [
+      | then-count-lt-MOST_MARKS w ↦ rw w.numbers-is (marks-one _ _ _ _ _ _ l.invariant _ _ _ f n x (omega arith) two w.if-count-lt-MOST_MARKS.true)
+      | else-count-lt-MOST_MARKS w ↦ rw w.numbers-is (kept_more l.invariant _ _ _ f n x (omega arith) (omega arith))
+    ]
 
 pub shape_of-numbers-in_default : goal.shape_of-numbers-in_default
 shape_of-numbers-in_default c = kept-long c.entries.invariant

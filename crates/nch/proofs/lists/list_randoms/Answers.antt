@@ -64,8 +64,10 @@ pub entries-smaller : goal.entries-smaller
 entries-smaller c =
     let flag-got' : Bits c.in-Bits.flag ≡ fetched c.args.s.now c.entries.at 1 = sym c.in-Bits.is ∙ c.field.ensures in
     let flag-within' : c.entries.at + 1 ≤ length c.args.s.now * 8 = (found c.args.s.now c.entries.at 1 _ flag-got').within in
-    let rand-got' : Flag c.read_flagged-rand.result ((opt (num 36)).read c.args.s.now (c.entries.at + 2)) = flagged-read c.args.s.now (c.entries.at + 2) 36 (omega arith) c.requires.0 c.read_flagged-rand.result c.read_flagged-rand.ensures c.if-rand-ne0.false in
-    let rand_reached' : Reached c.args.s.now (c.entries.at + 2) 36 rand-got'.number c.read_flagged-rand.result.at = flagged_reached c.args.s.now (c.entries.at + 2) 36 rand-got'.number c.read_flagged-rand.result.at rand-got'.is in
+    let rand-got' : Flag c.read_flagged-rand.result ((opt (num 36)).read c.args.s.now (c.entries.at + 2)) =
+    flagged-read c.args.s.now (c.entries.at + 2) 36 (omega arith) c.requires.0 c.read_flagged-rand.result c.read_flagged-rand.ensures c.if-rand-ne0.false in
+    let rand_reached' : Reached c.args.s.now (c.entries.at + 2) 36 rand-got'.number c.read_flagged-rand.result.at =
+    flagged_reached c.args.s.now (c.entries.at + 2) 36 rand-got'.number c.read_flagged-rand.result.at rand-got'.is in
     omega (arith, flag-within', rand_reached'.past)
 
 pub entries-preserved : goal.entries-preserved
@@ -73,8 +75,10 @@ entries-preserved c =
     let flag-got' : Bits c.in-Bits.flag ≡ fetched c.args.s.now c.entries.at 1 = sym c.in-Bits.is ∙ c.field.ensures in
     let segment-got' : Bits c.in-Bits-field.segment ≡ fetched c.args.s.now (c.entries.at + 1) 1 = sym c.in-Bits-field.is ∙ c.field-in-entries.ensures in
     let segment_lt' : c.in-Bits-field.segment < 2 = found_lt c.args.s.now (c.entries.at + 1) 1 _ segment-got' in
-    let rand-got' : Flag c.read_flagged-rand.result ((opt (num 36)).read c.args.s.now (c.entries.at + 2)) = flagged-read c.args.s.now (c.entries.at + 2) 36 (omega arith) c.requires.0 c.read_flagged-rand.result c.read_flagged-rand.ensures c.if-rand-ne0.false in
-    let rand_reached' : Reached c.args.s.now (c.entries.at + 2) 36 rand-got'.number c.read_flagged-rand.result.at = flagged_reached c.args.s.now (c.entries.at + 2) 36 rand-got'.number c.read_flagged-rand.result.at rand-got'.is in
+    let rand-got' : Flag c.read_flagged-rand.result ((opt (num 36)).read c.args.s.now (c.entries.at + 2)) =
+    flagged-read c.args.s.now (c.entries.at + 2) 36 (omega arith) c.requires.0 c.read_flagged-rand.result c.read_flagged-rand.ensures c.if-rand-ne0.false in
+    let rand_reached' : Reached c.args.s.now (c.entries.at + 2) 36 rand-got'.number c.read_flagged-rand.result.at =
+    flagged_reached c.args.s.now (c.entries.at + 2) 36 rand-got'.number c.read_flagged-rand.result.at rand-got'.is in
     let e = c.entries in
     let f = flag-got' in
     let n = c.if-flag-eq0.false in

@@ -84,7 +84,12 @@ entries-preserved c =
     let i = c.entries.invariant in
     let f = flag-got' in
     let x = fields_got' in
-    elim c.if-count-lt-MOST_REDUCEDS.branch [ then-count-lt-MOST_REDUCEDS w ↦ rw w.numbers-is (reduceds-one _ _ _ _ _ _ i _ f c.if-flag-eq0.false _ _ x (omega arith) _ refl w.if-count-lt-MOST_REDUCEDS.true) | else-count-lt-MOST_REDUCEDS w ↦ rw w.numbers-is (reduceds_more _ _ _ _ _ _ i _ f c.if-flag-eq0.false _ _ x (omega arith) (omega arith)) ]
+    elim c.if-count-lt-MOST_REDUCEDS.branch [
+      | then-count-lt-MOST_REDUCEDS w ↦ rw w.numbers-is
+          (reduceds-one _ _ _ _ _ _ i _ f c.if-flag-eq0.false _ _ x (omega arith) _ refl w.if-count-lt-MOST_REDUCEDS.true)
+      | else-count-lt-MOST_REDUCEDS w ↦ rw w.numbers-is
+          (reduceds_more _ _ _ _ _ _ i _ f c.if-flag-eq0.false _ _ x (omega arith) (omega arith))
+    ]
 
 pub shape_of-numbers-in_default : goal.shape_of-numbers-in_default
 shape_of-numbers-in_default c = kept-long c.entries.invariant

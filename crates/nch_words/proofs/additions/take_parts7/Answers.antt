@@ -40,8 +40,10 @@ put_amr-a-requires c =
 
 pub put_sms-t-requires : goal.put_sms-t-requires
 put_sms-t-requires c =
-    let marks-length' : length c.take_marks-m.new.numbers ≡ length c.args.numbers.now = c.take_marks-m.auto.numbers ∙ length-set c.args.numbers.now release7_at 1 in
-    (omega (arith, c.put_flagged-u.ensures.1.0, c.put_amr-a.ensures.1.0), (omega (arith, c.put_amr-a.auto.numbers, c.put_flagged-u.auto.numbers, marks-length', c.requires.1.0), c.put_amr-a.ensures.1.1.0))
+    let marks-length' : length c.take_marks-m.new.numbers ≡ length c.args.numbers.now = c.take_marks-m.auto.numbers ∙ length-set c.args.numbers.now release7_at 1 in (
+      omega (arith, c.put_flagged-u.ensures.1.0, c.put_amr-a.ensures.1.0),
+      (omega (arith, c.put_amr-a.auto.numbers, c.put_flagged-u.auto.numbers, marks-length', c.requires.1.0), c.put_amr-a.ensures.1.1.0),
+    )
 
 pub overflow_add-next : goal.overflow_add-next
 overflow_add-next c =

@@ -15,7 +15,12 @@ loop-i-preserved c =
     let l = c.loop-i in
     let a = c.args in (
       omega arith,
-      elim c.if-i-numbers.branch [ then-i-numbers w ↦ w.places-is ∙ place_set a.unused a.numbers.now l.places key_count l.i l.invariant.1 0 w.if-i-numbers.true | else-i-numbers w ↦ w.places-is ∙ place-keep a.unused a.numbers.now l.places key_count l.i l.invariant.1 (omega arith) w.if-i-numbers.false ],
+      elim c.if-i-numbers.branch [
+        | then-i-numbers w ↦ w.places-is
+            ∙ place_set a.unused a.numbers.now l.places key_count l.i l.invariant.1 0 w.if-i-numbers.true
+        | else-i-numbers w ↦ w.places-is
+            ∙ place-keep a.unused a.numbers.now l.places key_count l.i l.invariant.1 (omega arith) w.if-i-numbers.false
+      ],
     )
 
 pub returns : goal.returns

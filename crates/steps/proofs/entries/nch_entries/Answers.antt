@@ -39,9 +39,10 @@ bounds-items-first c =
 pub loop-j-preserved : goal.loop-j-preserved
 loop-j-preserved c =
     let l = c.loop-j in
+    let made = c.call_entries-calls in
     let h : l.j < min c.args.m.release6.reducedcount 5 = omega (arith, c.least-count.ensures) in (
       omega arith,
-      reduceds_more c.args.m (omega arith) (omega arith) c.call_entries-calls.result.count c.call_entries-calls.ensures.1.0 l.items l.j l.invariant.1 h c.call_entries-calls.result.ciphered c.call_entries-calls.ensures.1.1 _
+      reduceds_more c.args.m (omega arith) (omega arith) made.result.count made.ensures.1.0 l.items l.j l.invariant.1 h made.result.ciphered made.ensures.1.1 _
           c.reduced_entry.ensures,
     )
 
@@ -55,4 +56,5 @@ overflow_add-result c =
 pub returns : goal.returns
 returns c =
     let l = c.loop-j in
-    reduceds_end c.args.m (omega arith) (omega arith) c.call_entries-calls.result.count c.call_entries-calls.ensures.1.0 l.items l.j l.invariant.1 c.least-count.result (omega arith) c.least-count.ensures
+    let made = c.call_entries-calls in
+    reduceds_end c.args.m (omega arith) (omega arith) made.result.count made.ensures.1.0 l.items l.j l.invariant.1 c.least-count.result (omega arith) c.least-count.ensures

@@ -26,7 +26,12 @@ loop-i-preserved c =
     let low = c.loop-i-test.true in
     let e = c.holds.ensures in
     let step : nth (rest b (l.i + 1)) c.if-holds.ahead ≡ nth (rest b l.i) l.ahead =
-    elim c.if-holds.branch [ then-holds+else-ahead-eq0 w ↦ ap (nth (rest b (l.i + 1))) w.ahead-is ∙ sym (nth-next b l.i low (sym e ∙ w.if-holds.true) l.ahead w.if-ahead-eq0.false) | else-holds w ↦ ap (nth (rest b (l.i + 1))) w.ahead-is ∙ sym (nth_past b l.i low (sym e ∙ w.if-holds.false) l.ahead) ]
+    elim c.if-holds.branch [
+      | then-holds+else-ahead-eq0 w ↦ ap (nth (rest b (l.i + 1))) w.ahead-is
+          ∙ sym (nth-next b l.i low (sym e ∙ w.if-holds.true) l.ahead w.if-ahead-eq0.false)
+      | else-holds w ↦ ap (nth (rest b (l.i + 1))) w.ahead-is
+          ∙ sym (nth_past b l.i low (sym e ∙ w.if-holds.false) l.ahead)
+    ]
     in
     (omega (arith, low), step ∙ l.invariant.1)
 

@@ -26,7 +26,12 @@ loop-i-preserved c =
     let low = c.loop-i-test.true in
     let e = c.shows.ensures in
     let step : nth (l.i + 1) (rest b (l.i + 1)) c.if-shows.ahead ≡ nth l.i (rest b l.i) l.ahead =
-    elim c.if-shows.branch [ then-shows+else-ahead-eq0 w ↦ ap (nth (l.i + 1) (rest b (l.i + 1))) w.ahead-is ∙ sym (nth-next b l.i low (sym e ∙ w.if-shows.true) l.ahead w.if-ahead-eq0.false) | else-shows w ↦ ap (nth (l.i + 1) (rest b (l.i + 1))) w.ahead-is ∙ sym (nth_past b l.i low (sym e ∙ w.if-shows.false) l.ahead) ]
+    elim c.if-shows.branch [
+      | then-shows+else-ahead-eq0 w ↦ ap (nth (l.i + 1) (rest b (l.i + 1))) w.ahead-is
+          ∙ sym (nth-next b l.i low (sym e ∙ w.if-shows.true) l.ahead w.if-ahead-eq0.false)
+      | else-shows w ↦ ap (nth (l.i + 1) (rest b (l.i + 1))) w.ahead-is
+          ∙ sym (nth_past b l.i low (sym e ∙ w.if-shows.false) l.ahead)
+    ]
     in
     (omega (arith, low), step ∙ l.invariant.1)
 
