@@ -1,4 +1,6 @@
 // Arrays of numbers: filled from a place on, read field by field, and held to the largest numbers that their fields take.
+#![tactic(auto)]
+
 pub mod fields;
 pub mod fill;
 pub mod limits;

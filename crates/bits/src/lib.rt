@@ -1,4 +1,6 @@
 // Octets as bits: a field is fetched and put by octets, never bit by bit. Bit 0 is the top bit of the first octet.
+#![tactic(auto)]
+
 ghost use Rattle.std.specs.Prelude.{◌≡◌, ◌+◌, ◌*◌, ◌/◌, ◌%◌, ◌≤◌, ◌<◌, ◌^◌, min, leb, ltb, length};
 ghost use Rattle.bits.specs.Field.{both, field, set_field, fetched, can_put, after_put};
 

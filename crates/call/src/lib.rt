@@ -1,4 +1,6 @@
 // Group Call information (44.018, 9.1.21a): one notified call, as both channels carry it.
+#![tactic(auto)]
+
 ghost use Rattle.std.specs.Prelude.{◌≡◌, ◌≤◌, ◌<◌, length};
 ghost use Rattle.csn1.specs.Format.{bad};
 ghost use Rattle.csn1.specs.Grammar.{format};

@@ -1,4 +1,6 @@
 // CSN.1: formats of bits. Their meaning stands in specs/, the one theorem over all of them in proofs/; the code is what readers of every format share.
+#![tactic(auto)]
+
 ghost use Rattle.std.specs.Prelude.{◌≡◌};
 ghost use Rattle.csn1.specs.Format.{bad, ran_out, ground, no_refusal, renumbered, pad_bit, coded};
 ghost use Rattle.csn1.specs.Told.{read_at_of, flagged_at, lead_at, flagged_of, lead_of, coded_of, code_of};

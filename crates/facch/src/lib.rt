@@ -1,4 +1,6 @@
 // NOTIFICATION/FACCH (44.018, 9.1.21a): 2 to 23 octets on the channel of a call in progress, read.
+#![tactic(auto)]
+
 ghost use Rattle.std.specs.Prelude.{◌≡◌, ◌≤◌, length};
 ghost use Rattle.csn1.specs.Format.{bad};
 ghost use Rattle.csn1.specs.Grammar.{one_of, format};

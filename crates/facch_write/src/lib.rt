@@ -1,4 +1,6 @@
 // The writer of NOTIFICATION/FACCH. The form is put together in words, and its length is known before: the buffer is touched last, and a form that does not fit leaves it as it is.
+#![tactic(auto)]
+
 ghost use Rattle.std.specs.Prelude.{◌≡◌, true, ◌≤◌, length};
 ghost use Rattle.csn1.specs.Grammar.{format};
 ghost use Rattle.pen.specs.Words.{whole, Adds};

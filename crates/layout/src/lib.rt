@@ -1,4 +1,6 @@
 // The receiver's state as lent octets: what stands where, how any octets are read, and each change that an event makes (docs/STATE.md has the layout).
+#![tactic(auto)]
+
 use receiver::channels::CHANNELS;
 use receiver::{MOST_ENTRIES, PLACES, Setup};
 

@@ -1,4 +1,6 @@
 // NT/N Rest Octets (44.018, 10.5.2.22c): the 20 octets of the notification channel, read and written.
+#![tactic(auto)]
+
 ghost use Rattle.std.specs.Prelude.{◌≡◌};
 ghost use Rattle.nch.specs.Told.{read_of};
 

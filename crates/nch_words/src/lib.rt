@@ -1,4 +1,6 @@
 // NT/N Rest Octets taken from words: no field is asked for, and each entry asks once whether the place is still inside. What is not taken so is read by asking, from the beginning.
+#![tactic(auto)]
+
 ghost use Rattle.std.specs.Prelude.{◌≡◌, ◌≤◌, length};
 ghost use Rattle.csn1.specs.Told.{padded};
 ghost use Rattle.arrays.specs.Inner.{Zeros};

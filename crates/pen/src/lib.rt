@@ -1,4 +1,6 @@
 // Bits written behind bits in three words, the last of them lowest: octets are touched last, and once.
+#![tactic(auto)]
+
 ghost use Rattle.std.specs.Prelude.{◌≡◌, ◌<◌};
 ghost use Rattle.pen.specs.Words.{no_words, whole, added, put_words};
 

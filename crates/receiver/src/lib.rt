@@ -1,4 +1,6 @@
 // The receiver: halves of segmented notifications kept over time, and what each notified call is told.
+#![tactic(auto)]
+
 use call::Call;
 use csn1::Refusal;
 

@@ -1,4 +1,6 @@
 // One call of a message, taken from words with zeros behind them: no field is asked for, and whoever finishes asks once whether its place is behind the end.
+#![tactic(auto)]
+
 ghost use Rattle.std.specs.Prelude.{◌≡◌, ◌≤◌, ◌<◌};
 ghost use Rattle.call.specs.Call.{frequencies, description, call_grammar};
 ghost use Rattle.call.specs.Inner.{call_from_head};

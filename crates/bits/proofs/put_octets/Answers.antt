@@ -1,6 +1,6 @@
 -- `bits::put_octets` meets its contract. Assumes nothing.
 use mathlib.Core.Path.{refl, ap, ◌∙◌}
-use Prim.Native.Nat.{◌+◌, ◌-◌, ◌*◌, ◌/◌}
+use Prim.Native.Nat.{◌+◌, ◌*◌, ◌/◌}
 use native.Mathlib.Nat.{mod-lt}
 use lib.ListN.{length}
 use lib.Pow.{pow_pos}

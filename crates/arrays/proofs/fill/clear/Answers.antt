@@ -1,6 +1,5 @@
 -- `arrays::fill::clear` meets its contract. Assumes nothing.
 use mathlib.Core.Path.{refl, ◌∙◌}
-use Prim.Native.Nat.{◌-◌}
 use lib.ListN.{length, take, length-set}
 use Rattle.arrays.proofs.Filling.{cleared-next, cleared}
 use native.Mathlib.Omega.{arith}

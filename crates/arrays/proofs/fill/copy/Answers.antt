@@ -1,6 +1,5 @@
 -- `arrays::fill::copy` meets its contract. Assumes nothing.
 use mathlib.Core.Path.{refl, ◌∙◌}
-use Prim.Native.Nat.{◌-◌}
 use lib.ListN.{length, get_or, length-set}
 use Rattle.arrays.proofs.Filling.{copied_next, copied-most}
 use native.Mathlib.Omega.{arith}

@@ -1,6 +1,5 @@
 -- `arrays::limits::holds` meets its contract. Assumes nothing.
 use mathlib.Core.Path.{refl}
-use Prim.Native.Nat.{◌-◌}
 use Rattle.arrays.proofs.Within.{within-next, within_not, within_end}
 use native.Mathlib.Omega.{arith}
 use Rattle.arrays.proofs.limits.holds.Goals as goal

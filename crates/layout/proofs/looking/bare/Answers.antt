@@ -1,9 +1,8 @@
 -- `layout::looking::bare` meets its contract. Assumes nothing.
 use mathlib.Core.Path.{◌≡◌, refl, sym, ◌∙◌}
 use mathlib.Core.Bool.{true≢false}
-use Prim.Native.Nat.{◌+◌, ◌-◌}
+use Prim.Native.Nat.{◌+◌}
 use native.Mathlib.Omega.{arith}
-use borrow.Author.Tests.{not-false}
 use Rattle.layout.specs.Layout.{kinds_from}
 use Rattle.layout.proofs.Wide.{Octs}
 use Rattle.layout.proofs.NoneOut.{many}

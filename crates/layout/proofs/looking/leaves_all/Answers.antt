@@ -1,7 +1,6 @@
 -- `layout::looking::leaves_all` meets its contract. Assumes nothing.
 use mathlib.Core.Path.{sym, ◌∙◌}
 use mathlib.Core.Bool.{true≢false}
-use borrow.Author.Tests.{not-false}
 use Rattle.layout.proofs.Left.{leaves_by}
 use Rattle.layout.proofs.looking.leaves_all.Goals as goal
 use Rattle.layout.proofs.looking.leaves_all.Goals.{then-rule+else-not-alone, else-rule, then-rule-2+else-not-alone-2, else-rule-2}

@@ -1,6 +1,6 @@
 -- `layout::sweep::sweep_group` meets its contract. Assumes nothing.
 use mathlib.Core.Path.{◌≡◌, ◌∙◌}
-use Prim.Native.Nat.{◌-◌, ◌*◌}
+use Prim.Native.Nat.{◌*◌}
 use native.Mathlib.Omega.{arith}
 use Rattle.receiver.specs.Channels.{channels}
 use Rattle.layout.proofs.Runs.{sweeping_none, sweeping_few, sweeping_length, sweeping_key, run-said, group_empty}

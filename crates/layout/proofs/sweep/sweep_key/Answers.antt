@@ -1,6 +1,6 @@
 -- `layout::sweep::sweep_key` meets its contract. Assumes nothing.
 use mathlib.Core.Path.{◌≡◌, sym, ap, ◌∙◌}
-use Prim.Native.Nat.{ℕ, ◌-◌, ◌*◌}
+use Prim.Native.Nat.{ℕ, ◌*◌}
 use native.Mathlib.Omega.{arith}
 use Rattle.receiver.specs.Channels.{channels, place_on, side_of, by_number_of}
 use Rattle.layout.proofs.Sweeps.{timer-by}

@@ -4,7 +4,7 @@ use mathlib.Core.Bool.{true}
 use mathlib.Core.List.{List}
 use Prim.Native.Nat.{ℕ}
 use native.Mathlib.Omega.{arith}
-use borrow.Author.Tests.{not-true, not-false}
+use borrow.Author.Tests.{not-true}
 use Rattle.bits.specs.Field.{pick}
 use Rattle.receiver.specs.Channels.{leads}
 use Rattle.layout.specs.Layout.{is_place, record_at}

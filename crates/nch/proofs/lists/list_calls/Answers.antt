@@ -1,6 +1,6 @@
 -- `nch::lists::list_calls` meets its contract. Assumes nothing.
 use mathlib.Core.Path.{◌≡◌, refl, sym, ◌∙◌}
-use Prim.Native.Nat.{◌+◌, ◌-◌, ◌*◌, ◌≤◌}
+use Prim.Native.Nat.{◌+◌, ◌*◌, ◌≤◌}
 use lib.ListN.{length, length-set}
 use lib.Dec.{leb}
 use Rattle.bits.specs.Field.{fetched}

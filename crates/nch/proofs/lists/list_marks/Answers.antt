@@ -1,6 +1,6 @@
 -- `nch::lists::list_marks` meets its contract. Assumes nothing.
 use mathlib.Core.Path.{◌≡◌, sym, ap, ◌∙◌}
-use Prim.Native.Nat.{◌+◌, ◌-◌, ◌*◌, ◌≤◌}
+use Prim.Native.Nat.{◌+◌, ◌*◌, ◌≤◌}
 use lib.ListN.{length, length-set}
 use Rattle.bits.specs.Field.{fetched}
 use Rattle.bits.specs.declared.Got.TheVariants.{Bits, Short}

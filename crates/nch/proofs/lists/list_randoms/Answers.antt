@@ -1,6 +1,6 @@
 -- `nch::lists::list_randoms` meets its contract. Assumes nothing.
 use mathlib.Core.Path.{◌≡◌, refl, sym, ◌∙◌}
-use Prim.Native.Nat.{◌+◌, ◌-◌, ◌*◌, ◌≤◌, ◌<◌}
+use Prim.Native.Nat.{◌+◌, ◌*◌, ◌≤◌, ◌<◌}
 use lib.ListN.{length, length-set}
 use Rattle.bits.specs.Field.{fetched}
 use Rattle.bits.specs.declared.Got.TheVariants.{Bits, Short}

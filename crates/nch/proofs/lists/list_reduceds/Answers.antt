@@ -3,7 +3,7 @@ use Rattle.nch.proofs.Reading6.{row_reached, widths, widths-small, reduced-short
 use Rattle.arrays.proofs.Zeroed.{kept-long}
 use Rattle.nch.proofs.ReducedsKept.{reduceds_begin, reduceds_refused, reduceds-one, reduceds_more, reduceds_end}
 use mathlib.Core.Path.{◌≡◌, refl, sym, ◌∙◌}
-use Prim.Native.Nat.{◌+◌, ◌-◌, ◌*◌, ◌≤◌}
+use Prim.Native.Nat.{◌+◌, ◌*◌, ◌≤◌}
 use lib.ListN.{length, get_or, length-set}
 use Rattle.bits.specs.Field.{fetched}
 use Rattle.bits.specs.declared.Got.TheVariants.{Bits, Short}

@@ -1,6 +1,6 @@
 -- `nch_words::calls::take_calls` meets its contract. Assumes nothing.
 use mathlib.Core.Path.{◌≡◌, refl, ◌∙◌}
-use Prim.Native.Nat.{◌+◌, ◌-◌}
+use Prim.Native.Nat.{◌+◌}
 use lib.ListN.{length-set}
 use Rattle.bits.specs.Field.{field}
 use Rattle.csn1.specs.Format.{no_refusal}

@@ -1,6 +1,5 @@
 -- `nch_words::lists::take_reduceds` meets its contract. Assumes nothing.
 use mathlib.Core.Path.{◌≡◌, refl}
-use Prim.Native.Nat.{◌-◌}
 use lib.ListN.{length-set}
 use Rattle.bits.specs.Field.{field}
 use Rattle.csn1.specs.Format.{no_refusal}

@@ -1,6 +1,5 @@
 -- `receiver::finding::find` meets its contract. Assumes nothing.
 use mathlib.Core.Path.{sym, ◌∙◌}
-use Prim.Native.Nat.{◌-◌}
 use Rattle.receiver.proofs.Halving.{going_begin, going-none, going-same, going-below, going-above}
 use native.Mathlib.Omega.{arith}
 use Rattle.receiver.proofs.finding.find.Goals as goal

@@ -1,6 +1,5 @@
 -- `receiver::start::all_low` meets its contract. Assumes nothing.
 use mathlib.Core.Path.{refl, sym, ◌∙◌}
-use Prim.Native.Nat.{◌-◌}
 use Rattle.receiver.proofs.Keys.{low-high, low-next, low-past}
 use Rattle.receiver.proofs.start.all_low.Goals as goal
 

@@ -1,6 +1,5 @@
 -- `receiver::start::placed` meets its contract. Assumes nothing.
 use mathlib.Core.Path.{refl, ◌∙◌}
-use Prim.Native.Nat.{◌-◌}
 use Rattle.receiver.specs.Channels.{key_count}
 use Rattle.receiver.proofs.KeyPlaces.{place_set, place-keep, place-all}
 use native.Mathlib.Omega.{arith}

@@ -1,6 +1,5 @@
 -- `receiver::start::rises` meets its contract. Assumes nothing.
 use mathlib.Core.Path.{refl, sym, ◌∙◌}
-use Prim.Native.Nat.{◌-◌}
 use Rattle.receiver.proofs.Keys.{rise_not, rise_next, rise_past}
 use native.Mathlib.Omega.{arith}
 use Rattle.receiver.proofs.start.rises.Goals as goal

@@ -1,6 +1,5 @@
 -- `receiver::start::sets_right` meets its contract. Assumes nothing.
 use mathlib.Core.Path.{refl, sym, ◌∙◌}
-use Prim.Native.Nat.{◌-◌}
 use borrow.Author.Tests.{eq-eqb, ne_eqb, not-true, not-false}
 use Rattle.receiver.proofs.Sets.{sets_wrong, sets_next, sets_past}
 use Rattle.receiver.proofs.start.sets_right.Goals as goal
