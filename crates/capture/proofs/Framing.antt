@@ -1,5 +1,6 @@
 -- The octets of fields in a row are those fields, and what they say is what the receiver answers. Assumes nothing.
-use Rattle.std.proofs.Common.{◌≡◌, ℕ, zero, suc, ◌+◌, ◌≤◌, Bool, true, false, eqb, List, [], ◌∷◌, ◌++◌, length, refl, ap, ◌∙◌, div-add-mod', arith, length-append, take_at, drop_at, ne_eqb, eqb-true, le-leb}
+use Rattle.std.proofs.Common.{◌≡◌, ℕ, zero, suc, ◌+◌, ◌≤◌, Bool, true, false, eqb, List, [], ◌∷◌, ◌++◌, length, refl, ap, ◌∙◌, div-add-mod', arith, length-append, take_at, drop_at, ne_eqb}
+use Rattle.std.proofs.Common.{eqb-true, le-leb}
 use Rattle.bits.specs.Field.{both}
 use Rattle.receiver.specs.declared.Receiver.{Receiver}
 use Rattle.receiver.specs.Step.{Event, step_of}

@@ -1,5 +1,6 @@
 -- Octets gathered to a field, and what taking them one by one makes of what is held. Assumes nothing.
-use Rattle.std.proofs.Common.{◌≡◌, ℕ, suc, ◌+◌, ◌<◌, ◌≤◌, Bool, true, false, leb, List, [], ◌∷◌, length, get_or, drop, set, sym, refl, ap, ◌∙◌, add-zero, add-one, arith, length-set, drop_of_length-le, drop-cons, leb-true}
+use Rattle.std.proofs.Common.{◌≡◌, ℕ, suc, ◌+◌, ◌<◌, ◌≤◌, Bool, true, false, leb, List, [], ◌∷◌, length, get_or, drop, set, sym, refl, ap, ◌∙◌, add-zero, add-one, arith, length-set}
+use Rattle.std.proofs.Common.{drop_of_length-le, drop-cons, leb-true}
 use Rattle.bits.specs.Field.{both, pick}
 use Rattle.receiver.proofs.Cases.{by-test}
 use Rattle.text.specs.declared.Line.{Line}

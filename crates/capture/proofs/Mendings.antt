@@ -1,5 +1,6 @@
 -- Mending, a field at a time: what a step and a call leave is what mending octet by octet gives. Assumes nothing.
-use Rattle.std.proofs.Common.{◌≡◌, ℕ, suc, ◌+◌, ◌%◌, ◌^◌, ◌<◌, ◌≤◌, min, Bool, true, false, not, eqb, ltb, leb, List, [], ◌∷◌, ◌++◌, length, take, drop, sym, refl, ap, ◌∙◌, append_assoc, arith, length-append, length-drop, drop_of_length-le, take_all, drop-drop, eq-eqb, ne_eqb, eqb-true, leb-false, leb-true}
+use Rattle.std.proofs.Common.{◌≡◌, ℕ, suc, ◌+◌, ◌%◌, ◌^◌, ◌<◌, ◌≤◌, min, Bool, true, false, not, eqb, ltb, leb, List, [], ◌∷◌, ◌++◌, length, take, drop, sym, refl, ap, ◌∙◌, append_assoc}
+use Rattle.std.proofs.Common.{arith, length-append, length-drop, drop_of_length-le, take_all, drop-drop, eq-eqb, ne_eqb, eqb-true, leb-false, leb-true}
 use Rattle.bits.specs.Field.{both, pick}
 use Rattle.receiver.proofs.Cases.{by-test}
 use Rattle.layout.specs.Layout.{state_length, Last, last_of}
@@ -222,7 +223,8 @@ module _ (m : Mend) (kept₀ state₀ piece copy₀ : List ℕ) (copied : ℕ) (
   mend_first = record { low = omega arith; long = h; lent = g; copies = refl; lists = refl; rest = more-none whole-call }
 
   module _ (kept state copy list : List ℕ) (held : Mend) (end left i : ℕ) (goes : MendGoing whole-call copy₀ list₀ piece kept state copy list held end left i) where
-    finished : (n : ℕ) → mended_by (mending_of held kept state) (drop i piece) (lines copy end list left) ≡ record { mending = mending_of held kept state; taken = n; lines = lines copy end list left }
+    finished : (n : ℕ) → mended_by (mending_of held kept state) (drop i piece) (lines copy end list left)
+        ≡ record { mending = mending_of held kept state; taken = n; lines = lines copy end list left }
         → (k : ℕ) → k ≡ i + n
         → MendFed (mending_of m kept₀ state₀) piece (lines copy₀ copied list₀ listed) (record { mend = held; taken = k; copied = end; listed = left }) kept state copy list
     finished n e k q =

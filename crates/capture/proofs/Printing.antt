@@ -1,7 +1,6 @@
 -- The text of a field determines its numbers: digits are told from what parts them. Assumes nothing.
 use Rattle.std.proofs.Common.{◌≡◌, ℕ, zero, suc, ◌+◌, ◌-◌, ◌/◌, ◌%◌, ◌^◌, ◌<◌, ◌≤◌, Bool, true, false, cond, ltb, List, [], ◌∷◌, ◌++◌, sym, refl, ap, ◌∙◌, append_assoc, arith}
-use Rattle.io.specs.Digits.{hex_digit_ascii}
-use Rattle.text.specs.Digits.{more, numeral, decimal, number_spelled}
+use Rattle.text.specs.Digits.{hex_digit_ascii, more, numeral, decimal, number_spelled}
 use Rattle.text.proofs.Promises.{a_decimal_number_is_read_back}
 use Rattle.capture.specs.Replay.{Said, blank, line_end, entry_text, entries_text, field_text, line_text}
 use Rattle.capture.specs.Promises.{Small, Printable}

@@ -1,5 +1,6 @@
 -- A long field is answered the same by its first octets: what stands behind them is never looked at. Assumes nothing.
-use Rattle.std.proofs.Common.{◌≡◌, ℕ, ◌-◌, ◌%◌, ◌<◌, ◌≤◌, min, Bool, true, false, eqb, leb, List, length, take, drop, sym, refl, ap, ◌∙◌, arith, length-drop, length-take, take_all, get_or-take, ne_eqb, eqb-true, le-leb, leb-false, leb-true}
+use Rattle.std.proofs.Common.{◌≡◌, ℕ, ◌-◌, ◌%◌, ◌<◌, ◌≤◌, min, Bool, true, false, eqb, leb, List, length, take, drop, sym, refl, ap, ◌∙◌, arith, length-drop, length-take, take_all}
+use Rattle.std.proofs.Common.{get_or-take, ne_eqb, eqb-true, le-leb, leb-false, leb-true}
 use mathlib.Core.Option.{none, some}
 use borrow.Author.Tests.{eqb-false, lt-leb}
 use Rattle.bits.specs.Field.{both, pick}
@@ -16,7 +17,8 @@ use Rattle.receiver.proofs.Cases.{by-test}
 use Rattle.layout.specs.Octets.{tabulate}
 use Rattle.layout.proofs.Numbers.{length-table}
 use Rattle.capture.specs.Capture.{be_at, whole}
-use Rattle.capture.specs.Replay.{tick_length, tick_in, event_by, is_setup, keys_count, key_in, sorted, keys_of, start_in, accepts, said_by, said_to, receiver_after, Stage, before, running, over, said_of, stage_after}
+use Rattle.capture.specs.Replay.{tick_length, tick_in, event_by, is_setup, keys_count, key_in, sorted, keys_of, start_in, accepts, said_by, said_to, receiver_after, Stage, before, running}
+use Rattle.capture.specs.Replay.{over, said_of, stage_after}
 use Rattle.capture.proofs.Answering.{event_1, event-2, event-not-3, event-long}
 use Rattle.capture.proofs.Sorting.{length-sorted}
 

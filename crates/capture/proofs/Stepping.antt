@@ -1,5 +1,6 @@
 -- A step takes octets up to a field's end, and steps make a call: what each leaves is what taking octet by octet gives. Assumes nothing.
-use Rattle.std.proofs.Common.{◌≡◌, ℕ, zero, suc, ◌+◌, ◌-◌, ◌<◌, ◌≤◌, min, Bool, true, false, not, ltb, leb, List, [], ◌∷◌, ◌++◌, length, get_or, take, drop, sym, refl, ap, ◌∙◌, arith, length-drop, drop_of_length-le, length-take-le, take_all, drop-drop, take-add, drop_at, lt-ltb, eq-eqb, ne_eqb, le-leb, leb-false, leb-true}
+use Rattle.std.proofs.Common.{◌≡◌, ℕ, zero, suc, ◌+◌, ◌-◌, ◌<◌, ◌≤◌, min, Bool, true, false, not, ltb, leb, List, [], ◌∷◌, ◌++◌, length, get_or, take, drop, sym, refl, ap, ◌∙◌, arith}
+use Rattle.std.proofs.Common.{length-drop, drop_of_length-le, length-take-le, take_all, drop-drop, take-add, drop_at, lt-ltb, eq-eqb, ne_eqb, le-leb, leb-false, leb-true}
 use Rattle.bits.specs.Field.{both}
 use Rattle.receiver.proofs.Cases.{by-test}
 use Rattle.layout.specs.Layout.{state_length, last_of}
@@ -27,7 +28,8 @@ over-same Over a b = refl
 
 -- ## The contents of a field, as they are lent
 
-pub kept-part : (l : List ℕ) (have end : ℕ) → length l ≡ kept_length → end ≡ min (suc have) kept_length → 2 ≤ have → take (end - head_length) (drop head_length l) ≡ drop head_length (take (suc have) l)
+pub kept-part : (l : List ℕ) (have end : ℕ) → length l ≡ kept_length → end ≡ min (suc have) kept_length → 2 ≤ have
+    → take (end - head_length) (drop head_length l) ≡ drop head_length (take (suc have) l)
 kept-part l have end w e h =
     let a : head_length + (end - head_length) ≡ end = omega arith in
     let s : take end l ≡ take head_length l ++ take (end - head_length) (drop head_length l) = rw a at (take-add head_length (end - head_length) l) in

@@ -1,5 +1,6 @@
 -- The numbers of an answer as they are read from the lent octets, and the text of its entries, one behind the other. Assumes nothing.
-use Rattle.std.proofs.Common.{◌≡◌, ℕ, suc, ◌+◌, ◌*◌, ◌<◌, ◌≤◌, min, List, [], ◌∷◌, ◌++◌, length, get_or, take, sym, ap, ◌∙◌, append-nil, add-one, arith, length-append, length-take, take_all, get_or-take, take-suc, ne_eqb}
+use Rattle.std.proofs.Common.{◌≡◌, ℕ, suc, ◌+◌, ◌*◌, ◌<◌, ◌≤◌, min, List, [], ◌∷◌, ◌++◌, length, get_or, take, sym, ap, ◌∙◌, append-nil, add-one, arith, length-append, length-take, take_all}
+use Rattle.std.proofs.Common.{get_or-take, take-suc, ne_eqb}
 use Rattle.bits.specs.Field.{pick}
 use Rattle.receiver.specs.Step.{no_told}
 use Rattle.layout.specs.Layout.{state_length, is_state, Last, last_of, answer_from}

@@ -1,5 +1,6 @@
 -- What is put into lent octets piece behind piece, and how long the text of a field is. Assumes nothing.
-use Rattle.std.proofs.Common.{◌≡◌, ℕ, zero, suc, ◌+◌, ◌*◌, ◌%◌, ◌<◌, ◌≤◌, List, [], ◌∷◌, ◌++◌, length, get_or, set, sym, refl, ap, ◌∙◌, append_assoc, append-nil, add-zero, arith, length-append, lt-ltb, le-leb}
+use Rattle.std.proofs.Common.{◌≡◌, ℕ, zero, suc, ◌+◌, ◌*◌, ◌%◌, ◌<◌, ◌≤◌, List, [], ◌∷◌, ◌++◌, length, get_or, set, sym, refl, ap, ◌∙◌, append_assoc, append-nil, add-zero, arith}
+use Rattle.std.proofs.Common.{length-append, lt-ltb, le-leb}
 use borrow.Author.Tests.{lt-leb}
 use lib.Seq.{sets-eq}
 use Rattle.arrays.specs.Runs.{stored}

@@ -1,5 +1,7 @@
 -- Octets taken one by one bring the text of the parts that they make: whole fields, and a torn one at the end. Assumes nothing.
-use Rattle.std.proofs.Common.{◌≡◌, ℕ, zero, suc, ◌+◌, ◌-◌, ◌<◌, ◌≤◌, Bool, true, false, ltb, leb, List, [], ◌∷◌, ◌++◌, length, get_or, take, drop, set, sym, refl, ap, ◌∙◌, append_assoc, append-nil, arith, length-append, length-drop, length-set, length-take-le, take_all, get_or-take, take-suc-set, take_at, take-add, drop_at, lt-ltb, le-leb, leb-false, leb-true}
+use Rattle.std.proofs.Common.{◌≡◌, ℕ, zero, suc, ◌+◌, ◌-◌, ◌<◌, ◌≤◌, Bool, true, false, ltb, leb, List, [], ◌∷◌, ◌++◌, length, get_or, take, drop, set, sym, refl, ap, ◌∙◌, append_assoc}
+use Rattle.std.proofs.Common.{append-nil, arith, length-append, length-drop, length-set, length-take-le, take_all, get_or-take, take-suc-set, take_at, take-add, drop_at, lt-ltb, le-leb}
+use Rattle.std.proofs.Common.{leb-false, leb-true}
 use lib.ListN.{get_or-append}
 use lib.Seq.{set_out, take-append-le, drop-append-le, append_snoc}
 use Rattle.bits.specs.Field.{both}

@@ -1,4 +1,6 @@
 // Captures: a day's events as a run of fields, taken octet by octet in constant memory, each field answered by a receiver in lent octets.
+#![tactic(auto)]
+
 use receiver::Setup;
 
 mod answers;

@@ -67,7 +67,7 @@ fn put_part(
 ) -> Ends
     requires { listed + most_listed ≤ length list.old }
     ensures { record { copy = record { octets = copy.new; at = result.copied }; list = record { octets = list.new; at = result.listed } }
-        ≡ wrote octets.old m.replay.number m.offset refusal
+        ≡ wrote octets.now m.replay.number m.offset refusal
         (record { copy = record { octets = copy.old; at = copied }; list = record { octets = list.old; at = listed } }) }
 {
     if refusal == 0 {

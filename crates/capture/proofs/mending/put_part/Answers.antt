@@ -1,0 +1,18 @@
+-- `capture::mending::put_part` meets its contract. Assumes nothing.
+use Rattle.text.proofs.Lines.{joined}
+use Rattle.capture.proofs.Mendings.{wrote-copy, wrote-left}
+use Rattle.capture.proofs.mending.put_part.Goals as goal
+
+pub returns-then-refusal-eq0 : goal.returns-then-refusal-eq0
+returns-then-refusal-eq0 c =
+    let a = c.args in
+    wrote-copy a.octets.now a.m.replay.number a.m.offset a.refusal a.copy.now a.copied a.list.now a.listed c.if-refusal-eq0.true _ _ (joined c.put.ensures)
+
+pub put_left-requires : goal.put_left-requires
+put_left-requires c =
+    c.requires
+
+pub returns : goal.returns
+returns c =
+    let a = c.args in
+    wrote-left a.octets.now a.m.replay.number a.m.offset a.refusal a.copy.now a.copied a.list.now a.listed c.if-refusal-eq0.false _ _ c.put_left.ensures
