@@ -1,5 +1,7 @@
 // Runs the listed inputs of document 01 through the readers and the receiver, and says of each what came out, in the document's words.
 // The inputs marked * there are proved as one table in specs/Listed; this is the same table at work.
+#![tactic(auto)]
+
 use gcc::cause::Meaning;
 use nch::Notification;
 use receiver::{Answer, Receiver, Setup};

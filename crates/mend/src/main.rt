@@ -1,4 +1,6 @@
 // Mends a capture: standard input is a capture, the fields that replay accepts go to standard output, and a list of those left out to standard error (document 02, §12).
+#![tactic(auto)]
+
 use capture::{KEPT, Mend, mending};
 use std::io;
 use std::io::{Read, Stderr, Stdin, Stdout, Write};

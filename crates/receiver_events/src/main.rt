@@ -2,6 +2,8 @@
 //
 // A line is a word and numbers: setup TICK T3206 T3208 KEY.., nch TICK HEX, facch TICK HEX, joined TICK KEY, reselected TICK, handed_over TICK,
 // reconfigured TICK, tick TICK. Its answer is a line: refusal, halves that ran out, halves dropped, entries. A refused setup leaves the receiver.
+#![tactic(auto)]
+
 ghost use Rattle.std.specs.Prelude.{◌≤◌, length};
 
 use call::{Call, Description};

@@ -1,4 +1,6 @@
 // Replays a day's capture: standard input is a capture, and what each field is answered with goes to standard output (document 02, §5).
+#![tactic(auto)]
+
 use capture::{KEPT, Replay, replaying};
 use std::io;
 use std::io::{Read, Stdin, Stdout, Write};
