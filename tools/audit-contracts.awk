@@ -3,6 +3,8 @@
 # the result's struct, and `x.new ≡ ..` for each &mut x that it is lent; each once, and several as a tuple if need be. A right side names the result or what is lent at the return only
 # where an equation before it has said what that is, so by induction two results that meet a contract are equal. Or it is a record of the list RECORDS, applied to the result and
 # to all that is lent at the return: of that it is a theorem, NAMEDetermines (audit-promises.awk).
+# A function that hands something to a writer may answer its error in place of the result, `IfOk result (λ x. x ≡ ..)`, and says nothing of the writer. What a function reads from a reader no
+# contract can say, so of such a one only (a) and (b) are looked at.
 # (k) `≡` is the one of the library, and no parameter hides a name of the library in its function's contract. Nothing foreign is declared, whose contract would be assumed.
 function say(line, what) { print file ":" line ": " what; found++ }
 function wrong(what) { say(from, "public function " name ": " what) }
@@ -95,6 +97,11 @@ function states(k, m,    i, from, joined) {
 }
 function equation(k, m,    i, sign, left, n, w) {
     if (C[k] in records) { stated(k, m); return }
+    if (C[k] == "IfOk" && C[k + 1] == "result" && C[k + 3] == "λ" && C[k + 5] == ENDS && pair[k + 2] == m && result ~ /Result</) {
+        for (i = k + 6; i < m; i++) if (C[i] == C[k + 4] && !dot(C[i - 1])) C[i] = "result"
+        states(k + 6, m - 1)
+        return
+    }
     for (i = k; i <= m && !sign; i++) { if (C[i] ~ /^[({]$/) i = pair[i]; else if (C[i] == "≡") sign = i }
     if (!sign) { wrong("it states no equation: " words(k, m)); return }
     # a left side, or several as a tuple
@@ -150,13 +157,15 @@ function stated(k, m,    i, left) {
     }
 }
 function shown(left) { return left == "r" ? "the result" : left ~ /^r / ? "the field" substr(left, 2) : substr(left, 6) ".new" }
-function words(k, m,    i, s) { for (i = k; i <= m; i++) s = s (i > k ? " " : "") (C[i] == PROJECT ? "." : C[i]); gsub(/[.] /, ".", s); return s }
+function words(k, m,    i, s) { for (i = k; i <= m; i++) s = s (i > k ? " " : "") (C[i] == PROJECT || C[i] == ENDS ? "." : C[i]); gsub(/[.] /, ".", s); return s }
 
 # The parameters of a head, with what is lent by &mut in mutable[].
 function parameters(text,    i, c, s, depth, list, k, w, n, type) {
     for (n in mutable) delete mutable[n]
     for (n in asked) delete asked[n]
     i = index(text, "("); result = ""
+    streams = substr(text, 1, i - 1)
+    reads = streams ~ /[A-Za-z0-9_]: [^,]*Read([>, ]|$)/
     for (depth = 0; i <= length(text); i++) {
         c = substr(text, i, 1)
         if (c ~ /[([<]/) depth++
@@ -173,6 +182,9 @@ function parameters(text,    i, c, s, depth, list, k, w, n, type) {
         sub(/^ *(mut )? */, "", n); sub(/ +$/, "", n)
         for (c in asked) delete asked[c]
         if (type ~ /^ *&([^,]* )?mut /) { mutable[n]; sub(/^ *&([^,]* )?mut /, "", type) }
+        # a writer of a type that the caller chooses
+        c = type; gsub(/ /, "", c)
+        if (c ~ /^[A-Za-z0-9_]+$/ && streams ~ ("[<, ]" c ": [^,]*Write([>, ]|$)")) delete mutable[n]
         if (lends(type " ")) wrong("the parameter " n " holds a &mut, of which nothing is looked at here")
         if (index(lib, " " n " ")) wrong("the parameter " n " hides a name of the library")
     }
@@ -182,6 +194,7 @@ function parameters(text,    i, c, s, depth, list, k, w, n, type) {
 function contract(    i, k, n, w, type, list, said) {
     for (n in known) delete known[n]
     parameters(f_head[f])
+    if (reads) return
     if (f_starred[f]) { wrong("a starred clause says what is not looked at here"); return }
     if (f_path[f] !~ /^(Rattle[.]std[.]specs[.]Prelude|mathlib[.]Core[.]Path)$/) wrong("≡ is not that of the library")
     said = found
@@ -196,7 +209,7 @@ function contract(    i, k, n, w, type, list, said) {
     for (n in known) if (n ~ /^exit / && !(substr(n, 6) in mutable)) wrong("what it says of a return is of no &mut: " substr(n, 6))
     if (result == "" || result == "( )") { for (n in known) if (n ~ /^r/) wrong("there is no result"); return }
     if ("r" in known) return
-    type = result; sub(/^[ &]*/, "", type); sub(/[<\[ ].*/, "", type); sub(/.*::/, "", type)
+    type = result; sub(/.*Result</, "", type); sub(/^[ &]*/, "", type); sub(/[<\[> ].*/, "", type); sub(/.*::/, "", type)
     list = fields[f_crate[f], type]
     if (list == "?") { wrong("there are several structs " type); return }
     if (list == "") { wrong("it does not say what the result is"); return }

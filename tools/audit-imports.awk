@@ -43,13 +43,15 @@ function opens(i) {
     return T[i] == "ghost" && T[i + 1] != "use" ? "{}" : ""
 }
 
-# In the code: a name in lower case is a module before ::, or a function before a bracket; any other is a type or a constant.
+# In the code: a name in lower case is a module before ::, or a function before a bracket; any other is a type or a constant. Readers and writers are also used by their methods.
 function coded(name,    n, pattern) {
+    if (name in methods) for (n = 1; n <= LINES; n++) if (S[n] ~ ("[.](" methods[name] ")[(]")) return 1
     pattern = "(^|[^A-Za-z0-9_.]|[.][.])" name (name ~ /^[A-Z]/ ? "($|[^A-Za-z0-9_])" : "(::|[(])")
     for (n = 1; n <= LINES; n++) if (!importing[n] && S[n] ~ pattern) return 1
     return 0
 }
 {
+    methods["Read"] = "read|read_exact|read_to_end"; methods["Write"] = "write|write_all|flush"
     file = $0; rust = file ~ /\.rt$/
     if (!lex(file, rust)) { say(1, "cannot be read"); next }
     imports(rust); words(rust)

@@ -118,6 +118,12 @@ states 'a record that is not listed' 'it states no equation: Held ( b .new ) res
 states 'a record without what is lent' 'it does not say what is lent as b at the return' '(b: &mut [u8]) -> u8' 'Kept (b.old) result'
 states 'a record without the result' 'it does not say what the result is' '(b: &mut [u8]) -> u8' 'Kept (b.old) (b.new)'
 states 'a record with a function of the result' 'the right side names the result itself' '(b: &mut [u8]) -> u8' 'Kept (b.new) (half result)'
+states 'what is right where it is no error, of what gives none' 'it states no equation: IfOk result ( λ x .x ≡ half a )' '(a: u8) -> u8' 'IfOk result (λ x. x ≡ half a)'
+states 'only a bound where it is no error' 'it states no equation: half result' '(a: u8) -> Result<u8, E>' 'IfOk result (λ x. half x)'
+states 'the right side, where it is no error' 'the right side names the result itself' '<W: Write>(w: &mut W) -> io::Result<u8>' 'IfOk result (λ x. x ≡ half x)'
+states 'what is lent beside a writer' 'it does not say what is lent as b at the return' '<W: Write>(w: &mut W, b: &mut u8) -> io::Result<u8>' 'IfOk result (λ x. x ≡ half 7)'
+states 'a field left out where it is no error' "it does not say what the result's second is" '(a: u8) -> io::Result<Two>' 'IfOk result (λ x. x.first ≡ half a)'
+states 'what is lent of a type that is no writer' 'it does not say what is lent as w at the return' '<W: Display>(w: &mut W) -> u8' 'result ≡ half 7'
 bad 'j: a struct that holds a &mut' $more 6 'public function told: the parameter w holds a &mut, of which nothing is looked at here' "// More of it.
 $path
 pub struct Writer<'a> {

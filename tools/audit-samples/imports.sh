@@ -62,3 +62,8 @@ use other::{LAST, MOST};
 fn told() {
     for i in 0..MOST { x.LAST }
 }'
+bad 'i: a writer that nobody writes to' $more 2 'imports Write and does not use it' '// More of it.
+use std::io::{Read, Write};
+fn told(file: &mut Stdin) {
+    file.read(&mut write_all);
+}'

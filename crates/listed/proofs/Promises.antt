@@ -27,9 +27,11 @@ use Rattle.listed.proofs.Test.{test, all}
 use Rattle.listed.proofs.Whole.{reading_equal, answer-equal, cause-equal, digits-equal}
 
 every-listed-row-passes : all rows ≡ true
-unfolding notification read_items field bit pad_bit ground random_of_call random_of_reduced emergency_of_call late sought_in halving spares ran_out_of taken_of kept_of swept_slots expired_of
-    dropped_of class_of agree joined_of meet_of all_low rises all_sets setup_right started_of call_entry reduced_entry nch_entries slots_after follow_of told_of all_after all_told refusal_of step_of
-    cause.read_of cause.parse cause.meaning_of cause.is_listed digits.read_of spell worth
+unfolding notification read_items field bit pad_bit ground random_of_call random_of_reduced emergency_of_call late sought_in halving spares ran_out_of taken_of kept_of swept_slots
+    expired_of dropped_of
+    class_of agree joined_of meet_of all_low rises all_sets setup_right started_of call_entry reduced_entry nch_entries slots_after follow_of told_of all_after all_told refusal_of step_of
+    cause.read_of
+    cause.parse cause.meaning_of cause.is_listed digits.read_of spell worth
 every-listed-row-passes = refl
 
 -- octets of another number than 20 are refusal 1

@@ -16,8 +16,8 @@ use Rattle.capture.specs.Mend.{copy_of, left_text, list_of, further_by, Parted, 
 use Rattle.capture.specs.Mending.{Mending, mended_one, refusal_one, mend_ending}
 use Rattle.mending.specs.Promises.{Octets}
 use Rattle.capture.proofs.Shortened.{accepted-short}
-use Rattle.capture.proofs.Wholes.{Holds, holds-none, holds-next, last-whole, headed, exact, same_head}
-use Rattle.capture.proofs.Wholes.{whole-then, field-then, parts_none, parts-torn, no_ending, got-whole, said-whole, stage-whole, parts-here}
+use Rattle.capture.proofs.Wholes.{Holds, holds-none, holds-next, last-whole, headed, exact, same_head, whole-then}
+use Rattle.capture.proofs.Wholes.{field-then, parts_none, parts-torn, no_ending, got-whole, said-whole, stage-whole, parts-here}
 use Rattle.mending.proofs.Mends.{octets_are, octets-behind, over-after}
 use Rattle.mending.proofs.Runs.{copy_by, list_by, copy_one, list_one, parted_all, mend_after}
 

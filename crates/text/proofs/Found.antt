@@ -7,7 +7,7 @@ use native.Mathlib.Nat.{pow-zero, pow-suc, pow-succ', one-le-pow, pow-le-pow_rig
 use borrow.Author.Tests.{le-ltb, le-leb, lt-leb, ltb-false}
 use Prim.Native.Nat.{ℕ, zero, suc, ◌-◌, ◌*◌, ◌/◌, ◌^◌, ◌≤◌, ◌<◌, min, max}
 use lib.Dec.{ltb, leb}
-use Rattle.text.specs.Found.{last_digits, IsDigitCount}
+use Rattle.text.specs.Inner.{last_digits, IsDigitCount}
 use Rattle.text.specs.Digits.{more, numeral}
 
 cond_same : {A : Type 0} (t : Bool) (a : A) → cond t a a ≡ a

@@ -8,7 +8,7 @@ use mathlib.Core.Path.{◌≡◌, sym, ap, subst, ◌∙◌}
 use mathlib.Core.List.{List}
 use lib.ListN.{length}
 use lib.Seq.{length-take-le}
-use Rattle.text.specs.Found.{IsDigitCount, IsPrefixLen}
+use Rattle.text.specs.Inner.{IsDigitCount, IsPrefixLen}
 
 pub two-mul-div-le : (n b : ℕ) → 1 < b → 2 * (n / b) ≤ n
 two-mul-div-le n b h = le_trans (mul-le-mul_right (n / b) h) (mul-div-le n b)

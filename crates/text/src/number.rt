@@ -1,7 +1,7 @@
 // A number's digits are found, the most significant first.
-ghost use Rattle.std.specs.Prelude.{◌≡◌, ◌<◌, ◌≤◌, min, max, length, take, drop};
+ghost use Rattle.std.specs.Prelude.{◌≡◌, ◌<◌, ◌≤◌, min, max, length, take};
 ghost use Rattle.text.specs.Digits.{hex_digit_ascii};
-ghost use Rattle.text.specs.Found.{last_digits, IsDigitCount, IsPrefixLen};
+ghost use Rattle.text.specs.Inner.{last_digits, IsDigitCount, IsPrefixLen};
 
 // Puts a number's decimal digits first, and answers how many there are.
 pub(crate) fn find_decimal(n: u64, digits: &mut [u8; 20]) -> usize

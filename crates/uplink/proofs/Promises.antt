@@ -17,7 +17,8 @@ use Rattle.uplink.specs.declared.Told.{Told}
 use Rattle.uplink.specs.Uplink.{Event, longest, passed, asked_for, told_of, asking, with_times, after_signal, step_of, started_of}
 use Rattle.uplink.specs.History.{moments, last_tick, past_of, is_free}
 use Rattle.uplink.specs.Promises.{after, reply_of, reply_to, replies_from, AReplyAndAnUplinkAreAnAnswer, TheAnswerFollowsFromTheHistory, Asks, at_once, ends_in}
-use Rattle.uplink.specs.Promises.{outcomes, EachRequestEndsExactlyOnce, NothingEndsThatDoesNotWait, FreeThen, ARequestIsGrantedExactlyWhen, ARequestIsRejectedExactlyWhen, ARefusedEventChangesNothing, AnEventIsRefusedExactlyByTheClock, ASetupIsRefusedExactlyByItsTimer}
+use Rattle.uplink.specs.Promises.{outcomes, EachRequestEndsExactlyOnce, NothingEndsThatDoesNotWait, FreeThen}
+use Rattle.uplink.specs.Promises.{ARequestIsGrantedExactlyWhen, ARequestIsRejectedExactlyWhen, ARefusedEventChangesNothing, AnEventIsRefusedExactlyByTheClock, ASetupIsRefusedExactlyByItsTimer}
 use Rattle.uplink.proofs.Tests.{by_clock, by_time}
 use Rattle.uplink.proofs.Sums.{Left, late-step, timely-step, asks, asks-free, left_after, timer-right, started, left-started, answer-is, free_now, timer-same}
 use Rattle.uplink.proofs.Fates.{fate, fate-none, asked_waiting, asked_granted, asked-again, ends_are}

@@ -15,8 +15,10 @@ use Rattle.uplink.specs.Promises.{after, reply_of, reply_to, replies_from, Asks,
 use Rattle.uplink.proofs.Promises.{after_one, the_answer_follows_from_the_history, each_request_ends_exactly_once, a_request_is_granted_exactly_when, a_request_is_rejected_exactly_when}
 use Rattle.uplink.proofs.Tests.{by_equal}
 use Rattle.uplink_lent.specs.State.{uplink_length, uplink_of, octets_of, told_number, result_of, setup_code, setup_octets, code_of, octets_after}
-use Rattle.uplink_lent.specs.Promises.{ARefusedSetupLeavesTheOctets, AnAcceptedSetupDoesNotDependOnWhatWasThere, refusal_in, AResultTellsItsReply, ARefusedEventLeavesTheOctets, TheLengthStays, left_after}
-use Rattle.uplink_lent.specs.Promises.{Ticks, TheAnswerFollowsFromTheHistoryInOctets, given_after, AsksInOctets, EachRequestEndsExactlyOnceInOctets, ARequestIsGrantedExactlyWhenInOctets, ARequestIsRejectedExactlyWhenInOctets}
+use Rattle.uplink_lent.specs.Promises.{ARefusedSetupLeavesTheOctets, AnAcceptedSetupDoesNotDependOnWhatWasThere, refusal_in}
+use Rattle.uplink_lent.specs.Promises.{AResultTellsItsReply, ARefusedEventLeavesTheOctets, TheLengthStays, left_after}
+use Rattle.uplink_lent.specs.Promises.{Ticks, TheAnswerFollowsFromTheHistoryInOctets, given_after}
+use Rattle.uplink_lent.specs.Promises.{AsksInOctets, EachRequestEndsExactlyOnceInOctets, ARequestIsGrantedExactlyWhenInOctets, ARequestIsRejectedExactlyWhenInOctets}
 use Rattle.uplink_lent.proofs.Octets.{length-octets}
 use Rattle.uplink_lent.proofs.Calls.{setup_strange, setup_refused, setup_accepted, event_strange, event-refused, event-accepted}
 use Rattle.uplink_lent.proofs.Runs.{Reads, code_is, reads-after, setup_size, setup_right, setup_reads}

@@ -1,4 +1,6 @@
 // The yard set: a receiver for shunters that only listens, and the calls that it shows, in place on lent octets (docs/STATE.md has the layout).
+#![tactic(auto)]
+
 pub mod events;
 mod octets;
 mod settling;

@@ -2,7 +2,7 @@
 use native.Mathlib.Omega.{arith}
 use mathlib.Core.Path.{subst}
 use Prim.Native.Nat.{ℕ}
-use Rattle.text.specs.Found.{IsDigitCount}
+use Rattle.text.specs.Inner.{IsDigitCount}
 use Rattle.text.proofs.Powers.{digit_count_le, prefix}
 use Rattle.text.proofs.number.find_hex.Goals as goal
 

@@ -8,7 +8,7 @@ use lib.Seq.{slice, slice_empty, length-take-le, take-set-lt, append_snoc}
 use native.Mathlib.Nat.{le_refl, le_of_suc-le-suc, not-suc-le-zero}
 use native.Mathlib.Numerals.{sub-one}
 use Rattle.text.specs.Digits.{hex_digit_ascii}
-use Rattle.text.specs.Found.{last_digits}
+use Rattle.text.specs.Inner.{last_digits}
 use Rattle.text.proofs.number.put_digits.Goals as goal
 
 -- after a store at j, the list from j on begins with what was stored

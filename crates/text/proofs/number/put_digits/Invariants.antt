@@ -4,7 +4,7 @@ use mathlib.Core.List.{◌++◌}
 use Prim.Native.Nat.{◌≤◌}
 use lib.ListN.{length}
 use lib.Seq.{slice}
-use Rattle.text.specs.Found.{last_digits}
+use Rattle.text.specs.Inner.{last_digits}
 use Rattle.text.proofs.number.put_digits.Given as goal
 
 abbrev pub invariant-loop-i : goal.invariant-loop-i

@@ -1,6 +1,5 @@
 -- `views::held::next_expiry` meets its contract. Assumes nothing.
 use mathlib.Core.Path.{sym, ◌∙◌}
-use Prim.Native.Nat.{◌-◌}
 use native.Mathlib.Omega.{arith}
 use Rattle.layout.proofs.States.{at-state, no_state}
 use Rattle.views.proofs.Holding.{least_next, least_end, least_all}

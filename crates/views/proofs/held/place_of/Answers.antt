@@ -1,6 +1,6 @@
 -- `views::held::place_of` meets its contract. Assumes nothing.
 use mathlib.Core.Path.{◌≡◌, sym, ap, ◌∙◌}
-use Prim.Native.Nat.{◌+◌, ◌-◌}
+use Prim.Native.Nat.{◌+◌}
 use native.Mathlib.Omega.{arith}
 use Rattle.views.proofs.Holding.{rest, nth, nth-all, nth-found, nth-next, nth_past, nth_end}
 use Rattle.views.proofs.held.place_of.Goals as goal

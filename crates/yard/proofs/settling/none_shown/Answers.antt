@@ -1,5 +1,5 @@
 -- `yard::settling::none_shown` meets its contract. Assumes nothing.
-use Prim.Native.Nat.{◌+◌, ◌-◌}
+use Prim.Native.Nat.{◌+◌}
 use native.Mathlib.Omega.{arith}
 use borrow.Author.Tests.{eqb-true}
 use Rattle.layout.specs.Octets.{octet_at}

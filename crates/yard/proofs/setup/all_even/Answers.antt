@@ -1,6 +1,5 @@
 -- `yard::setup::all_even` meets its contract. Assumes nothing.
 use mathlib.Core.Path.{refl, sym, ◌∙◌}
-use Prim.Native.Nat.{◌-◌}
 use Rattle.yard.proofs.Starting.{even_odd, even_next, even_past}
 use Rattle.yard.proofs.setup.all_even.Goals as goal
 

@@ -1,6 +1,5 @@
 -- `yard::showing::count` meets its contract. Assumes nothing.
 use mathlib.Core.Path.{ap, ◌∙◌}
-use Prim.Native.Nat.{◌-◌}
 use native.Mathlib.Omega.{arith}
 use Rattle.csn1.specs.Told.{as_bit}
 use Rattle.csn1.proofs.Writing.{flag_byte, byte_lt}

@@ -1,6 +1,5 @@
 -- `yard::showing::put_numbers` meets its contract. Assumes nothing.
 use mathlib.Core.Path.{refl}
-use Prim.Native.Nat.{◌-◌}
 use native.Mathlib.Omega.{arith}
 use lib.ListN.{length, length-set}
 use Rattle.yard.specs.Inner.{numbers_of}

@@ -1,4 +1,4 @@
--- How the digits of a number are found: first how many there are, then each from the last on. Assumes nothing.
+-- How the digits of a number are found: first how many there are, then each from the last on. Only contracts of private functions speak of it. Assumes nothing.
 use Rattle.std.specs.Prelude.{◌≡◌, List, [], ◌∷◌, ◌++◌, ℕ, zero, suc, ◌-◌, ◌/◌, ◌%◌, ◌^◌, ◌≤◌, ◌<◌, length, take}
 use Rattle.text.specs.Digits.{hex_digit_ascii}
 
