@@ -102,7 +102,7 @@ impl Line {
         self.word(word).word(&digits[..k])
     }
 
-    // Puts a line end and hands the line to a file. Answers what was handed on, or why the file did not take it.
+    // Puts a line end and hands the line to a file. Answers what was handed on, or why the file did not take it; then nothing is left of the line, and the file may have a part of it.
     pub fn end<W: Write>(self, file: &mut W) -> io::Result<Line>
         ensures { IfOk result (λ line. line ≡ added (10 ∷ []) self) }
     {
@@ -148,9 +148,11 @@ pub fn read_hex(digits: &[u8], octets: &mut [u8]) -> usize
     n
 }
 
-// Reads until there is no more room or the input ends, and answers how many octets were read.
+// Reads until there is no more room or the input ends, and answers how many octets were read, or why the input could not be read: the octets are then as many as they were, and the first of them
+// may be what was read before.
 pub fn read_full<R: Read>(input: &mut R, octets: &mut [u8]) -> io::Result<usize>
-    ensures { IfOk result (λ n. n ≤ length octets.new) }
+    ensures within { IfOk result (λ n. n ≤ length octets.new) }
+    ensures kept { length octets.new ≡ length octets.old }
 {
     let mut n: usize = 0;
     while n < octets.len() {

@@ -1,7 +1,6 @@
 -- `trace::rest::marks` meets its contract. Assumes nothing.
 use native.Mathlib.Omega.{arith}
 use Rattle.trace.proofs.Tracing.{traced_noted, traced_long}
-use Rattle.trace.proofs.Tracing.{traced_noted}
 use Rattle.trace.proofs.Entries.{going_begin, going_end, going_less, going_more}
 use Rattle.trace.proofs.rest.marks.Goals as goal
 
