@@ -1,5 +1,5 @@
 #!/usr/bin/env bash
-# tools/where-field, in a tiny repository, and what CONTRIBUTING.md says to those who prove. The last line is 'N passed, M failed'.
+# tools/where-field and tools/places, in a tiny repository, and what CONTRIBUTING.md says to those who prove. The last line is 'N passed, M failed'.
 set -uo pipefail
 export LC_ALL=C.UTF-8 PYTHONDONTWRITEBYTECODE=1
 cd "$(dirname "${BASH_SOURCE[0]}")/.." || exit 1
@@ -58,6 +58,84 @@ runs 2 where-field t3210
 shows 'nothing names t3210'
 runs 2 where-field 'a|b'
 runs 2 where-field
+
+# ---- places ----
+
+cp tools/places "$top/repo/tools/"
+cat > "$top/repo/crates/low/src/lib.rt" << 'END'
+// What places looks for.
+pub enum Got { Bits(u64), Short }
+
+pub struct At {
+    pub refusal: u8,
+    pub done: bool,
+    pub value: u64,
+}
+
+pub struct Run {
+    pub items: [u8; 4],
+    // Stays: lent by C.
+    pub count: usize,
+}
+
+fn wide(x: u8) -> u64
+    ensures { result ≡ x }
+{
+    x as u64
+}
+
+fn first(s: &[u8], at: usize, kind: u64) -> u64
+    requires { (at ≤ length s.now) × (kind ≤ 9) }
+{
+    let mut sum: u64 = 0;
+    let mut i = at;
+    while i < s.len() {
+        sum = sum | wide(s[i]);
+        i += 1;
+    }
+    sum
+}
+
+// Stays: tried as one function with the first, and a loop over an iterator was slower.
+#[inline]
+fn second<const N: usize, F: Fn(u8) -> u64>(t: &[u8], at: usize, kind: u64) -> u64
+    requires { at ≤ length t.now }
+{
+    let mut all: u64 = 1;
+    let mut k = at;
+    while k < t.len() {
+        all = all | thin(t[k]);
+        k += 2;
+    }
+    all
+}
+
+fn third(t: &[u8], at: usize, kind: u64) -> u64
+    requires { at ≤ length t.now }
+{
+    if kind == 1 { return first(t, at, kind); }
+    if kind == 2 { return second(t, at, kind); }
+    NONE
+}
+
+#[unsafe(no_mangle)]
+pub extern "C" fn low_third(t: &[u8], ch: u32) -> u64 { 0 }
+END
+runs 0 places
+for place in '1 crates/low/src/lib.rt:2 option lib:Got' '1 crates/low/src/lib.rt:5 refusal lib:At' '1 crates/low/src/lib.rt:6 flag done lib:At' '1 crates/low/src/lib.rt:22 kind kind lib:first' \
+    '1 crates/low/src/lib.rt:53 sentinel NONE lib:third' '1 crates/low/src/lib.rt:57 kind ch lib:low_third kept' '2 crates/low/src/lib.rt:22 twins lib:first' \
+    '2 crates/low/src/lib.rt:36 twins lib:second kept' '3 crates/low/src/lib.rt:27 while i lib:first' '3 crates/low/src/lib.rt:41 while k lib:second kept' '4 crates/low/src/lib.rt:16 convert lib:wide' \
+    '5 crates/low/src/lib.rt:22 fact (3) <usize> ≤ length <&[u8]>.now lib:first kept' '6 crates/low/src/lib.rt:13 count count lib:Run kept' '7 crates/low/src/lib.rt:48 switch lib:third'; do
+    grep -qxF -e "$place" "$top/out"
+    note $? "places does not show: $place"
+done
+runs 0 places --count 1 2 3
+shows '| `low` | 8/2 | 2/1 | 2/1 |'
+runs 0 places --other --count
+shows '| `low` | 3 | 2 | 2 |'
+runs 0 places --list
+hides low_third
+runs 2 places nothing
 
 # ---- The page ----
 

@@ -1,21 +1,35 @@
 -- Numbers within their limits: one by one, those behind a place, and runs one behind the other. Assumes nothing.
 use mathlib.Core.Path.{◌≡◌, refl, sym, ap, ◌∙◌}
 use mathlib.Core.List.{List, [], ◌∷◌, ◌++◌, map}
-use mathlib.Core.Bool.{Bool, true, false}
+use mathlib.Core.Bool.{Bool, true, false, ◌&&◌}
 use Prim.Native.Nat.{ℕ, zero, suc, ◌+◌, ◌-◌, ◌≤◌, ◌<◌, min}
 use native.Mathlib.Numerals.{add-one}
 use native.Mathlib.Decide.{dec_le}
 use native.Mathlib.Omega.{arith}
+use Rattle.std.specs.List.{list_all, zip}
 use lib.Dec.{leb}
 use lib.ListN.{length, get_or, take, drop, length-append, length-drop, drop_of_length-le}
 use lib.Seq.{take_all, drop-cons}
 use borrow.Author.Tests.{le-leb, lt-leb, leb-true}
+use Rattle.bits.specs.Field.{both}
 use Rattle.bits.proofs.Answers.{both_true}
 use Rattle.csn1.specs.Format.{Format, ItemsFit}
 use Rattle.csn1.specs.Told.{padded}
 use Rattle.csn1.proofs.Telling.{true-both}
 use Rattle.arrays.specs.Limits.{within, times}
 use Rattle.arrays.specs.Runs.{each}
+
+-- ## Each number beside its limit
+
+pub within-zip : (ns most : List ℕ) → list_all (λ (p : ℕ × ℕ). leb p.0 p.1) (zip ns most) ≡ within ns most
+unfolding within
+within-zip [] most = refl
+within-zip (n ∷ ns) [] = refl
+within-zip (n ∷ ns) (m ∷ most) = rw (within-zip ns most) (one (leb n m) (within ns most))
+  where
+    one : (a b : Bool) → a && b ≡ both a b
+    one true b = refl
+    one false b = refl
 
 -- ## A loop over them: the first i are within
 

@@ -5,10 +5,7 @@ ghost use Rattle.csn1.specs.Told.{is_one};
 pub fn number_at(numbers: &[u64], at: usize) -> u64
     ensures { result ≡ get_or numbers.now at 0 }
 {
-    if at < numbers.len() {
-        return numbers[at];
-    }
-    0
+    numbers.get(at).copied().unwrap_or(0)
 }
 
 pub fn word_at(numbers: &[u64], at: usize) -> u32

@@ -15,13 +15,5 @@ pub const LONG: u64 = 18446744073709551615;
 pub fn holds(numbers: &[u64], most: &[u64]) -> bool
     ensures { result ≡ within numbers.now most.now }
 {
-    let n = bits::least(numbers.len(), most.len());
-    let mut i: usize = 0;
-    while i < n {
-        if most[i] < numbers[i] {
-            return false;
-        }
-        i += 1;
-    }
-    true
+    numbers.iter().zip(most.iter()).all(|(n, m)| n <= m)
 }

@@ -12,10 +12,10 @@ use Rattle.layout.specs.Setup.{SetUp, setup_code}
 use Rattle.lent.specs.Events.{Fed, event_code, answered}
 use Rattle.lent.proofs.Feeding.{refused-step}
 use Rattle.capture.specs.declared.Phase.TheVariants.{Running, Over}
-use Rattle.capture.specs.Replay.{tick_in, tick_length, event_by, times_length, is_setup, setup_in, keys_of, sets_of, start_in, accepts, said_by, before, running, over}
+use Rattle.capture.specs.Replay.{tick_in, tick_length, event_by, if_long, times_length, is_setup, setup_in, keys_of, sets_of, start_in, accepts, said_by, before, running, over}
 use Rattle.capture.specs.Capture.{Field, be_at}
 use Rattle.capture.specs.Machine.{state_after}
-use Rattle.capture.specs.Inner.{shown_by, plain_event, Heard, Answers}
+use Rattle.capture.specs.Inner.{shown_by, Heard, Answers}
 
 -- the low octet of what an event returns is the number of its refusal, 0 where it is accepted
 module _ (l : List ℕ) (e : Event) (state : length l ≡ state_length) where
@@ -64,84 +64,65 @@ unheard tag l = record { said = refl; receiver = refl; octets = refl }
 
 -- ## Which event a field says
 
-module _ (tag t : ℕ) where
-  pub plain_4 : tag ≡ 4 → plain_event tag t ≡ some (reselected t)
-  unfolding plain_event
-  plain_4 e = rw (eq-eqb tag 4 e)
-
-  module _ (n4 : tag ≡ 4 → ⊥) where
-    pub plain_5 : tag ≡ 5 → plain_event tag t ≡ some (handed_over t)
-    unfolding plain_event
-    plain_5 e = rw (ne_eqb tag 4 n4, eq-eqb tag 5 e)
-
-    module _ (n5 : tag ≡ 5 → ⊥) where
-      pub plain-6 : tag ≡ 6 → plain_event tag t ≡ some (reconfigured t)
-      unfolding plain_event
-      plain-6 e = rw (ne_eqb tag 4 n4, ne_eqb tag 5 n5, eq-eqb tag 6 e)
-
-      module _ (n6 : tag ≡ 6 → ⊥) where
-        pub plain-7 : tag ≡ 7 → plain_event tag t ≡ some (tick t)
-        unfolding plain_event
-        plain-7 e = rw (ne_eqb tag 4 n4, ne_eqb tag 5 n5, ne_eqb tag 6 n6, eq-eqb tag 7 e)
-
-        pub plain-none : (tag ≡ 7 → ⊥) → plain_event tag t ≡ none
-        unfolding plain_event
-        plain-none n7 = rw (ne_eqb tag 4 n4, ne_eqb tag 5 n5, ne_eqb tag 6 n6, ne_eqb tag 7 n7)
-
 -- a part of a slice up to its end
 pub part-all : (k : ℕ) (c : List ℕ) → take (length c - k) (drop k c) ≡ drop k c
 part-all k c = take_all (length c - k) (drop k c) (rw length-drop (omega arith))
 
-no_event : (b : Bool) → pick {A = Option Event} b none none ≡ none
-no_event true = refl
-no_event false = refl
+-- an event of a fixed length is none where its tag or its length is another
+long-none : (b : Bool) (n : ℕ) (c : List ℕ) (e : Event) (rest : Option Event) → (b ≡ true → length c ≡ n → ⊥) → rest ≡ none → pick b (if_long n c e) rest ≡ none
+long-none false n c e rest h r = r
+long-none true n c e rest h r = rw (ne_eqb (length c) n (h refl))
 
 module _ (tag : ℕ) (c : List ℕ) where
+  -- whatever the tag, an event has its tick
   pub event-short : length c < tick_length → event_by tag c ≡ none
   unfolding event_by
-  event-short h = simp (lt-leb tick_length (length c) h, ne_eqb (length c) 8 (λ e. omega arith), ne_eqb (length c) 4 (λ e. omega arith), no_event)
+  event-short h =
+      rw (lt-leb tick_length (length c) h)
+      (none-or (eqb tag 1) (none-or (eqb tag 2)
+      (long-none (eqb tag 3) 8 c _ _ (λ _ w. omega arith) (long-none (eqb tag 4) 4 c _ _ (λ _ w. omega arith) (long-none (eqb tag 5) 4 c _ _ (λ _ w. omega arith)
+      (long-none (eqb tag 6) 4 c _ _ (λ _ w. omega arith) (long-none (eqb tag 7) 4 c _ _ (λ _ w. omega arith) refl)))))))
+    where
+      none-or : (b : Bool) → {rest : Option Event} → rest ≡ none → pick b none rest ≡ none
+      none-or true r = refl
+      none-or false r = r
 
-  module _ (led : tick_length ≤ length c) where
-    pub event_1 : tag ≡ 1 → event_by tag c ≡ some (nch (tick_in c) (drop tick_length c))
-    unfolding event_by
-    event_1 e = rw (eq-eqb tag 1 e, le-leb tick_length (length c) led)
+  pub event-none : (tag ≡ 1 → ⊥) → (tag ≡ 2 → ⊥) → (tag ≡ 3 → length c ≡ 8 → ⊥) → (4 ≤ tag → tag ≤ 7 → length c ≡ 4 → ⊥) → event_by tag c ≡ none
+  unfolding event_by
+  event-none n1 n2 n3 n4 =
+      rw (ne_eqb tag 1 n1, ne_eqb tag 2 n2)
+      (long-none (eqb tag 3) 8 c _ _ (λ b. n3 (eqb-true tag 3 b)) (long-none (eqb tag 4) 4 c _ _ (λ b. let e = eqb-true tag 4 b in n4 (omega arith) (omega arith))
+      (long-none (eqb tag 5) 4 c _ _ (λ b. let e = eqb-true tag 5 b in n4 (omega arith) (omega arith))
+      (long-none (eqb tag 6) 4 c _ _ (λ b. let e = eqb-true tag 6 b in n4 (omega arith) (omega arith))
+      (long-none (eqb tag 7) 4 c _ _ (λ b. let e = eqb-true tag 7 b in n4 (omega arith) (omega arith)) refl)))))
 
-    module _ (n1 : tag ≡ 1 → ⊥) where
-      pub event-2 : tag ≡ 2 → event_by tag c ≡ some (facch (tick_in c) (drop tick_length c))
-      unfolding event_by
-      event-2 e = rw (ne_eqb tag 1 n1, eq-eqb tag 2 e, le-leb tick_length (length c) led)
+  pub event-1 : tick_length ≤ length c → tag ≡ 1 → event_by tag c ≡ some (nch (tick_in c) (drop tick_length c))
+  unfolding event_by
+  event-1 h e = rw (e, le-leb tick_length (length c) h)
 
-      module _ (n2 : tag ≡ 2 → ⊥) where
-        pub event-3 : tag ≡ 3 → length c ≡ 8 → event_by tag c ≡ some (joined (tick_in c) (be_at 4 c tick_length))
-        unfolding event_by
-        event-3 e w = rw (ne_eqb tag 1 n1, ne_eqb tag 2 n2, eq-eqb tag 3 e, eq-eqb (length c) 8 w)
+  pub event-2 : tick_length ≤ length c → tag ≡ 2 → event_by tag c ≡ some (facch (tick_in c) (drop tick_length c))
+  unfolding event_by
+  event-2 h e = rw (e, le-leb tick_length (length c) h)
 
-        pub event-not-3 : tag ≡ 3 → (length c ≡ 8 → ⊥) → event_by tag c ≡ none
-        unfolding event_by
-        event-not-3 e w = rw (ne_eqb tag 1 n1, ne_eqb tag 2 n2, eq-eqb tag 3 e, ne_eqb (length c) 8 w)
+  pub event-3 : tag ≡ 3 → length c ≡ 8 → event_by tag c ≡ some (joined (tick_in c) (be_at 4 c tick_length))
+  unfolding event_by
+  event-3 e w = rw (e, eq-eqb (length c) 8 w)
 
-        module _ (n3 : tag ≡ 3 → ⊥) where
-          pub event-long : (length c ≡ 4 → ⊥) → event_by tag c ≡ none
-          unfolding event_by
-          event-long w = simp (ne_eqb tag 1 n1, ne_eqb tag 2 n2, ne_eqb tag 3 n3, ne_eqb (length c) 4 w, no_event)
+  pub event-4 : tag ≡ 4 → length c ≡ 4 → event_by tag c ≡ some (reselected (tick_in c))
+  unfolding event_by
+  event-4 e w = rw (e, eq-eqb (length c) 4 w)
 
-          pub event-plain : length c ≡ 4 → event_by tag c ≡ plain_event tag (tick_in c)
-          unfolding event_by plain_event
-          event-plain w = rw (ne_eqb tag 1 n1, ne_eqb tag 2 n2, ne_eqb tag 3 n3, eq-eqb (length c) 4 w)
+  pub event-5 : tag ≡ 5 → length c ≡ 4 → event_by tag c ≡ some (handed_over (tick_in c))
+  unfolding event_by
+  event-5 e w = rw (e, eq-eqb (length c) 4 w)
 
--- ## What a field is answered with behind the setup
+  pub event-6 : tag ≡ 6 → length c ≡ 4 → event_by tag c ≡ some (reconfigured (tick_in c))
+  unfolding event_by
+  event-6 e w = rw (e, eq-eqb (length c) 4 w)
 
-module _ (tag : ℕ) (c l : List ℕ) where
-  pub next-again : tag ≡ 0 → Answers (record { tag = tag; contents = c }) (running (decode_of l)) l (record { refusal = 17; phase = Running }) l
-  next-again e =
-      let b = eq-eqb tag 0 e in
-      record { said = rw b; stage = rw b; octets = rw b }
-
-  pub next-heard : (tag ≡ 0 → ⊥) → (left : List ℕ) (code : ℕ) → Heard tag (event_by tag c) l left code
-      → Answers (record { tag = tag; contents = c }) (running (decode_of l)) l (record { refusal = code % 256; phase = Running }) left
-  next-heard n left code h =
-      let b = ne_eqb tag 0 n in
-      record { said = rw b h.said; stage = rw b (ap running h.receiver); octets = rw b h.octets }
+  pub event-7 : tag ≡ 7 → length c ≡ 4 → event_by tag c ≡ some (tick (tick_in c))
+  unfolding event_by
+  event-7 e w = rw (e, eq-eqb (length c) 4 w)
 
 -- ## The first field
 

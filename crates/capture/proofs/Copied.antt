@@ -1,8 +1,10 @@
 -- Octets of a field whose head is there are gathered at a stroke: how many, and what is kept of them. Assumes nothing.
 use Rattle.std.proofs.Common.{◌≡◌, ℕ, zero, suc, ◌+◌, ◌-◌, ◌<◌, ◌≤◌, min, Bool, true, false, leb, List, [], ◌∷◌, ◌++◌, length, take, drop, set, sym, refl, ap, ◌∙◌, add-zero, arith}
-use Rattle.std.proofs.Common.{length-take-le, get_or-set_other, take-add, le-leb, leb-false, leb-true}
+use Rattle.std.proofs.Common.{length-take-le, take-append-drop, take_all, get_or-set_other, le-leb, leb-false, leb-true}
 use borrow.Author.Tests.{lt-leb}
-use lib.Seq.{set_out}
+use borrow.Rule.Slice.PartMut.{put_mid}
+use lib.Seq.{set_out, sets-eq, take-length}
+use Rattle.std.proofs.lemmas.Slice.{put_mid-paste}
 use Rattle.arrays.specs.Runs.{stored}
 use Rattle.arrays.proofs.Running.{stored-then, length-stored}
 use Rattle.receiver.proofs.Cases.{by-test}
@@ -20,19 +22,29 @@ stored-out l at (v ∷ vs) h = rw (set_out l at v h) (stored-out l (suc at) vs (
 pub none-copied : (l : List ℕ) (at : ℕ) (vs : List ℕ) → length l ≤ at → l ≡ stored l at vs
 none-copied l at vs h = sym (stored-out l at vs h)
 
--- of n octets the first m, where the others have no room
-pub copied : (l : List ℕ) (at : ℕ) (s : List ℕ) (n m : ℕ) → at ≤ length l → n ≤ length s → m ≡ min n (length l - at) → stored l at (take m s) ≡ stored l at (take n s)
-copied l at s n m h k e =
-    by-test (leb n (length l - at))
-    (λ p. let q = leb-true n (length l - at) p in let z : m ≡ n = omega arith in rw z)
+-- of octets the first n, where the others have no room
+copied : (l : List ℕ) (at : ℕ) (s : List ℕ) (n : ℕ) → at ≤ length l → n ≡ min (length s) (length l - at) → stored l at (take n s) ≡ stored l at s
+copied l at s n h e =
+    by-test (leb (length s) (length l - at))
+    (λ p. let q = leb-true (length s) (length l - at) p in rw (take_all n s (omega arith)))
     (λ p.
-    let q = leb-false n (length l - at) p in
-    let z : m + (n - m) ≡ n = omega arith in
-    let t : take n s ≡ take m s ++ take (n - m) (drop m s) = rw z at (take-add m (n - m) s) in
-    let w : length (take m s) ≡ m = length-take-le m s (omega arith) in
-    rw t
-    (sym (sym (stored-then l at (take m s) (take (n - m) (drop m s)))
-    ∙ stored-out (stored l at (take m s)) (at + length (take m s)) (take (n - m) (drop m s)) (rw length-stored (omega arith)))))
+    let q = leb-false (length s) (length l - at) p in
+    let w : length (take n s) ≡ n = length-take-le n s (omega arith) in
+    let t : take n s ++ drop n s ≡ s = take-append-drop n s in
+    sym (ap (stored l at) (sym t) ∙ sym (stored-then l at (take n s) (drop n s))
+    ∙ stored-out (stored l at (take n s)) (at + length (take n s)) (drop n s) (rw length-stored (omega arith))))
+
+-- a part that was written is a run of stores
+pub part-copied : (l : List ℕ) (at : ℕ) (s : List ℕ) (n k : ℕ) (t : List ℕ) → at ≤ length l → k ≡ n → n ≡ min (length s) (length l - at) → t ≡ take n s → put_mid at k l t ≡ stored l at s
+unfolding stored
+part-copied l at s n k t h e m q =
+    let vs : List ℕ = take n s in
+    let w : length vs ≡ n = length-take-le n s (omega arith) in
+    let f : length vs ≡ k = w ∙ sym e in
+    put_mid-paste at k l t vs (length vs) q f refl
+    ∙ ap (λ (x : List ℕ). take at l ++ x ++ drop (at + length vs) l) (take-length vs)
+    ∙ sym (sets-eq vs l at (omega arith))
+    ∙ copied l at s n h m
 
 -- ## Octets behind the head
 

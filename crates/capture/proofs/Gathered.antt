@@ -3,17 +3,13 @@ use Rattle.std.proofs.Common.{◌≡◌, ℕ, suc, ◌+◌, ◌<◌, ◌≤◌, 
 use Rattle.std.proofs.Common.{drop_of_length-le, drop-cons, leb-true}
 use Rattle.bits.specs.Field.{both, pick}
 use Rattle.receiver.proofs.Cases.{by-test}
-use Rattle.text.specs.declared.Line.{Line}
-use Rattle.text.specs.Lines.{added}
+use Rattle.text.specs.Lines.{Line, added}
 use Rattle.capture.specs.Capture.{head_length, whole}
 use Rattle.capture.specs.Replay.{is_over, said_of, stage_after, line_text, next_number}
 use Rattle.capture.specs.Machine.{Machine, field_kept, state_after, is_last, kept_with, took_one, text_one, has_room, Taken, more, fed_by}
 use Rattle.capture.specs.Inner.{Gathering, further, gathering}
 
 -- ## The loop that gathers
-
-pub further-none : (g : Gathering) → g ≡ further 0 g
-further-none g = let z : g.taken ≡ 0 + g.taken = omega arith in ap (λ n. record { kept = g.kept; taken = n; whole = g.whole; have = g.have }) z
 
 further_then : (m n : ℕ) (g : Gathering) → further m (further n g) ≡ further (m + n) g
 further_then m n g = let z : m + (n + g.taken) ≡ m + n + g.taken = omega arith in ap (λ k. record { kept = g.kept; taken = k; whole = g.whole; have = g.have }) z

@@ -1,11 +1,10 @@
 -- Mending, a field at a time: what a step and a call leave is what mending octet by octet gives. Assumes nothing.
-use Rattle.std.proofs.Common.{◌≡◌, ℕ, suc, ◌+◌, ◌%◌, ◌^◌, ◌<◌, ◌≤◌, min, Bool, true, false, not, eqb, ltb, leb, List, [], ◌∷◌, ◌++◌, length, take, drop, sym, refl, ap, ◌∙◌, append_assoc}
+use Rattle.std.proofs.Common.{Some, ◌≡◌, ℕ, suc, ◌+◌, ◌%◌, ◌^◌, ◌<◌, ◌≤◌, min, Bool, true, false, not, eqb, ltb, leb, List, [], ◌∷◌, ◌++◌, length, take, drop, sym, refl, ap, ◌∙◌, append_assoc}
 use Rattle.std.proofs.Common.{arith, length-append, length-drop, drop_of_length-le, take_all, drop-drop, eq-eqb, ne_eqb, eqb-true, leb-false, leb-true}
 use Rattle.bits.specs.Field.{both, pick}
 use Rattle.receiver.proofs.Cases.{by-test}
 use Rattle.layout.specs.Layout.{state_length, Last, last_of}
-use Rattle.text.specs.declared.Line.{Line}
-use Rattle.text.specs.Lines.{added, full}
+use Rattle.text.specs.Lines.{Line, added}
 use Rattle.text.specs.Digits.{decimal}
 use Rattle.text.proofs.Lines.{line, parted}
 use Rattle.capture.specs.declared.Mend.{Mend}
@@ -15,7 +14,7 @@ use Rattle.capture.specs.Capture.{whole}
 use Rattle.capture.specs.Replay.{Said, Stage, is_over, said_of, next_number, blank, line_end}
 use Rattle.capture.specs.Machine.{kept_length, Machine, stage_in, machine_of, field_kept, kept_with, is_last, took_one}
 use Rattle.capture.specs.Mend.{left_text, further_by}
-use Rattle.capture.specs.Mending.{Mending, mending_of, mended_one, Lines, wrote, most_listed, room_for, have_room, MendTaken, none_mended, more_mended, mended_by, MendFed, mend_ended_by}
+use Rattle.capture.specs.Mending.{Mending, mending_of, mended_one, Lines, wrote, most_listed, room_for, have_room, MendTaken, none_mended, more_mended, mended_by, MendFed, mend_ended_by, mend_place_ended}
 use Rattle.capture.specs.Inner.{Gathering, further, gathering, shown_by, Answers, MendStepped}
 use Rattle.capture.proofs.Texts.{nothing-added, then-added, length-number}
 use Rattle.capture.proofs.Gathered.{gather_some, gather_within, gone_on, ended_with}
@@ -25,12 +24,6 @@ abbrev pub lines : List ℕ → ℕ → List ℕ → ℕ → Lines
 lines copy copied list listed = record { copy = line copy copied; list = line list listed }
 
 -- ## Two tests
-
-pub both_first : (a b : Bool) → a ≡ false → false ≡ both a b
-both_first a b e = rw e
-
-pub both-then : (a b c : Bool) → a ≡ true → c ≡ b → c ≡ both a b
-both-then a b c e f = rw (e, f)
 
 pub second-of : (a b : Bool) → both a b ≡ true → b ≡ true
 second-of true b e = e
@@ -265,9 +258,6 @@ module _ (m : Mend) (kept₀ state₀ piece copy₀ : List ℕ) (copied : ℕ) (
 -- ## The end
 
 module _ (m : Mending) (l : List ℕ) (at : ℕ) where
-  pub mend_ended-full : room_for most_listed (line l at) ≡ false → (full ≡ (mend_ended_by m (line l at)).at) × (l ≡ (mend_ended_by m (line l at)).octets)
-  mend_ended-full e = (rw e, rw e)
-
   module _ (room : room_for most_listed (line l at) ≡ true) where
     pub mend_ended-none : both (ltb 0 m.machine.got) (not (is_over m.machine.stage)) ≡ false → (at ≡ (mend_ended_by m (line l at)).at) × (l ≡ (mend_ended_by m (line l at)).octets)
     mend_ended-none e = parted (rw (room, e) (nothing-added l at (omega (arith, leb-true (at + most_listed) (length l) room))))
@@ -275,3 +265,7 @@ module _ (m : Mending) (l : List ℕ) (at : ℕ) where
     pub mend_ended-torn : both (ltb 0 m.machine.got) (not (is_over m.machine.stage)) ≡ true → (o : List ℕ) (end : ℕ)
         → line o end ≡ added (left_text m.machine.number m.offset 18) (line l at) → (end ≡ (mend_ended_by m (line l at)).at) × (o ≡ (mend_ended_by m (line l at)).octets)
     mend_ended-torn e o end f = parted (rw (room, e) f)
+
+-- the place that is answered, where there is room
+pub mend_ended_place : (m : Mending) (l : List ℕ) (at end : ℕ) → room_for most_listed (line l at) ≡ true → end ≡ (mend_ended_by m (line l at)).at → Some end ≡ mend_place_ended m (line l at)
+mend_ended_place m l at end room e = let f = rw room at e in rw room (ap Some f)

@@ -9,8 +9,7 @@ use Rattle.receiver.specs.Channels.{number_of}
 use Rattle.receiver.specs.Model.{keys_of, swept_slots}
 use Rattle.receiver.specs.Step.{Event, Content, content_of, cell_after, rule_by, no_told, most_entries, all_told, refusal_of, step_of}
 use Rattle.receiver.proofs.Cases.{by-test}
-use Rattle.text.specs.declared.Line.{Line}
-use Rattle.text.specs.Lines.{added}
+use Rattle.text.specs.Lines.{Line, added}
 use Rattle.text.proofs.Lines.{line}
 use Rattle.capture.specs.Capture.{Part, whole, torn}
 use Rattle.capture.specs.Replay.{Stage, before, running, over, said_to, said_of, event_in, line_text}

@@ -19,7 +19,7 @@ use Rattle.layout.proofs.Numbers.{length-table}
 use Rattle.capture.specs.Capture.{be_at, whole}
 use Rattle.capture.specs.Replay.{tick_length, tick_in, event_by, is_setup, keys_count, key_in, sorted, keys_of, start_in, accepts, said_by, said_to, receiver_after, Stage, before, running}
 use Rattle.capture.specs.Replay.{over, said_of, stage_after}
-use Rattle.capture.proofs.Answering.{event_1, event-2, event-not-3, event-long}
+use Rattle.capture.proofs.Answering.{event-1, event-2, event-none}
 use Rattle.capture.proofs.Sorting.{length-sorted}
 
 -- the contents that are kept of a field
@@ -85,24 +85,18 @@ module _ (tag : ℕ) (c : List ℕ) (long : most < length c) where
         by-test (eqb tag 1)
         (λ p.
         let e = eqb-true tag 1 p in
-        said_same (nch (tick_in short) (drop tick_length short)) (nch (tick_in c) (drop tick_length c)) (event_1 tag short h e) (event_1 tag c g e)
+        said_same (nch (tick_in short) (drop tick_length short)) (nch (tick_in c) (drop tick_length c)) (event-1 tag short h e) (event-1 tag c g e)
         (nch-refused r (tick_in short) (drop tick_length short) (λ q. omega arith) ∙ rw same-tick (sym (nch-refused r (tick_in c) (drop tick_length c) (λ q. omega arith)))))
         (λ p.
         let n1 = eqb-false tag 1 p in
         by-test (eqb tag 2)
         (λ p.
         let e = eqb-true tag 2 p in
-        said_same (facch (tick_in short) (drop tick_length short)) (facch (tick_in c) (drop tick_length c)) (event-2 tag short h n1 e) (event-2 tag c g n1 e)
+        said_same (facch (tick_in short) (drop tick_length short)) (facch (tick_in c) (drop tick_length c)) (event-2 tag short h e) (event-2 tag c g e)
         (facch-refused r (tick_in short) (drop tick_length short) (omega arith) ∙ rw same-tick (sym (facch-refused r (tick_in c) (drop tick_length c) (omega arith)))))
         (λ p.
         let n2 = eqb-false tag 2 p in
-        by-test (eqb tag 3)
-        (λ p.
-        let e = eqb-true tag 3 p in
-        said-none (event-not-3 tag short h n1 n2 e (λ q. omega arith)) (event-not-3 tag c g n1 n2 e (λ q. omega arith)))
-        (λ p.
-        let n3 = eqb-false tag 3 p in
-        said-none (event-long tag short h n1 n2 n3 (λ q. omega arith)) (event-long tag c g n1 n2 n3 (λ q. omega arith)))))
+        said-none (event-none tag short n1 n2 (λ _ q. omega arith) (λ _ _ q. omega arith)) (event-none tag c n1 n2 (λ _ q. omega arith) (λ _ _ q. omega arith))))
 
   -- no setup is so long
   short-refused : accepts (record { tag = tag; contents = short }) ≡ false
@@ -151,16 +145,14 @@ module _ (tag : ℕ) (c : List ℕ) (long : most < length c) where
       let g : tick_length ≤ length c = omega arith in
       let b : 205 < length (drop tick_length c) = rw length-drop (omega arith) in
       by-test (eqb tag 1)
-      (λ p. rw (event_1 tag c g (eqb-true tag 1 p), nch-refused r (tick_in c) (drop tick_length c) (λ q. omega arith)) (not_so r (tick_in c)))
+      (λ p. rw (event-1 tag c g (eqb-true tag 1 p), nch-refused r (tick_in c) (drop tick_length c) (λ q. omega arith)) (not_so r (tick_in c)))
       (λ p.
       let n1 = eqb-false tag 1 p in
       by-test (eqb tag 2)
-      (λ p. rw (event-2 tag c g n1 (eqb-true tag 2 p), facch-refused r (tick_in c) (drop tick_length c) (omega arith)) (not_so r (tick_in c)))
+      (λ p. rw (event-2 tag c g (eqb-true tag 2 p), facch-refused r (tick_in c) (drop tick_length c) (omega arith)) (not_so r (tick_in c)))
       (λ p.
       let n2 = eqb-false tag 2 p in
-      by-test (eqb tag 3)
-      (λ p. rw (event-not-3 tag c g n1 n2 (eqb-true tag 3 p) (λ q. omega arith)) (λ e. omega arith))
-      (λ p. rw (event-long tag c g n1 n2 (eqb-false tag 3 p) (λ q. omega arith)) (λ e. omega arith))))
+      rw (event-none tag c n1 n2 (λ _ q. omega arith) (λ _ _ q. omega arith)) (λ e. omega arith)))
     where
       not_so : (r : Receiver) (t : ℕ) → (length_refused r t).number ≡ 0 → ⊥
       not_so r t = by-test (late t r.tick) (λ p. rw p (λ e. omega arith)) (λ p. rw p (λ e. omega arith))

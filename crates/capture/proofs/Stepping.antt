@@ -1,11 +1,10 @@
 -- A step takes octets up to a field's end, and steps make a call: what each leaves is what taking octet by octet gives. Assumes nothing.
-use Rattle.std.proofs.Common.{◌≡◌, ℕ, zero, suc, ◌+◌, ◌-◌, ◌<◌, ◌≤◌, min, Bool, true, false, not, ltb, leb, List, [], ◌∷◌, ◌++◌, length, get_or, take, drop, sym, refl, ap, ◌∙◌, arith}
+use Rattle.std.proofs.Common.{Some, ◌≡◌, ℕ, zero, suc, ◌+◌, ◌-◌, ◌<◌, ◌≤◌, min, Bool, true, false, not, ltb, leb, List, [], ◌∷◌, ◌++◌, length, get_or, take, drop, sym, refl, ap, ◌∙◌, arith}
 use Rattle.std.proofs.Common.{length-drop, drop_of_length-le, length-take-le, take_all, drop-drop, take-add, drop_at, lt-ltb, eq-eqb, ne_eqb, le-leb, leb-false, leb-true}
 use Rattle.bits.specs.Field.{both}
 use Rattle.receiver.proofs.Cases.{by-test}
 use Rattle.layout.specs.Layout.{state_length, last_of}
-use Rattle.text.specs.declared.Line.{Line}
-use Rattle.text.specs.Lines.{added, full}
+use Rattle.text.specs.Lines.{Line, added}
 use Rattle.text.proofs.Lines.{line, parted}
 use Rattle.capture.specs.declared.Phase.{Phase}
 use Rattle.capture.specs.declared.Phase.TheVariants.{Before, Running, Over}
@@ -14,7 +13,7 @@ use Rattle.capture.specs.declared.Fed.{Fed}
 use Rattle.capture.specs.declared.answers.Answered.{Answered}
 use Rattle.capture.specs.Capture.{head_length}
 use Rattle.capture.specs.Replay.{Stage, is_over, field_text, line_text, next_number}
-use Rattle.capture.specs.Machine.{kept_length, Machine, stage_in, machine_of, field_kept, most_text, has_room, Taken, none_taken, more, fed_by, Replayed, ended_by}
+use Rattle.capture.specs.Machine.{kept_length, Machine, stage_in, machine_of, field_kept, most_text, has_room, Taken, none_taken, more, fed_by, Replayed, ended_by, place_ended}
 use Rattle.capture.specs.Inner.{Gathering, gathering, shown_by, Answers, Stepped}
 use Rattle.capture.proofs.Texts.{nothing-added}
 use Rattle.capture.proofs.Telling.{torn-text}
@@ -159,9 +158,6 @@ module _ (r : Replay) (kept₀ state₀ out₀ piece : List ℕ) (at : ℕ) (kep
 -- ## The end
 
 module _ (m : Machine) (l : List ℕ) (at : ℕ) where
-  pub ended_full : has_room (line l at) ≡ false → (full ≡ (ended_by m (line l at)).at) × (l ≡ (ended_by m (line l at)).octets)
-  ended_full e = (rw e, rw e)
-
   module _ (room : has_room (line l at) ≡ true) where
     pub ended_none : both (ltb 0 m.got) (not (is_over m.stage)) ≡ false → (at ≡ (ended_by m (line l at)).at) × (l ≡ (ended_by m (line l at)).octets)
     ended_none e = parted (rw (room, e) (nothing-added l at (omega (arith, leb-true (at + most_text) (length l) room))))
@@ -169,6 +165,10 @@ module _ (m : Machine) (l : List ℕ) (at : ℕ) where
     pub ended_torn : both (ltb 0 m.got) (not (is_over m.stage)) ≡ true → (o : List ℕ) (end tag : ℕ) → tag ≡ get_or m.kept 0 0
         → line o end ≡ added (field_text m.number tag 18 0) (line l at) → (end ≡ (ended_by m (line l at)).at) × (o ≡ (ended_by m (line l at)).octets)
     ended_torn e o end tag t f = parted (rw (room, e, ← t, ← torn-text m.number tag) f)
+
+-- the place that is answered, where there is room
+pub ended_place : (m : Machine) (l : List ℕ) (at end : ℕ) → has_room (line l at) ≡ true → end ≡ (ended_by m (line l at)).at → Some end ≡ place_ended m (line l at)
+ended_place m l at end room e = let f = rw room at e in rw room (ap Some f)
 
 pub not_begun : (b : Bool) (got : ℕ) → got ≡ 0 → both (ltb 0 got) b ≡ false
 not_begun b got e = rw e

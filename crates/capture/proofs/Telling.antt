@@ -8,8 +8,7 @@ use Rattle.layout.specs.Parts.{part_of}
 use Rattle.layout.proofs.States.{at-state}
 use Rattle.layout.proofs.Numbers.{le_below}
 use Rattle.layout.proofs.AllParts.{nine-entries}
-use Rattle.text.specs.declared.Line.{Line}
-use Rattle.text.specs.Lines.{added}
+use Rattle.text.specs.Lines.{Line, added}
 use Rattle.text.specs.Digits.{decimal}
 use Rattle.text.proofs.Lines.{line}
 use Rattle.capture.specs.Replay.{told, blank, line_end, said_only, entry_text, entries_text, field_text, line_text}

@@ -7,10 +7,9 @@ use Rattle.arrays.specs.Runs.{stored}
 use Rattle.arrays.proofs.Running.{stored-none, stored_one, stored-then, length-stored}
 use Rattle.receiver.specs.declared.Told.{Told}
 use Rattle.receiver.specs.Step.{no_told}
-use Rattle.text.specs.declared.Line.{Line}
-use Rattle.text.specs.Lines.{added}
+use Rattle.text.specs.Lines.{Line, added}
 use Rattle.text.specs.Digits.{numeral, decimal}
-use Rattle.text.proofs.Lines.{line, joined}
+use Rattle.text.proofs.Lines.{line}
 use Rattle.text.proofs.Numerals.{length-numeral}
 use Rattle.capture.specs.Replay.{told, blank, line_end, entry_text, entries_text, field_text}
 
@@ -40,10 +39,8 @@ then-added s t l at x y h e f =
     f ∙ ap (added t) (e ∙ added-stored s l at u) ∙ added-stored t (stored l at s) (at + length s) v ∙ rw (stored-then l at s t, q) (sym (added-stored (s ++ t) l at w))
 
 -- one octet behind what was put
-pub octet-added : (s l o : List ℕ) (at end b : ℕ) → at + length s < length l → (end ≡ (added s (line l at)).at) × (o ≡ (added s (line l at)).octets)
-    → line (set o end b) (end + 1) ≡ added (s ++ (b ∷ [])) (line l at)
-octet-added s l o at end b h e =
-    let j = joined {l = o} {at = end} {x = added s (line l at)} e in
+pub octet-added : (s l o : List ℕ) (at end b : ℕ) → at + length s < length l → line o end ≡ added s (line l at) → line (set o end b) (end + 1) ≡ added (s ++ (b ∷ [])) (line l at)
+octet-added s l o at end b h j =
     let p = placed s l o at end (omega arith) j in
     let u : end + 1 ≤ length o = omega arith in
     then-added s (b ∷ []) l at (line o end) (line (set o end b) (end + 1)) (omega arith) j

@@ -1,7 +1,7 @@
 -- Calls of `feed` in a row, each on what the one before it left: the octets that they took, and the text that they wrote. Assumes nothing.
 use Rattle.std.specs.Prelude.{◌≡◌, ℕ, ◌-◌, List, [], ◌∷◌, ◌++◌, length, take, drop}
 use Rattle.layout.specs.Layout.{state_length}
-use Rattle.text.specs.declared.Line.{Line}
+use Rattle.text.specs.Lines.{Line}
 use Rattle.capture.specs.declared.Replay.{Replay}
 use Rattle.capture.specs.declared.Fed.{Fed}
 use Rattle.capture.specs.Machine.{kept_length, Machine, machine_of, fed_by, Replayed}

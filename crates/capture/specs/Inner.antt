@@ -1,10 +1,10 @@
 -- What only private functions' contracts speak of; nothing public rests on it. Assumes nothing.
 use Rattle.std.specs.Prelude.{◌≡◌, ℕ, suc, ◌+◌, ◌%◌, ◌<◌, ◌≤◌, Bool, true, false, List, [], ◌∷◌, length, take, drop, set, ◌==◌}
-use Rattle.std.proofs.Math.Option.{Option, none, some}
+use Rattle.std.proofs.Math.Option.{Option}
 use Rattle.bits.specs.Field.{pick}
-use Rattle.receiver.specs.Step.{Event, reselected, handed_over, reconfigured, tick}
+use Rattle.receiver.specs.Step.{Event}
 use Rattle.layout.specs.Layout.{decode_of, Last, last_of}
-use Rattle.text.specs.declared.Line.{Line}
+use Rattle.text.specs.Lines.{Line}
 use Rattle.capture.specs.declared.answers.Answered.{Answered}
 use Rattle.capture.specs.Capture.{Field, whole}
 use Rattle.capture.specs.Replay.{Said, said_only, told, Stage, said_to, said_of, receiver_after, stage_after}
@@ -37,11 +37,6 @@ gathering kept got (o ∷ s) =
 abbrev pub shown_by : ℕ → ℕ → Last → Said
 shown_by tag n a =
     pick (n == 0) (record { tag = tag; refusal = 0; dropped = a.expired + a.dropped; entries = told (take a.count a.entries) }) (said_only tag n)
-
--- an event without more than its tick, by its tag
-unfoldable pub plain_event : ℕ → ℕ → Option Event
-plain_event tag t =
-    pick (tag == 4) (some (reselected t)) (pick (tag == 5) (some (handed_over t)) (pick (tag == 6) (some (reconfigured t)) (pick (tag == 7) (some (tick t)) none)))
 
 -- what the receiver in the lent octets answers to an event, or to none
 pub record Heard (tag : ℕ) (x : Option Event) (l left : List ℕ) (code : ℕ) : Type 0 where

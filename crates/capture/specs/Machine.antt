@@ -1,5 +1,6 @@
 -- A capture that comes octet by octet: what is held between two octets, and what each octet makes of it. Assumes nothing.
 use Rattle.std.specs.Prelude.{◌≡◌, ℕ, suc, ◌+◌, ◌*◌, Bool, not, List, [], ◌∷◌, length, take, drop, ◌==◌, nat_le, nat_lt, slice_index, slice_set}
+use Rattle.std.specs.Prelude as prelude
 use Rattle.std.proofs.Math.Option.{Option, none, some}
 use Rattle.bits.specs.Field.{both, pick}
 use Rattle.receiver.specs.Channels.{key_count}
@@ -7,8 +8,7 @@ use Rattle.receiver.specs.Step.{Event, most_entries}
 use Rattle.layout.specs.Layout.{is_state, decode_of}
 use Rattle.layout.specs.Setup.{setup_octets}
 use Rattle.lent.specs.Events.{octets_after}
-use Rattle.text.specs.declared.Line.{Line}
-use Rattle.text.specs.Lines.{added, full}
+use Rattle.text.specs.Lines.{Line, added, full, place_if}
 use Rattle.capture.specs.declared.Phase.{Phase}
 use Rattle.capture.specs.declared.Phase.TheVariants.{Before, Running, Over}
 use Rattle.capture.specs.declared.Replay.{Replay}
@@ -137,6 +137,10 @@ ending m = pick (both (nat_lt 0 m.got) (not (is_over m.stage))) (line_text m.num
 -- a line without the room for a field's text is full
 abbrev pub ended_by : Machine → Line → Line
 ended_by m l = pick (has_room l) (added (ending m) l) (record { octets = l.octets; at = full })
+
+-- the place behind it, and none without that room
+abbrev pub place_ended : Machine → Line → prelude.Option ℕ
+place_ended m l = place_if (has_room l) (added (ending m) l).at
 
 -- ## The beginning
 

@@ -1,8 +1,8 @@
 -- A capture that is mended octet by octet: what is held between two octets is what replaying holds, and the present field's offset. Assumes nothing.
 use Rattle.std.specs.Prelude.{◌≡◌, ℕ, suc, ◌+◌, ◌*◌, Bool, not, List, [], ◌∷◌, length, take, ◌==◌, nat_le, nat_lt}
+use Rattle.std.specs.Prelude as prelude
 use Rattle.bits.specs.Field.{both, pick}
-use Rattle.text.specs.declared.Line.{Line}
-use Rattle.text.specs.Lines.{added, full}
+use Rattle.text.specs.Lines.{Line, added, full, place_if}
 use Rattle.capture.specs.declared.Mend.{Mend}
 use Rattle.capture.specs.declared.Mended.{Mended}
 use Rattle.capture.specs.Capture.{whole}
@@ -91,6 +91,10 @@ mend_ending m = pick (both (nat_lt 0 m.machine.got) (not (is_over m.machine.stag
 -- a list without the room for a line is full
 abbrev pub mend_ended_by : Mending → Line → Line
 mend_ended_by m l = pick (room_for most_listed l) (added (mend_ending m) l) (record { octets = l.octets; at = full })
+
+-- the place behind it, and none without that room
+abbrev pub mend_place_ended : Mending → Line → prelude.Option ℕ
+mend_place_ended m l = place_if (room_for most_listed l) (added (mend_ending m) l).at
 
 -- ## The beginning
 

@@ -5,7 +5,7 @@ use Rattle.bits.specs.Field.{pick}
 use Rattle.receiver.specs.declared.Receiver.{Receiver}
 use Rattle.receiver.specs.Step.{Event, step_of}
 use Rattle.layout.specs.Octets.{tabulate}
-use Rattle.text.specs.declared.Line.{Line}
+use Rattle.text.specs.Lines.{Line}
 use Rattle.capture.specs.declared.Fed.{Fed}
 use Rattle.capture.specs.declared.Mended.{Mended}
 use Rattle.capture.specs.Capture.{Field, field_octets}

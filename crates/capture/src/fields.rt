@@ -1,5 +1,5 @@
 // The octets of a field are gathered: its first ones are kept, and its length says which one is the last.
-ghost use Rattle.std.specs.Prelude.{◌≡◌, suc, ◌-◌, ◌<◌, ◌≤◌, min, false, length, take, slice_set};
+ghost use Rattle.std.specs.Prelude.{◌≡◌, suc, ◌-◌, ◌<◌, ◌≤◌, false, length, slice_set};
 ghost use Rattle.arrays.specs.Runs.{stored};
 ghost use Rattle.capture.specs.Capture.{head_length, length_in};
 ghost use Rattle.capture.specs.Machine.{kept_length, is_last};
@@ -7,18 +7,12 @@ ghost use Rattle.capture.specs.Inner.{gathering};
 
 use crate::{HEAD, KEPT};
 
-fn wide(x: u8) -> usize
-    ensures { (result ≡ x) × (result < 256) }
-{
-    x as usize
-}
-
 // The length that stands in a field's head.
 fn length_in(kept: &[u8]) -> usize
     requires { length kept.now ≡ kept_length }
     ensures { (result ≡ length_in kept.now) × (result < 65536) }
 {
-    wide(kept[1]) * 256 + wide(kept[2])
+    kept[1] as usize * 256 + kept[2] as usize
 }
 
 // Keeps an octet of a field, where it is one of the first.
@@ -26,10 +20,9 @@ fn keep(kept: &mut [u8], got: usize, octet: u8)
     requires { length kept.old ≡ kept_length }
     ensures { kept.new ≡ slice_set kept.old got octet }
 {
-    if KEPT <= got {
-        return;
+    if got < KEPT {
+        kept[got] = octet;
     }
-    kept[got] = octet;
 }
 
 // Whether the octet that is kept behind so many ends the field.
@@ -37,13 +30,12 @@ fn is_last(kept: &[u8], have: usize) -> bool
     requires { length kept.now ≡ kept_length }
     ensures { (result ≡ is_last kept.now have) × (result ≡ false → have < 65538) }
 {
-    if have < HEAD - 1 {
-        return false;
-    }
-    HEAD - 1 + length_in(kept) <= have
+    HEAD - 1 <= have && HEAD - 1 + length_in(kept) <= have
 }
 
 // How many octets were taken, whether the last of them ends the field, and how many the field has then, without that one.
+//
+// Stays: a flag, since no value goes with it: both numbers say something of a field that goes on too.
 #[derive(Drop)]
 pub struct Gathered {
     pub taken: usize,
@@ -56,34 +48,17 @@ fn octets_to(last: usize, got: usize) -> usize
     requires { last < 65538 }
     ensures { result ≡ suc (last - got) }
 {
-    if last <= got {
-        return 1;
-    }
-    last - got + 1
+    last.saturating_sub(got) + 1
 }
 
-fn least(a: usize, b: usize) -> usize
-    ensures { result ≡ min a b }
+// Keeps the octets of a piece, those of them that are among the first of the field.
+fn copy(kept: &mut [u8], got: usize, piece: &[u8])
+    requires { length kept.old ≡ kept_length }
+    ensures { kept.new ≡ stored kept.old got piece.now }
 {
-    if a < b {
-        return a;
-    }
-    b
-}
-
-// Keeps the first n octets of a piece, those of them that are among the first of the field.
-fn copy(kept: &mut [u8], got: usize, piece: &[u8], n: usize)
-    requires { (length kept.old ≡ kept_length) × (n ≤ length piece.now) }
-    ensures { kept.new ≡ stored kept.old got (take n piece.now) }
-{
-    if KEPT <= got {
-        return;
-    }
-    let m = least(n, KEPT - got);
-    let mut j: usize = 0;
-    while j < m {
-        kept[got + j] = piece[j];
-        j += 1;
+    if got < KEPT {
+        let n = piece.len().min(KEPT - got);
+        kept[got..got + n].copy_from_slice(&piece[..n]);
     }
 }
 
@@ -94,14 +69,14 @@ fn gather_rest(kept: &mut [u8], got: usize, piece: &[u8]) -> Gathered
 {
     let n = octets_to(HEAD - 1 + length_in(kept), got);
     if piece.len() < n {
-        copy(kept, got, piece, piece.len());
+        copy(kept, got, piece);
         return Gathered {
             taken: piece.len(),
             whole: false,
             have: got + piece.len(),
         };
     }
-    copy(kept, got, piece, n);
+    copy(kept, got, &piece[..n]);
     Gathered {
         taken: n,
         whole: true,
@@ -115,8 +90,7 @@ pub(crate) fn gather(kept: &mut [u8], got: usize, piece: &[u8]) -> Gathered
     ensures { record { kept = kept.new; taken = result.taken; whole = result.whole; have = result.have } ≡ gathering kept.old got piece.now }
 {
     let mut have = got;
-    let mut i: usize = 0;
-    while i < piece.len() {
+    for (i, octet) in piece.iter().enumerate() {
         if HEAD <= have {
             let g = gather_rest(kept, have, &piece[i..]);
             return Gathered {
@@ -125,11 +99,10 @@ pub(crate) fn gather(kept: &mut [u8], got: usize, piece: &[u8]) -> Gathered
                 have: g.have,
             };
         }
-        keep(kept, have, piece[i]);
-        i += 1;
+        keep(kept, have, *octet);
         if is_last(kept, have) {
             return Gathered {
-                taken: i,
+                taken: i + 1,
                 whole: true,
                 have,
             };
@@ -137,7 +110,7 @@ pub(crate) fn gather(kept: &mut [u8], got: usize, piece: &[u8]) -> Gathered
         have += 1;
     }
     Gathered {
-        taken: i,
+        taken: piece.len(),
         whole: false,
         have,
     }

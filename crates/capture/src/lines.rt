@@ -32,7 +32,7 @@ fn put_digit(out: &mut [u8], at: usize, n: u64, behind: u8) -> usize
     requires { (at + 21 ≤ length out.old) × (n < 10) }
     ensures { record { octets = out.new; at = result } ≡ added (decimal n ++ (behind ∷ [])) (record { octets = out.old; at = at }) }
 {
-    out[at] = 48 + n as u8;
+    out[at] = b'0' + n as u8;
     out[at + 1] = behind;
     at + 2
 }
@@ -45,7 +45,7 @@ fn put_number(out: &mut [u8], at: usize, n: u64, behind: u8) -> usize
     if n < 10 {
         return put_digit(out, at, n, behind);
     }
-    let end = put_decimal(out, at, n);
+    let end = put_decimal(out, at, n).unwrap();
     out[end] = behind;
     end + 1
 }
@@ -73,7 +73,7 @@ fn put_entry(out: &mut [u8], at: usize, key: u64, number: u64) -> usize
     requires { at + 44 ≤ length out.old }
     ensures { record { octets = out.new; at = result } ≡ added (entry_text (key, number)) (record { octets = out.old; at = at }) }
 {
-    let at = put(out, at, b"  ");
+    let at = put(out, at, b"  ").unwrap();
     let at = put_number(out, at, key, b' ');
     put_number(out, at, number, b'\n')
 }
@@ -85,13 +85,8 @@ fn put_entries(out: &mut [u8], at: usize, state: &[u8]) -> usize
 {
     let count = part_of(state, 0, COUNT);
     let mut at = at;
-    let mut j: usize = 0;
-    while j < MOST_ENTRIES {
-        if count <= j as u64 {
-            break;
-        }
+    for j in 0..count.min(MOST_ENTRIES as u64) as usize {
         at = put_entry(out, at, part_of(state, j, KEY), part_of(state, j, NUMBER));
-        j += 1;
     }
     at
 }

@@ -5,7 +5,7 @@ ghost use Rattle.layout.specs.Layout.{state_length};
 ghost use Rattle.capture.specs.Replay.{is_over};
 ghost use Rattle.capture.specs.Machine.{kept_length, stage_in};
 ghost use Rattle.capture.specs.Mend.{further_by};
-ghost use Rattle.capture.specs.Mending.{mending_of, wrote, most_copied, most_listed, MendFed, mend_ended_by, mend_begun};
+ghost use Rattle.capture.specs.Mending.{mending_of, wrote, most_copied, most_listed, MendFed, mend_ended_by, mend_place_ended, mend_begun};
 ghost use Rattle.capture.specs.Inner.{MendStepped};
 
 use crate::answers::answer;
@@ -13,7 +13,7 @@ use crate::fields::gather;
 use crate::lines::put_left;
 use crate::replaying::{INPUT_ENDS, end_of, is_over};
 use crate::{HEAD, KEPT, Mend, Mended, Replay, replaying};
-use text::{FULL, put};
+use text::put;
 
 // The most octets that the line of a field left out has: three numbers of twenty digits.
 const MOST: usize = 3 * 21;
@@ -32,20 +32,14 @@ pub fn begin() -> Mend
 fn has_room(length: usize, at: usize, most: usize) -> bool
     ensures { result ≡ nat_le (at + most) length }
 {
-    if length < at {
-        return false;
-    }
-    most <= length - at
+    at <= length && most <= length - at
 }
 
 // Whether both the copy and the list have room for a field.
 pub fn have_room(copy: usize, copied: usize, list: usize, listed: usize) -> bool
     ensures { result ≡ both (nat_le (copied + most_copied) copy) (nat_le (listed + most_listed) list) }
 {
-    if !has_room(copy, copied, KEPT) {
-        return false;
-    }
-    has_room(list, listed, MOST)
+    has_room(copy, copied, KEPT) && has_room(list, listed, MOST)
 }
 
 // Where the copy and the list end.
@@ -65,14 +59,14 @@ fn put_part(
     list: &mut [u8],
     listed: usize,
 ) -> Ends
-    requires { listed + most_listed ≤ length list.old }
+    requires { (copied + length octets.now ≤ length copy.old) × (listed + most_listed ≤ length list.old) }
     ensures { record { copy = record { octets = copy.new; at = result.copied }; list = record { octets = list.new; at = result.listed } }
         ≡ wrote octets.now m.replay.number m.offset refusal
         (record { copy = record { octets = copy.old; at = copied }; list = record { octets = list.old; at = listed } }) }
 {
     if refusal == 0 {
         return Ends {
-            copied: put(copy, copied, octets),
+            copied: put(copy, copied, octets).unwrap(),
             listed,
         };
     }
@@ -176,6 +170,7 @@ pub fn feed(
             listed,
         };
     }
+    // Stays: each turn goes on by as many octets as the field takes, which no range counts; and a loop of its own beside `replaying::feed`, which says why.
     let mut held = m;
     let mut end = copied;
     let mut left = listed;
@@ -204,21 +199,17 @@ pub fn feed(
     }
 }
 
-// The end of the input: the line of a field that is torn, where one has begun. The place is FULL where the list has no room for a line.
-pub fn finish(m: Mend, list: &mut [u8], listed: usize) -> usize
-    ensures { (result ≡ (mend_ended_by (mending_of m [] []) (record { octets = list.old; at = listed })).at)
-        × (list.new ≡ (mend_ended_by (mending_of m [] []) (record { octets = list.old; at = listed })).octets) }
+// The end of the input: the line of a field that is torn, where one has begun. Answers the place behind it, and none where the list has no room for a line.
+pub fn finish(m: Mend, list: &mut [u8], listed: usize) -> Option<usize>
+    ensures place { result ≡ mend_place_ended (mending_of m [] []) (record { octets = list.old; at = listed }) }
+    ensures octets { list.new ≡ (mend_ended_by (mending_of m [] []) (record { octets = list.old; at = listed })).octets }
 {
     if !has_room(list.len(), listed, MOST) {
-        return FULL;
+        return None;
     }
     let r = m.replay;
-    let phase = r.phase;
-    if is_over(phase) {
-        return listed;
+    if is_over(r.phase) || r.got == 0 {
+        return Some(listed);
     }
-    if r.got == 0 {
-        return listed;
-    }
-    put_left(list, listed, r.number, m.offset, INPUT_ENDS)
+    Some(put_left(list, listed, r.number, m.offset, INPUT_ENDS))
 }

@@ -1,16 +1,15 @@
 // Replaying: pieces of a capture go in, in whatever sizes they come, and the text of each field comes out.
 ghost use Rattle.std.specs.Prelude.{◌≡◌, suc, ◌+◌, ◌<◌, ◌≤◌, min, false, [], length, nat_le, slice_index};
 ghost use Rattle.layout.specs.Layout.{state_length};
-ghost use Rattle.text.specs.Lines.{added};
+ghost use Rattle.text.specs.Lines.{added, place_behind};
 ghost use Rattle.capture.specs.Replay.{is_over, header};
-ghost use Rattle.capture.specs.Machine.{kept_length, stage_in, machine_of, most_text, Replayed, ended_by, begun};
+ghost use Rattle.capture.specs.Machine.{kept_length, stage_in, machine_of, most_text, Replayed, ended_by, place_ended, begun};
 ghost use Rattle.capture.specs.Inner.{Stepped};
 
 use crate::answers::answer;
 use crate::fields::gather;
 use crate::lines::{MOST, put_answer, put_field};
 use crate::{Fed, HEAD, KEPT, Phase, Replay};
-use text::FULL;
 
 // The input ends inside a field.
 pub(crate) const INPUT_ENDS: u32 = 18;
@@ -26,10 +25,10 @@ pub fn begin() -> Replay
     }
 }
 
-// Puts the header.
-pub fn put_header(out: &mut [u8], at: usize) -> usize
-    ensures { (result ≡ (added header (record { octets = out.old; at = at })).at)
-        × (out.new ≡ (added header (record { octets = out.old; at = at })).octets) }
+// Puts the header from a place on, all of it or nothing where it does not fit, and answers the place behind it.
+pub fn put_header(out: &mut [u8], at: usize) -> Option<usize>
+    ensures place { result ≡ place_behind header (record { octets = out.old; at = at }) }
+    ensures octets { out.new ≡ (added header (record { octets = out.old; at = at })).octets }
 {
     text::put(out, at, b"field tag refusal dropped\n")
 }
@@ -38,30 +37,20 @@ pub fn put_header(out: &mut [u8], at: usize) -> usize
 pub fn has_room(size: usize, at: usize) -> bool
     ensures { result ≡ nat_le (at + most_text) size }
 {
-    if size < at {
-        return false;
-    }
-    MOST <= size - at
+    at <= size && MOST <= size - at
 }
 
 pub(crate) fn is_over(phase: Phase) -> bool
     ensures { result ≡ is_over (stage_in phase []) }
 {
-    match phase {
-        Phase::Before => false,
-        Phase::Running => false,
-        Phase::Over => true,
-    }
+    matches!(phase, Phase::Over)
 }
 
 // Where the octets kept of a field end that has one octet more than so many.
 pub(crate) fn end_of(have: usize) -> usize
     ensures { result ≡ min (suc have) kept_length }
 {
-    if KEPT - 1 <= have {
-        return KEPT;
-    }
-    have + 1
+    have.min(KEPT - 1) + 1
 }
 
 // Takes octets up to the one that ends the field, or all of them.
@@ -132,6 +121,9 @@ pub fn feed(
             at,
         };
     }
+    // Stays: each turn goes on by as many octets as the field takes, which no range counts.
+    // Stays: a loop of its own beside `mending::feed`, which lends two lines, where this lends one. Theorems of specs/Promises speak of `Replayed` and `MendFed`, which are of the two signatures, and a loop
+    // for both would be given room, step and what is lent by closures or a trait, with a law for each: no plainer.
     let mut held = r;
     let mut end = at;
     let mut i: usize = 0;
@@ -160,26 +152,19 @@ pub fn feed(
 fn tag_of(kept: &[u8]) -> u8
     ensures { result ≡ slice_index kept.now 0 }
 {
-    if kept.len() == 0 {
-        return 0;
-    }
-    kept[0]
+    kept.first().copied().unwrap_or(0)
 }
 
-// The end of the input: the line of a field that is torn, where one has begun. The place is FULL where there is no room for the text of a field.
-pub fn finish(r: Replay, kept: &[u8], out: &mut [u8], at: usize) -> usize
-    ensures { (result ≡ (ended_by (machine_of r kept.now []) (record { octets = out.old; at = at })).at)
-        × (out.new ≡ (ended_by (machine_of r kept.now []) (record { octets = out.old; at = at })).octets) }
+// The end of the input: the line of a field that is torn, where one has begun. Answers the place behind it, and none where there is no room for the text of a field.
+pub fn finish(r: Replay, kept: &[u8], out: &mut [u8], at: usize) -> Option<usize>
+    ensures place { result ≡ place_ended (machine_of r kept.now []) (record { octets = out.old; at = at }) }
+    ensures octets { out.new ≡ (ended_by (machine_of r kept.now []) (record { octets = out.old; at = at })).octets }
 {
     if !has_room(out.len(), at) {
-        return FULL;
+        return None;
     }
-    let phase = r.phase;
-    if is_over(phase) {
-        return at;
+    if is_over(r.phase) || r.got == 0 {
+        return Some(at);
     }
-    if r.got == 0 {
-        return at;
-    }
-    put_field(out, at, r.number, tag_of(kept), INPUT_ENDS, 0)
+    Some(put_field(out, at, r.number, tag_of(kept), INPUT_ENDS, 0))
 }

@@ -8,13 +8,14 @@ ghost use Rattle.clock.specs.Clock.{wrap_sub, late};
 pub fn elapsed(now: u32, last: u32) -> u32
     ensures { result ≡ wrap_sub now last }
 {
-    std::num::wrapping_sub_u32(now, last)
+    now.wrapping_sub(last)
 }
 
 // A step of 2^31 or more is refused.
 pub const LATE_STEP: u32 = 2147483648;
 
 // Whether a tick is refused.
+#[tactic(auto, unfolding(crate::specs::Clock::late))]
 pub fn is_late(now: u32, last: u32) -> bool
     ensures { result ≡ late now last }
 {

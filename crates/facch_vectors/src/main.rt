@@ -15,10 +15,6 @@ const INPUT: usize = 65536;
 // The octets of a line that are kept: a message has no more.
 const ROOM: usize = 64;
 
-fn wide(octet: u8) -> u64 {
-    octet as u64
-}
-
 fn show_description(line: Line, d: Description) -> Line {
     let line = line.hex(b" description ", d.channel as u64, 6);
     if !d.hopping {
@@ -112,10 +108,8 @@ fn show_record(before: Line, m: Notification) -> Line {
 
 fn show_octets(before: Line, octets: &[u8]) -> Line {
     let mut line = before;
-    let mut i: usize = 0;
-    while i < octets.len() {
-        line = line.hex(b"", wide(octets[i]), 2);
-        i += 1;
+    for octet in octets {
+        line = line.hex(b"", u64::from(*octet), 2);
     }
     line
 }
@@ -156,14 +150,10 @@ fn show_line(digits: &[u8], out: &mut Stdout) -> io::Result<()> {
 }
 
 fn show_lines(text: &[u8], out: &mut Stdout) -> io::Result<()> {
-    let mut start: usize = 0;
-    let mut i: usize = 0;
-    while i < text.len() {
-        if text[i] == b'\n' {
-            show_line(&text[start..i], out)?;
-            start = i + 1;
-        }
-        i += 1;
+    let mut rest = text;
+    while let Some(end) = rest.iter().position(|c| *c == b'\n') {
+        show_line(&rest[..end], out)?;
+        rest = &rest[end + 1..];
     }
     Ok(())
 }

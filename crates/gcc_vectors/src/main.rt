@@ -15,29 +15,13 @@ use text::Line;
 // The most octets of input that are read.
 const INPUT: usize = 65536;
 
-fn wide(octet: u8) -> u64 {
-    octet as u64
-}
-
-// What two hexadecimal digits say.
-#[derive(Drop)]
-enum Octet {
-    Is(u8),
-    Nothing,
-}
-
-fn octet_at(text: &[u8], at: usize) -> Octet
+// The octet that two hexadecimal digits say.
+fn octet_at(text: &[u8], at: usize) -> Option<u8>
     requires { at + 2 ≤ length text.now }
 {
-    let high = text::digit(text[at]);
-    let low = text::digit(text[at + 1]);
-    if 16 <= high {
-        return Octet::Nothing;
-    }
-    if 16 <= low {
-        return Octet::Nothing;
-    }
-    Octet::Is(high * 16 + low)
+    let high = text::digit(text[at])?;
+    let low = text::digit(text[at + 1])?;
+    Some(high * 16 + low)
 }
 
 // The three bits of a priority, or a dash where there is none.
@@ -46,21 +30,21 @@ fn show_priority(line: Line, priority: Priority) -> Line {
     if number == 0 {
         return line.word(b"\t-");
     }
-    line.number(b"\t", wide(number / 2 % 8))
+    line.number(b"\t", u64::from(number / 2 % 8))
 }
 
 fn show_octets(line: Line, octets: [u8; 4]) -> Line {
-    line.hex(b"\t", wide(octets[0]), 2)
-        .hex(b"", wide(octets[1]), 2)
-        .hex(b"", wide(octets[2]), 2)
-        .hex(b"", wide(octets[3]), 2)
+    line.hex(b"\t", u64::from(octets[0]), 2)
+        .hex(b"", u64::from(octets[1]), 2)
+        .hex(b"", u64::from(octets[2]), 2)
+        .hex(b"", u64::from(octets[3]), 2)
 }
 
 // The row of four octets: reference, priority, and the octets that the writer makes of the two.
 fn show_row(octets: [u8; 4]) -> Line {
     let r = gcc::call_reference::read(&octets);
     if r.refusal != 0 {
-        return Line::new().number(b"", wide(r.refusal));
+        return Line::new().number(b"", u64::from(r.refusal));
     }
     let priority = r.priority;
     let line = show_priority(Line::new().number(b"", r.reference as u64), priority);
@@ -69,35 +53,27 @@ fn show_row(octets: [u8; 4]) -> Line {
     show_octets(line, back)
 }
 
-// The row of the eight hexadecimal digits from a place on; a line that ends otherwise, as the first, has none.
-fn show_line(text: &[u8], at: usize, out: &mut Stdout) -> io::Result<()>
+// The four octets of the eight hexadecimal digits from a place on.
+fn octets_at(text: &[u8], at: usize) -> Option<[u8; 4]>
     requires { at + 8 ≤ length text.now }
 {
-    let Octet::Is(a) = octet_at(text, at) else {
-        return Ok(());
-    };
-    let Octet::Is(b) = octet_at(text, at + 2) else {
-        return Ok(());
-    };
-    let Octet::Is(c) = octet_at(text, at + 4) else {
-        return Ok(());
-    };
-    let Octet::Is(d) = octet_at(text, at + 6) else {
-        return Ok(());
-    };
-    show_row([a, b, c, d]).end(out)?;
-    Ok(())
+    Some([
+        octet_at(text, at)?,
+        octet_at(text, at + 2)?,
+        octet_at(text, at + 4)?,
+        octet_at(text, at + 6)?,
+    ])
 }
 
+// The row of the last eight characters of each line; a line that ends otherwise, as the first, has none. A line end among them is no digit, so a shorter line has none.
 fn show_lines(text: &[u8], out: &mut Stdout) -> io::Result<()> {
-    let mut i: usize = 0;
-    while i < text.len() {
-        if text[i] == b'\n' {
-            if 8 <= i {
-                show_line(text, i - 8, out)?;
-            }
+    for (i, c) in text.iter().enumerate() {
+        if *c == b'\n'
+            && 8 <= i
+            && let Some(octets) = octets_at(text, i - 8)
+        {
+            show_row(octets).end(out)?;
         }
-        i += 1;
     }
     Ok(())
 }

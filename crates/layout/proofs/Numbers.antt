@@ -22,6 +22,12 @@ pub le8 : (l : List ℕ) (at : ℕ) → le_at 8 l at ≡ le_at 4 l at + le_at 4 
 unfolding le_at
 le8 l at = simp (add_assoc, add-zero, zero-mul) (omega arith)
 
+pub le_bytes : (l : List ℕ) (at : ℕ)
+    → le_at 8 l at ≡ get_or l at 0 + get_or l (at + 1) 0 * 256 + get_or l (at + 2) 0 * 65536 + get_or l (at + 3) 0 * 16777216 + get_or l (at + 4) 0 * 4294967296
+    + get_or l (at + 5) 0 * 1099511627776 + get_or l (at + 6) 0 * 281474976710656 + get_or l (at + 7) 0 * 72057594037927936
+unfolding le_at
+le_bytes l at = simp (add_assoc, add-zero, zero-mul) (omega arith)
+
 list8 : {a b c d e f g h a' b' c' d' e' f' g' h' : ℕ}
     → a ≡ a' → b ≡ b' → c ≡ c' → d ≡ d' → e ≡ e' → f ≡ f' → g ≡ g' → h ≡ h'
     → ◌≡◌ {A = List ℕ} (a ∷ b ∷ c ∷ d ∷ e ∷ f ∷ g ∷ h ∷ []) (a' ∷ b' ∷ c' ∷ d' ∷ e' ∷ f' ∷ g' ∷ h' ∷ [])

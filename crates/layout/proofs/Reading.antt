@@ -1,15 +1,16 @@
 -- The numbers of a record and of the answer, by their part. Assumes nothing.
 use mathlib.Core.Path.{◌≡◌, refl, sym, ap, ◌∙◌}
-use mathlib.Core.Bool.{Bool, true, false}
+use mathlib.Core.Bool.{Bool, true, false, true≢false}
 use mathlib.Core.List.{List, [], ◌∷◌}
 use Prim.Native.Nat.{ℕ, zero, suc, ◌+◌, ◌-◌, ◌*◌, ◌≤◌, ◌<◌}
 use native.Mathlib.Nat.{add_assoc}
 use native.Mathlib.Omega.{arith}
-use lib.Dec.{ltb}
+use lib.Dec.{leb, ltb}
 use lib.ListN.{length, get_or, replicate, get_or-append, get_or-eq_default}
 use lib.Seq.{get_or-append-add}
-use borrow.Author.Tests.{lt-ltb, le-ltb, le-leb, lt-leb, ltb-true, ltb-false, eqb-true}
-use Rattle.bits.specs.Field.{pick}
+use borrow.Author.Tests.{lt-ltb, le-ltb, le-leb, lt-leb, leb-true, leb-false, ltb-true, ltb-false, eqb-true}
+use Rattle.bits.specs.Field.{both, pick}
+use Rattle.bits.proofs.Answers.{both_true}
 use Rattle.csn1.specs.Told.{as_bit}
 use Rattle.receiver.specs.declared.Record.{Record}
 use Rattle.receiver.specs.declared.Told.{Told}
@@ -18,7 +19,7 @@ use Rattle.receiver.specs.Model.{no_record}
 use Rattle.receiver.specs.Step.{most_entries, no_told}
 use Rattle.receiver.proofs.Cases.{by-test}
 use Rattle.layout.specs.Octets.{le_at, octet_at, flag_at, tabulate}
-use Rattle.layout.specs.Layout.{answer_from, state_length, is_state, record_at, told_place, carries, told_no, last_of}
+use Rattle.layout.specs.Layout.{answer_from, state_length, is_state, record_at, told_place, told_at, carries, told_no, last_of}
 use Rattle.layout.specs.Parts.{record_numbers, told_numbers, paged_numbers, part_of}
 use Rattle.layout.proofs.Numbers.{get_d_table}
 
@@ -95,10 +96,36 @@ module _ (l : List ℕ) (at : ℕ) where
   beside_none (suc zero) h = absurd (omega (arith, h))
   beside_none (suc (suc n)) h = refl
 
--- ## An entry
+-- ## An entry that carries a record, from a place on
 
-pub carries-low : (n : ℕ) → n < 1 → carries n ≡ false
-carries-low n h = rw (lt-leb 1 n h)
+module _ (l : List ℕ) (at : ℕ) where
+  pub told-first : (part : ℕ) → part ≡ 0 → le_at 8 l at ≡ get_or (told_numbers (told_at l at)) part 0
+  unfolding told_at
+  told-first part q = rw q
+
+  pub told-second : (part : ℕ) → part ≡ 1 → octet_at l (at + 8) ≡ get_or (told_numbers (told_at l at)) part 0
+  unfolding told_at
+  told-second part q = rw q
+
+  pub told-last : (part : ℕ) → 32 ≤ part → get_or (octet_at l (at + 9) ∷ octet_at l (at + 10) ∷ []) (part - 32) 0 ≡ get_or (told_numbers (told_at l at)) part 0
+  unfolding told_at
+  told-last part h =
+      let t = told_at l at in
+      let e : 32 + (part - 32) ≡ part = omega arith in
+      sym (get_or-append-add (t.key ∷ t.number ∷ record_numbers t.«record») (t.follow ∷ t.kept ∷ []) (part - 32) 0)
+      ∙ ap (λ (n : ℕ). get_or (told_numbers t) n 0) e
+
+  pub told-middle : (part : ℕ) → (part ≡ 0 → ⊥) → (part ≡ 1 → ⊥) → part < 32
+      → get_or (record_numbers (record_at l (at + 16))) (part - 2) 0 ≡ get_or (told_numbers (told_at l at)) part 0
+  unfolding told_at
+  told-middle zero a b h = absurd (a refl)
+  told-middle (suc zero) a b h = absurd (b refl)
+  told-middle (suc (suc p)) a b h =
+      let e : suc (suc p) - 2 ≡ p = omega arith in
+      ap (λ (n : ℕ). get_or (record_numbers (record_at l (at + 16))) n 0) e
+      ∙ sym (get_or-append (record_numbers (record_at l (at + 16))) (octet_at l (at + 9) ∷ octet_at l (at + 10) ∷ []) 0 p (omega arith))
+
+-- ## An entry
 
 pub carries-high : (n : ℕ) → 3 < n → carries n ≡ false
 carries-high n h = rw (lt-leb n 3 h, le-leb 1 n (omega (arith, h)))
@@ -106,52 +133,49 @@ carries-high n h = rw (lt-leb n 3 h, le-leb 1 n (omega (arith, h)))
 pub carries_in : (n : ℕ) → 1 ≤ n → n ≤ 3 → carries n ≡ true
 carries_in n g h = rw (le-leb 1 n g, le-leb n 3 h)
 
+pub carries_some : (n : ℕ) → carries n ≡ true → 1 ≤ n
+carries_some n e = leb-true 1 n (both_true (leb 1 n) (leb n 3) e).0
+
 module _ (l : List ℕ) (entry : ℕ) where
-  pub told-key : (part : ℕ) → part ≡ 0 → le_at 8 l (told_place entry) ≡ get_or (told_numbers (told_no l entry)) part 0
-  unfolding told_no
-  told-key part q = rw q
-
-  pub told-number : (part : ℕ) → part ≡ 1 → octet_at l (told_place entry + 8) ≡ get_or (told_numbers (told_no l entry)) part 0
-  unfolding told_no
-  told-number part q = rw q
-
   told-without : carries (octet_at l (told_place entry + 8)) ≡ false → (told_no l entry).«record» ≡ no_record
   unfolding told_no
   told-without q = rw q
 
-  told_with : carries (octet_at l (told_place entry + 8)) ≡ true → record_at l (told_place entry + 16) ≡ (told_no l entry).«record»
-  unfolding told_no
-  told_with q = rw q
+  pub told-carried : carries (octet_at l (told_place entry + 8)) ≡ true → told_no l entry ≡ told_at l (told_place entry)
+  unfolding told_no told_at
+  told-carried q = rw q
 
   -- the numbers of its record, and what stands beside the number told
   told_in : (p : ℕ) → p < 30 → get_or (record_numbers (told_no l entry).«record») p 0 ≡ get_or (told_numbers (told_no l entry)) (suc (suc p)) 0
   told_in p h = sym (get_or-append (record_numbers (told_no l entry).«record») ((told_no l entry).follow ∷ (told_no l entry).kept ∷ []) 0 p h)
 
-  pub told_beside : (part : ℕ) → 32 ≤ part
-      → get_or (octet_at l (told_place entry + 9) ∷ octet_at l (told_place entry + 10) ∷ []) (part - 32) 0 ≡ get_or (told_numbers (told_no l entry)) part 0
+  -- where no record is carried, the others
+  told-low : (part : ℕ) → part < 2 → get_or (told_numbers (told_at l (told_place entry))) part 0 ≡ get_or (told_numbers (told_no l entry)) part 0
+  unfolding told_no told_at
+  told-low zero h = refl
+  told-low (suc zero) h = refl
+  told-low (suc (suc p)) h = absurd (omega arith)
+
+  told-high : (part : ℕ) → 32 ≤ part → get_or (told_numbers (told_at l (told_place entry))) part 0 ≡ get_or (told_numbers (told_no l entry)) part 0
   unfolding told_no
-  told_beside part h =
+  told-high part h =
       let t = told_no l entry in
       let e : 32 + (part - 32) ≡ part = omega arith in
-      sym (get_or-append-add (t.key ∷ t.number ∷ record_numbers t.«record») (t.follow ∷ t.kept ∷ []) (part - 32) 0)
+      sym (told-last l (told_place entry) part h)
+      ∙ sym (get_or-append-add (t.key ∷ t.number ∷ record_numbers t.«record») (t.follow ∷ t.kept ∷ []) (part - 32) 0)
       ∙ ap (λ (n : ℕ). get_or (told_numbers t) n 0) e
+
+  pub told-outside : (part : ℕ) → both (leb 2 part) (ltb part 32) ≡ false
+      → get_or (told_numbers (told_at l (told_place entry))) part 0 ≡ get_or (told_numbers (told_no l entry)) part 0
+  told-outside part q =
+      by-test (leb 2 part)
+      (λ p. by-test (ltb part 32) (λ r. absurd (true≢false (rw (p, r) at q))) (λ r. told-high part (ltb-false part 32 r)))
+      (λ p. told-low part (leb-false 2 part p))
 
   pub told-bare : (part : ℕ) → (part ≡ 0 → ⊥) → (part ≡ 1 → ⊥) → part < 32 → carries (octet_at l (told_place entry + 8)) ≡ false → 0 ≡ get_or (told_numbers (told_no l entry)) part 0
   told-bare zero a b h q = absurd (a refl)
   told-bare (suc zero) a b h q = absurd (b refl)
   told-bare (suc (suc p)) a b h q = none-part p ∙ ap (λ (r : Record). get_or (record_numbers r) p 0) (sym (told-without q)) ∙ told_in p (omega arith)
-
-  pub told_record : (part : ℕ)
-      → (part ≡ 0 → ⊥)
-      → (part ≡ 1 → ⊥)
-      → part < 32
-      → carries (octet_at l (told_place entry + 8)) ≡ true
-      → get_or (record_numbers (record_at l (told_place entry + 16))) (part - 2) 0 ≡ get_or (told_numbers (told_no l entry)) part 0
-  told_record zero a b h q = absurd (a refl)
-  told_record (suc zero) a b h q = absurd (b refl)
-  told_record (suc (suc p)) a b h q =
-      let e : suc (suc p) - 2 ≡ p = omega arith in
-      ap (λ (n : ℕ). get_or (record_numbers (record_at l (told_place entry + 16))) n 0) e ∙ ap (λ (r : Record). get_or (record_numbers r) p 0) (told_with q) ∙ told_in p (omega arith)
 
 -- ## The answer
 
@@ -266,3 +290,6 @@ module _ (l : List ℕ) (entry : ℕ) where
 
     pub read_none : n < 1 → no_record ≡ pick (is_state l) (get_or (last_of l).entries entry no_told).«record» no_record
     read_none h = by-test (is_state l) (λ p. let q : n ≡ part_of (last_of l) entry 4 = e ∙ rw p in rw p (record_zero n q (omega (arith, h)))) (λ p. rw p)
+
+    pub read_bare : carries n ≡ false → no_record ≡ pick (is_state l) (get_or (last_of l).entries entry no_told).«record» no_record
+    read_bare q = by-test (leb 1 n) (λ p. read_some (leb-true 1 n p) false q) (λ p. read_none (leb-false 1 n p))

@@ -44,19 +44,12 @@ keys_one [] k = append-nil (low_octets 4 k)
 keys_one (x ∷ a) k = ap (λ (r : List ℕ). low_octets 4 x ++ r) (keys_one a k) ∙ sym (append_assoc (low_octets 4 x) (keys_octets a) (low_octets 4 k))
 
 -- u: what an unused place holds
-module _ (u : ℕ) where
-  pub place_here : (n : ℕ) (l : List ℕ) (i : ℕ) → i < n → i < length l → get_or (padded u n l) i 0 ≡ get_or l i 0
-  place_here zero l i h k = absurd (omega (arith, h))
-  place_here (suc n) [] i h k = absurd (omega (arith, k))
-  place_here (suc n) (x ∷ l) zero h k = refl
-  place_here (suc n) (x ∷ l) (suc i) h k = place_here n l i (omega (arith, h)) (omega (arith, k))
-
-  pub place_none : (n : ℕ) (l : List ℕ) (i : ℕ) → i < n → length l ≤ i → get_or (padded u n l) i 0 ≡ u
-  place_none zero l i h k = absurd (omega (arith, h))
-  place_none (suc n) [] zero h k = refl
-  place_none (suc n) [] (suc i) h k = place_none n [] i (omega (arith, h)) (omega arith)
-  place_none (suc n) (x ∷ l) zero h k = absurd (omega (arith, k))
-  place_none (suc n) (x ∷ l) (suc i) h k = place_none n l i (omega (arith, h)) (omega (arith, k))
+pub place_at : (u n : ℕ) (l : List ℕ) (i : ℕ) → i < n → get_or l i u ≡ get_or (padded u n l) i 0
+place_at u zero l i h = absurd (omega (arith, h))
+place_at u (suc n) [] zero h = refl
+place_at u (suc n) [] (suc i) h = place_at u n [] i (omega (arith, h))
+place_at u (suc n) (x ∷ l) zero h = refl
+place_at u (suc n) (x ∷ l) (suc i) h = place_at u n l i (omega (arith, h))
 
 -- the next key is stored behind those before it
 pub keys_next : (l b : List ℕ) (at : ℕ) (ks : List ℕ) (i k : ℕ)

@@ -235,6 +235,17 @@ told_place j = tolds_from + told_length * j
 abbrev pub carries : ℕ → Bool
 carries number = both (leb 1 number) (leb number 3)
 
+-- an entry with a record, from a place on
+unfoldable pub told_at : List ℕ → ℕ → Told
+told_at l at =
+    record {
+      key = le_at 8 l at;
+      number = octet_at l (at + 8);
+      «record» = record_at l (at + 16);
+      follow = octet_at l (at + 9);
+      kept = octet_at l (at + 10);
+    }
+
 -- only 1 to 3 carry a record
 unfoldable pub told_no : List ℕ → ℕ → Told
 told_no l j =

@@ -3,26 +3,27 @@ ghost use Rattle.std.specs.Prelude.{◌≡◌, [], ◌∷◌, ◌+◌, ◌<◌, 
 ghost use Rattle.arrays.specs.Runs.{stored};
 ghost use Rattle.layout.specs.Octets.{le_at, flag_at, low_octets};
 
-fn wide(x: u8) -> u32
-    ensures { (result ≡ x) × (result < 256) }
-{
-    x as u32
-}
-
 pub(crate) fn u32_at(b: &[u8], at: usize) -> u32
     requires { at + 4 ≤ length b.now }
     ensures { result ≡ le_at 4 b.now at }
 {
-    wide(b[at]) + (wide(b[at + 1]) + (wide(b[at + 2]) + wide(b[at + 3]) * 256) * 256) * 256
+    u32::from_le_bytes([b[at], b[at + 1], b[at + 2], b[at + 3]])
 }
 
 pub(crate) fn u64_at(b: &[u8], at: usize) -> u64
     requires { at + 8 ≤ length b.now }
     ensures { result ≡ le_at 8 b.now at }
 {
-    let low = u32_at(b, at) as u64;
-    let high = u32_at(b, at + 4) as u64;
-    low + high * 4294967296
+    u64::from_le_bytes([
+        b[at],
+        b[at + 1],
+        b[at + 2],
+        b[at + 3],
+        b[at + 4],
+        b[at + 5],
+        b[at + 6],
+        b[at + 7],
+    ])
 }
 
 // An octet as a flag: 0 is no, any other number yes.
@@ -37,10 +38,11 @@ pub(crate) fn put_u32(b: &mut [u8], at: usize, x: u32)
     requires { at + 4 ≤ length b.old }
     ensures { b.new ≡ stored b.old at (low_octets 4 x) }
 {
-    b[at] = (x % 256) as u8;
-    b[at + 1] = (x / 256 % 256) as u8;
-    b[at + 2] = (x / 65536 % 256) as u8;
-    b[at + 3] = (x / 16777216 % 256) as u8;
+    let o = x.to_le_bytes();
+    b[at] = o[0];
+    b[at + 1] = o[1];
+    b[at + 2] = o[2];
+    b[at + 3] = o[3];
 }
 
 // Two octets, one behind the other.

@@ -1,11 +1,10 @@
 // The answer to the last accepted event: one number of it, the record of an entry, and who is paged.
-ghost use Rattle.std.specs.Prelude.{◌≡◌, [], ◌∷◌, ◌+◌, ◌<◌, ◌≤◌, length, get_or};
-ghost use Rattle.bits.specs.Field.{pick};
-ghost use Rattle.csn1.specs.Told.{as_bit};
+ghost use Rattle.std.specs.Prelude.{◌≡◌, [], ◌∷◌, ◌+◌, ◌<◌, ◌≤◌, length, get_or, leb, ltb};
+ghost use Rattle.bits.specs.Field.{both, pick};
 ghost use Rattle.receiver.specs.Step.{most_entries, no_told};
 ghost use Rattle.receiver.specs.Model.{no_record, no_paged};
 ghost use Rattle.layout.specs.Octets.{octet_at};
-ghost use Rattle.layout.specs.Layout.{state_length, record_size, is_state, record_at, told_no, paged_at, last_of};
+ghost use Rattle.layout.specs.Layout.{state_length, record_size, told_length, is_state, record_at, told_at, carries, told_no, paged_at, last_of};
 ghost use Rattle.layout.specs.Parts.{record_numbers, told_numbers, paged_numbers, part_of};
 
 use crate::octets::{flag_at, u32_at, u64_at};
@@ -14,40 +13,22 @@ use crate::{ANSWER, LENGTH, PAGED, TOLD_LENGTH, TOLDS};
 use facch::Page;
 use receiver::{MOST_ENTRIES, Paged, Record, meeting, messages};
 
-fn bit(b: bool) -> u64
-    ensures { result ≡ as_bit b }
-{
-    b as u64
-}
-
-fn wide(x: u8) -> u64
-    ensures { result ≡ x }
-{
-    x as u64
-}
-
-fn wider(x: u32) -> u64
-    ensures { result ≡ x }
-{
-    x as u64
-}
-
 // A number of the record at a place: four wide ones, twenty flags, six small ones.
 fn record_part(b: &[u8], at: usize, part: usize) -> u64
     requires { at + record_size ≤ length b.now }
     ensures { result ≡ get_or (record_numbers (record_at b.now at)) part 0 }
 {
     if part < 2 {
-        return wider(u32_at(b, at + 4 * part));
+        return u64::from(u32_at(b, at + 4 * part));
     }
     if part < 4 {
         return u64_at(b, at + 8 * (part - 1));
     }
     if part < 24 {
-        return bit(flag_at(b, at + 20 + part));
+        return u64::from(flag_at(b, at + 20 + part));
     }
     if part < 30 {
-        return wide(b[at + 20 + part]);
+        return u64::from(b[at + 20 + part]);
     }
     0
 }
@@ -61,34 +42,65 @@ fn beside(b: &[u8], at: usize, part: usize) -> u64
     ensures { result ≡ get_or (octet_at b.now (at + 9) ∷ octet_at b.now (at + 10) ∷ []) part 0 }
 {
     if part < 2 {
-        return wide(b[at + 9 + part]);
+        return u64::from(b[at + 9 + part]);
     }
     0
 }
 
-// A number of an entry: its key, the number told, for 1 to 3 its record, whether it can be followed, and with which count.
-fn told_part(b: &[u8], entry: usize, part: usize) -> u64
-    requires { (length b.now ≡ state_length) × (entry < most_entries) }
-    ensures { result ≡ get_or (told_numbers (told_no b.now entry)) part 0 }
+// A number of what stands from a place on, read as an entry that carries a record: its key, the number told, its record, whether it can be followed, and with which count.
+fn number_from(b: &[u8], at: usize, part: usize) -> u64
+    requires { at + told_length ≤ length b.now }
+    ensures { result ≡ get_or (told_numbers (told_at b.now at)) part 0 }
 {
-    let at = TOLDS + TOLD_LENGTH * entry;
     if part == 0 {
         return u64_at(b, at);
     }
-    let number = b[at + 8];
     if part == 1 {
-        return wide(number);
+        return u64::from(b[at + 8]);
     }
     if BESIDE <= part {
         return beside(b, at, part - BESIDE);
     }
-    if number < 1 {
-        return 0;
-    }
-    if 3 < number {
-        return 0;
-    }
     record_part(b, at + 16, part - 2)
+}
+
+// The same in any octets: 0 where they end before it.
+pub fn told_part(b: &[u8], at: usize, part: usize) -> u64
+    ensures { result ≡ pick (leb (at + told_length) (length b.now)) (get_or (told_numbers (told_at b.now at)) part 0) 0 }
+{
+    if b.len() < TOLD_LENGTH {
+        return 0;
+    }
+    if b.len() - TOLD_LENGTH < at {
+        return 0;
+    }
+    number_from(b, at, part)
+}
+
+// Whether a number told is one of those that carry a record.
+pub fn carries(number: u64) -> bool
+    ensures { result ≡ carries number }
+{
+    1 <= number && number <= 3
+}
+
+// Whether a part of an entry is one of its record's.
+fn is_of_record(part: usize) -> bool
+    ensures { result ≡ both (leb 2 part) (ltb part 32) }
+{
+    2 <= part && part < BESIDE
+}
+
+// A number of an entry: where no record is carried, none is read.
+fn entry_part(b: &[u8], entry: usize, part: usize) -> u64
+    requires { (length b.now ≡ state_length) × (entry < most_entries) }
+    ensures { result ≡ get_or (told_numbers (told_no b.now entry)) part 0 }
+{
+    let at = TOLDS + TOLD_LENGTH * entry;
+    if is_of_record(part) && !carries(u64::from(b[at + 8])) {
+        return 0;
+    }
+    number_from(b, at, part)
 }
 
 fn page_at(b: &[u8]) -> Page
@@ -128,15 +140,15 @@ pub fn paged_numbers(p: Paged) -> [u64; PAGED_NUMBERS]
     ensures { result ≡ paged_numbers p }
 {
     [
-        p.there as u64,
-        p.page.identityLength as u64,
-        p.page.identityFirst as u64,
+        u64::from(p.there),
+        u64::from(p.page.identityLength),
+        u64::from(p.page.identityFirst),
         p.page.identityRest,
-        p.page.channelFirst as u64,
-        p.page.hasPriority as u64,
-        p.page.priority as u64,
-        p.hasCause as u64,
-        p.cause as u64,
+        u64::from(p.page.channelFirst),
+        u64::from(p.page.hasPriority),
+        u64::from(p.page.priority),
+        u64::from(p.hasCause),
+        u64::from(p.cause),
     ]
 }
 
@@ -163,7 +175,7 @@ pub fn part_of(b: &[u8], entry: usize, part: usize) -> u64
         return 0;
     }
     if part < 3 {
-        return wider(u32_at(b, ANSWER + 4 * part));
+        return u64::from(u32_at(b, ANSWER + 4 * part));
     }
     if PAGED_PART <= part {
         return paged_part(b, part - PAGED_PART);
@@ -174,7 +186,7 @@ pub fn part_of(b: &[u8], entry: usize, part: usize) -> u64
     if u32_at(b, ANSWER + 8) as usize <= entry {
         return 0;
     }
-    told_part(b, entry, part - 3)
+    entry_part(b, entry, part - 3)
 }
 
 // The number told, among the parts.
@@ -184,12 +196,9 @@ const NUMBER: usize = 4;
 pub fn record_of(b: &[u8], entry: usize) -> Record
     ensures { result ≡ pick (is_state b.now) (get_or (last_of b.now).entries entry no_told).«record» no_record }
 {
-    let number = part_of(b, entry, NUMBER);
-    if number < 1 {
-        return meeting::no_record();
+    if carries(part_of(b, entry, NUMBER)) {
+        record_at(b, TOLDS + 16 + TOLD_LENGTH * entry)
+    } else {
+        meeting::no_record()
     }
-    if 3 < number {
-        return meeting::no_record();
-    }
-    record_at(b, TOLDS + 16 + TOLD_LENGTH * entry)
 }

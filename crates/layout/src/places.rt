@@ -153,13 +153,6 @@ fn narrow(key: u64) -> u32
     key as u32
 }
 
-// A place as a wider number.
-fn wide(i: u32) -> usize
-    ensures { result ≡ i }
-{
-    i as usize
-}
-
 // How many keys there can be, as they are counted here.
 const NONE: u32 = Setup::KEYS as u32;
 
@@ -168,12 +161,12 @@ fn key_count(b: &[u8]) -> u32
     requires { length b.now ≡ state_length }
     ensures { result ≡ length (keys_in b.now) }
 {
-    let n = b[COUNT] as u32;
-    if NONE < n { NONE } else { n }
+    u32::from(b[COUNT]).min(NONE)
 }
 
 // The place of a key of 32 bits, by halving, in a number of steps that only the number of keys says: what is looked at takes no branch, since none could be foretold. A key that was found
 // is looked at again until the steps are done. Before each step `most` keys are left, or one less; at the end one or none, and a last look says whether the key stands there.
+// Stays: a loop by halving. The keys are octets, and not a slice of numbers that a library's search takes.
 fn place_in(b: &[u8], key: u32) -> u32
     requires { length b.now ≡ state_length }
     ensures { result ≡ index_of (keys_in b.now) key }
@@ -184,21 +177,21 @@ fn place_in(b: &[u8], key: u32) -> u32
     let mut most = n;
     while 1 < most {
         let middle = (start + end) / 2;
-        let here = u32_at(b, KEYS_FROM + 4 * wide(middle));
+        let here = u32_at(b, KEYS_FROM + 4 * middle as usize);
         let same = if here == key { middle } else { start };
         end = if here < key { end } else { middle };
         start = if here < key { middle + 1 } else { same };
         most /= 2;
     }
-    if start < n {
-        if u32_at(b, KEYS_FROM + 4 * wide(start)) == key {
-            return start;
-        }
+    if start < n && u32_at(b, KEYS_FROM + 4 * start as usize) == key {
+        start
+    } else {
+        NONE
     }
-    NONE
 }
 
 // The place of a key among the keys that are there, by halving, and KEYS where it is not there.
+// Stays: a number, KEYS for a key that is not there. `rule_for` of receiver's Model and `place_for` of yard's Octets, of which theorems speak, are made of it, and events hand it on as it is.
 pub fn index_of(b: &[u8], key: u64) -> usize
     ensures { result ≡ pick (is_state b.now) (index_of (keys_in b.now) key) key_count }
 {
@@ -208,5 +201,5 @@ pub fn index_of(b: &[u8], key: u64) -> usize
     if 4294967295 < key {
         return Setup::KEYS;
     }
-    wide(place_in(b, narrow(key)))
+    place_in(b, narrow(key)) as usize
 }

@@ -1,5 +1,5 @@
 // Setting up: the lent octets become a receiver that holds nothing, whatever they held.
-ghost use Rattle.std.specs.Prelude.{◌≡◌, ◌+◌, ◌*◌, ◌≤◌, length, replicate};
+ghost use Rattle.std.specs.Prelude.{◌≡◌, ◌+◌, ◌*◌, ◌≤◌, length};
 ghost use Rattle.receiver.specs.Channels.{key_count};
 ghost use Rattle.csn1.specs.Told.{padded};
 ghost use Rattle.arrays.specs.Runs.{stored};
@@ -10,30 +10,14 @@ use crate::octets::{put_three, put_u32, u32_at};
 use crate::{CELL, COUNT, KEYS_FROM, LENGTH, MARK, MARKED, SETS, TICK, TIMERS};
 use receiver::{NO_BIT, NO_COUNT, NO_KEY, NO_NLN, Setup};
 
-fn zero(b: &mut [u8])
-    ensures { b.new ≡ replicate (length b.old) 0 }
-{
-    let mut i: usize = 0;
-    while i < b.len() {
-        b[i] = 0;
-        i += 1;
-    }
-}
-
 // A number for each key: those that were lent, then unused ones.
 fn put_all(b: &mut [u8], at: usize, numbers: &[u32], unused: u32)
     requires { at + 4 * key_count ≤ length b.old }
     ensures { b.new ≡ stored b.old at (keys_octets (padded unused key_count numbers.now)) }
 {
-    let mut i: usize = 0;
-    while i < Setup::KEYS {
-        let x = if i < numbers.len() {
-            numbers[i]
-        } else {
-            unused
-        };
+    for i in 0..Setup::KEYS {
+        let x = numbers.get(i).copied().unwrap_or(unused);
         put_u32(b, at + 4 * i, x);
-        i += 1;
     }
 }
 
@@ -41,7 +25,7 @@ fn fill(b: &mut [u8], s: Setup, keys: &[u32], sets: &[u32])
     requires { (length b.old ≡ state_length) × (length keys.now ≤ key_count) }
     ensures { b.new ≡ fresh_octets s keys.now sets.now }
 {
-    zero(b);
+    b.fill(0);
     put_u32(b, TICK, s.tick);
     put_u32(b, TIMERS, s.t3206);
     put_u32(b, TIMERS + 4, s.t3208);

@@ -28,10 +28,7 @@ fn spared(rule: Rule, key: usize, ch: usize) -> bool
     requires { ch < channels }
     ensures { result ≡ spares rule (place_on key ch) }
 {
-    if !channels::flag_of(ch, rule.nch, rule.facch, rule.pch) {
-        return true;
-    }
-    key == rule.but
+    !channels::flag_of(ch, rule.nch, rule.facch, rule.pch) || key == rule.but
 }
 
 // One place, beside what was counted before it: a half that ran out goes, and else one that the rule does not leave.
@@ -87,8 +84,7 @@ fn sweep_key(
     let t3206 = u32_at(b, TIMERS);
     let t3208 = u32_at(b, TIMERS + 4);
     let t3210 = u32_at(b, TIMERS + 8);
-    let mut ch: usize = 0;
-    while ch < CHANNELS {
+    for ch in 0..CHANNELS {
         let lost = sweep_place(
             b,
             tick,
@@ -101,7 +97,6 @@ fn sweep_key(
         );
         expired = lost.expired;
         dropped = lost.dropped;
-        ch += 1;
     }
     Lost { expired, dropped }
 }
@@ -124,12 +119,10 @@ fn sweep_group(
     if quiet(b, KINDS + CHANNELS * from) {
         return Lost { expired, dropped };
     }
-    let mut k: usize = 0;
-    while k < n {
+    for k in 0..n {
         let lost = sweep_key(b, tick, rule, from + k, expired, dropped);
         expired = lost.expired;
         dropped = lost.dropped;
-        k += 1;
     }
     Lost { expired, dropped }
 }
@@ -145,12 +138,10 @@ fn sweep_all(b: &mut [u8], tick: u32, rule: Rule) -> Lost
 {
     let mut expired: u32 = 0;
     let mut dropped: u32 = 0;
-    let mut key: usize = 0;
-    while key < WHOLE {
-        let lost = sweep_group(b, tick, rule, key, 8, expired, dropped);
+    for g in 0..Setup::KEYS / 8 {
+        let lost = sweep_group(b, tick, rule, 8 * g, 8, expired, dropped);
         expired = lost.expired;
         dropped = lost.dropped;
-        key += 8;
     }
     sweep_group(b, tick, rule, WHOLE, Setup::KEYS - WHOLE, expired, dropped)
 }
@@ -174,13 +165,7 @@ fn expire(b: &mut [u8], tick: u32) -> Lost
 fn takes_none(rule: Rule) -> bool
     ensures { result ≡ takes_none_of rule }
 {
-    if rule.nch {
-        return false;
-    }
-    if rule.facch {
-        return false;
-    }
-    !rule.pch
+    !rule.nch && !rule.facch && !rule.pch
 }
 
 // The sweep of an event. The rule is taken apart here: the usual one, which takes nothing, is passed on to nobody, and a copy of another does not wait for all of its octets.

@@ -201,19 +201,17 @@ pub(crate) fn tell_nch(b: &mut [u8], cell: Cell, tick: u32, m: &[u64]) -> u32
     requires { (length b.old ≡ state_length) × Fits m.now }
     ensures { (result ≡ length (nch_entries (record_from m.now))) × AllTold b.old cell 0 tick (nch_entries (record_from m.now)) b.new }
 {
-    let n = bits::least(m[places::CALLS] as usize, places::MOST_CALLS);
-    let count = n + bits::least(m[places::REDUCEDS] as usize, places::MOST_REDUCEDS);
+    let n = (m[places::CALLS] as usize).min(places::MOST_CALLS);
+    let count = n + (m[places::REDUCEDS] as usize).min(places::MOST_REDUCEDS);
     let mut random: usize = 0;
     let mut mark: usize = 0;
-    let mut i: usize = 0;
-    'calls: while i < n {
+    'calls: for i in 0..n {
         let at = places::FIRST_CALL + places::CALL_LENGTH * i;
         tell_numbers(b, cell, tick, i, m, true, at, random, mark);
         random += (1 <= m[at + 4]) as usize;
         mark += m[at + 5] as usize;
-        i += 1;
     }
-    'reduceds: while i < count {
+    'reduceds: for i in n..count {
         tell_numbers(
             b,
             cell,
@@ -226,7 +224,6 @@ pub(crate) fn tell_nch(b: &mut [u8], cell: Cell, tick: u32, m: &[u64]) -> u32
             mark,
         );
         random += 1;
-        i += 1;
     }
     count as u32
 }

@@ -72,14 +72,13 @@ fn nch_rows(out: &mut Stdout) -> io::Result<()> {
 
 // Set up at a tick for one call: reference 1,234,567, VGCS; no group key is held.
 fn ready(tick: u32) -> Receiver {
-    let s = Setup {
+    let setup = Setup {
         tick,
         t3206: 5000,
         t3208: 5000,
         t3210: 5000,
-    }
-    .start(&[2469135u32], &[0u32]);
-    s.receiver
+    };
+    setup.start(&[2469135u32], &[0u32]).unwrap()
 }
 
 fn show_step(row: &[u8], last: u32, now: u32) -> Line {
@@ -92,13 +91,11 @@ fn show_step(row: &[u8], last: u32, now: u32) -> Line {
 }
 
 fn show_expiries(line: Line, expired: usize) -> Line {
-    if expired == 0 {
-        return line;
+    match expired {
+        0 => line,
+        1 => line.word(b"one expiry, then "),
+        _ => line.number(b"", expired as u64).word(b" expiries, then "),
     }
-    if expired == 1 {
-        return line.word(b"one expiry, then ");
-    }
-    line.number(b"", expired as u64).word(b" expiries, then ")
 }
 
 // What the only entry of a message is told, behind the expiries.

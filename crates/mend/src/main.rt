@@ -14,23 +14,6 @@ const COPY: usize = 65536;
 // The octets of the list that are held before they are written.
 const LIST: usize = 4096;
 
-// What is held, the places behind what is copied and listed and not written yet, and whether there may be more input.
-#[derive(Drop)]
-struct Held {
-    mend: Mend,
-    copied: usize,
-    listed: usize,
-    goes_on: bool,
-}
-
-// Writes octets up to a place.
-fn hand<W: Write>(file: &mut W, octets: &[u8], at: usize) -> io::Result<()> {
-    if octets.len() < at {
-        return Ok(());
-    }
-    file.write_all(&octets[..at])
-}
-
 // Where what is copied goes, and where what is listed.
 #[derive(Drop)]
 struct Files {
@@ -38,154 +21,118 @@ struct Files {
     list: Stderr,
 }
 
-// The places behind what is copied and listed and not written yet.
+// Writes octets up to a place.
+fn hand<W: Write>(file: &mut W, octets: &[u8], at: usize) -> io::Result<()> {
+    match octets.get(..at) {
+        Some(first) => file.write_all(first),
+        None => Ok(()),
+    }
+}
+
+// What is held between two reads: where the run stands, the octets that are kept of the present field, the lent state, and what is copied and listed and not written yet, up to two places.
+//
+// Stays: octets of a fixed size and their places, not a `Vec`: that can run out of memory, and the program would then end where it went on; and `capture::mending::feed` puts both into octets that it is
+// lent.
 #[derive(Drop)]
-struct Ends {
+struct Held {
+    mend: Mend,
+    kept: [u8; KEPT],
+    state: [u8; layout::LENGTH],
+    copy: [u8; COPY],
     copied: usize,
+    list: [u8; LIST],
     listed: usize,
 }
 
-// Writes copy and list where one of them has no room for another field, and answers the places behind what is left.
-fn make_room(
-    files: &mut Files,
-    copy: &[u8],
-    copied: usize,
-    list: &[u8],
-    listed: usize,
-) -> io::Result<Ends> {
-    if mending::have_room(copy.len(), copied, list.len(), listed) {
-        return Ok(Ends { copied, listed });
-    }
-    hand(&mut files.copy, copy, copied)?;
-    hand(&mut files.list, list, listed)?;
-    Ok(Ends {
-        copied: 0,
-        listed: 0,
-    })
-}
-
-// Mends a piece. Octets that nothing is taken of end the run; with the room that was made there are none.
-fn take(
-    files: &mut Files,
-    m: Mend,
-    kept: &mut [u8],
-    state: &mut [u8],
-    piece: &[u8],
-    copy: &mut [u8],
-    copied: usize,
-    list: &mut [u8],
-    listed: usize,
-) -> io::Result<Held> {
-    let mut held = m;
-    let mut end = copied;
-    let mut left = listed;
-    let mut i: usize = 0;
-    while i < piece.len() {
-        let e = make_room(files, copy, end, list, left)?;
-        end = e.copied;
-        left = e.listed;
-        let f = mending::feed(held, kept, state, &piece[i..], copy, end, list, left);
-        if f.taken == 0 {
-            return Ok(Held {
-                mend: held,
-                copied: end,
-                listed: left,
-                goes_on: false,
-            });
+impl Held {
+    // Nothing came yet.
+    fn begin() -> Held {
+        Held {
+            mend: mending::begin(),
+            kept: [0; KEPT],
+            state: [0; layout::LENGTH],
+            copy: [0; COPY],
+            copied: 0,
+            list: [0; LIST],
+            listed: 0,
         }
-        held = f.mend;
-        end = f.copied;
-        left = f.listed;
-        i += f.taken;
     }
-    Ok(Held {
-        mend: held,
-        copied: end,
-        listed: left,
-        goes_on: true,
-    })
-}
 
-// Reads once and mends what came. An input that has ended goes on no more.
-fn turn(
-    input: &mut Stdin,
-    files: &mut Files,
-    h: Held,
-    kept: &mut [u8],
-    state: &mut [u8],
-    copy: &mut [u8],
-    list: &mut [u8],
-) -> io::Result<Held> {
-    let mut piece = [0u8; PIECE];
-    let n = input.read(&mut piece)?;
-    let m = h.mend;
-    if n == 0 {
-        return Ok(Held {
-            mend: m,
-            copied: h.copied,
-            listed: h.listed,
-            goes_on: false,
-        });
+    // Writes copy and list.
+    fn write(&mut self, files: &mut Files) -> io::Result<()> {
+        hand(&mut files.copy, &self.copy, self.copied)?;
+        hand(&mut files.list, &self.list, self.listed)?;
+        self.copied = 0;
+        self.listed = 0;
+        Ok(())
     }
-    take(
-        files,
-        m,
-        kept,
-        state,
-        &piece[..n],
-        copy,
-        h.copied,
-        list,
-        h.listed,
-    )
-}
 
-// Reads to the end of the input. A proved loop has to end, and nothing says that an input does: the turns are counted down from a number that no run uses up.
-fn run(
-    input: &mut Stdin,
-    files: &mut Files,
-    kept: &mut [u8],
-    state: &mut [u8],
-    copy: &mut [u8],
-    list: &mut [u8],
-) -> io::Result<Held> {
-    let mut h = Held {
-        mend: mending::begin(),
-        copied: 0,
-        listed: 0,
-        goes_on: true,
-    };
-    let mut turns = u64::MAX;
-    while h.goes_on {
-        if turns == 0 {
-            break;
+    // Writes copy and list where one of them has no room for another field.
+    fn make_room(&mut self, files: &mut Files) -> io::Result<()> {
+        if mending::have_room(COPY, self.copied, LIST, self.listed) {
+            return Ok(());
         }
-        turns -= 1;
-        h = turn(input, files, h, kept, state, copy, list)?;
+        self.write(files)
     }
-    Ok(h)
+
+    // Mends a piece, and answers whether all of it was taken: octets that nothing is taken of end the run; with the room that was made there are none.
+    fn take(&mut self, files: &mut Files, piece: &[u8]) -> io::Result<bool> {
+        let mut rest = piece;
+        while !rest.is_empty() {
+            self.make_room(files)?;
+            let f = mending::feed(
+                self.mend,
+                &mut self.kept,
+                &mut self.state,
+                rest,
+                &mut self.copy,
+                self.copied,
+                &mut self.list,
+                self.listed,
+            );
+            if f.taken == 0 {
+                return Ok(false);
+            }
+            self.mend = f.mend;
+            self.copied = f.copied;
+            self.listed = f.listed;
+            rest = &rest[f.taken..];
+        }
+        Ok(true)
+    }
+
+    // Reads once and mends what came, and answers whether there may be more: an input that has ended goes on no more.
+    fn turn(&mut self, input: &mut Stdin, files: &mut Files) -> io::Result<bool> {
+        let mut piece = [0u8; PIECE];
+        let n = input.read(&mut piece)?;
+        if n == 0 {
+            return Ok(false);
+        }
+        self.take(files, &piece[..n])
+    }
+
+    // The end of the input, and all is written.
+    fn finish(&mut self, files: &mut Files) -> io::Result<()> {
+        self.write(files)?;
+        match mending::finish(self.mend, &mut self.list, 0) {
+            Some(end) => hand(&mut files.list, &self.list, end),
+            None => Ok(()),
+        }
+    }
 }
 
+// A proved loop has to end, and nothing says that an input does: the turns are counted, up to a number that no run uses up.
 fn main(rt: HostRuntime) -> io::Result<()> {
+    let mut input = rt.stdin();
     let mut files = Files {
         copy: rt.stdout(),
         list: rt.stderr(),
     };
-    let mut kept = [0u8; KEPT];
-    let mut state = [0u8; layout::LENGTH];
-    let mut copy = [0u8; COPY];
-    let mut list = [0u8; LIST];
-    let h = run(
-        &mut rt.stdin(),
-        &mut files,
-        &mut kept,
-        &mut state,
-        &mut copy,
-        &mut list,
-    )?;
-    let m = h.mend;
-    hand(&mut files.copy, &copy, h.copied)?;
-    hand(&mut files.list, &list, h.listed)?;
-    let end = mending::finish(m, &mut list, 0);
-    hand(&mut files.list, &list, end)
+    let mut held = Held::begin();
+    for _ in 0..u64::MAX {
+        if !held.turn(&mut input, &mut files)? {
+            break;
+        }
+    }
+    held.finish(&mut files)
 }

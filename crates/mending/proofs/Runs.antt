@@ -9,8 +9,7 @@ use lib.ListN.{length, take, length-append, length-take, length-set}
 use lib.Dec.{eqb}
 use Rattle.bits.specs.Field.{pick}
 use Rattle.receiver.proofs.Cases.{by-test}
-use Rattle.text.specs.declared.Line.{Line}
-use Rattle.text.specs.Lines.{added}
+use Rattle.text.specs.Lines.{Line, added}
 use Rattle.text.proofs.Numerals.{length-numeral}
 use Rattle.capture.specs.Replay.{is_over}
 use Rattle.capture.specs.Machine.{kept_length, kept_with, is_last, ends, took_one}

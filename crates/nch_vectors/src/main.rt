@@ -10,10 +10,6 @@ use text::Line;
 // The most octets of input that are read.
 const INPUT: usize = 65536;
 
-fn wide(octet: u8) -> u64 {
-    octet as u64
-}
-
 fn show_description(line: Line, d: Description) -> Line {
     let line = line.hex(b" channel ", d.channel as u64, 6);
     if !d.hopping {
@@ -54,29 +50,17 @@ fn show_random(line: Line, c: Random) -> Line {
 }
 
 fn show_reduceds(before: Line, r: Release6) -> Line {
-    let reduced = r.reduced;
     let mut line = before;
-    let mut i: usize = 0;
-    while i < 5 {
-        if i < r.reducedcount {
-            let c = reduced[i];
-            line = show_reduced(line, c);
-        }
-        i += 1;
+    for c in r.reduced.iter().take(r.reducedcount) {
+        line = show_reduced(line, *c);
     }
     line
 }
 
 fn show_randoms(before: Line, r: Release6) -> Line {
-    let randoms = r.randoms;
     let mut line = before;
-    let mut i: usize = 0;
-    while i < 9 {
-        if i < r.randomcount {
-            let c = randoms[i];
-            line = show_random(line, c);
-        }
-        i += 1;
+    for c in r.randoms.iter().take(r.randomcount) {
+        line = show_random(line, *c);
     }
     line
 }
@@ -90,15 +74,9 @@ fn show_six(before: Line, r: Release6) -> Line {
 }
 
 fn show_marks(before: Line, r: Release7) -> Line {
-    let marks = r.marks;
     let mut line = before;
-    let mut i: usize = 0;
-    while i < 4 {
-        if i < r.markcount {
-            let mark = marks[i];
-            line = line.number(b" mark ", mark as u64);
-        }
-        i += 1;
+    for mark in r.marks.iter().take(r.markcount) {
+        line = line.number(b" mark ", u64::from(*mark));
     }
     line
 }
@@ -132,15 +110,9 @@ fn show_amr(before: Line, r: Release7) -> Line {
 }
 
 fn show_calls(before: Line, m: Notification) -> Line {
-    let calls = m.calls;
     let mut line = before;
-    let mut i: usize = 0;
-    while i < 4 {
-        if i < m.callcount {
-            let c = calls[i];
-            line = show_call(line, c);
-        }
-        i += 1;
+    for c in m.calls.iter().take(m.callcount) {
+        line = show_call(line, *c);
     }
     line
 }
@@ -164,10 +136,8 @@ fn show_record(before: Line, m: Notification) -> Line {
 
 fn show_octets(before: Line, octets: [u8; 20]) -> Line {
     let mut line = before;
-    let mut i: usize = 0;
-    while i < 20 {
-        line = line.hex(b"", wide(octets[i]), 2);
-        i += 1;
+    for octet in octets {
+        line = line.hex(b"", u64::from(octet), 2);
     }
     line
 }
@@ -203,14 +173,10 @@ fn show_line(digits: &[u8], out: &mut Stdout) -> io::Result<()> {
 }
 
 fn show_lines(text: &[u8], out: &mut Stdout) -> io::Result<()> {
-    let mut start: usize = 0;
-    let mut i: usize = 0;
-    while i < text.len() {
-        if text[i] == b'\n' {
-            show_line(&text[start..i], out)?;
-            start = i + 1;
-        }
-        i += 1;
+    let mut rest = text;
+    while let Some(end) = rest.iter().position(|c| *c == b'\n') {
+        show_line(&rest[..end], out)?;
+        rest = &rest[end + 1..];
     }
     Ok(())
 }

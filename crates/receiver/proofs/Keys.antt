@@ -2,22 +2,31 @@
 use mathlib.Core.Path.{◌≡◌, refl, sym, ◌∙◌}
 use mathlib.Core.Bool.{Bool, true, false}
 use mathlib.Core.List.{List, [], ◌∷◌}
-use Prim.Native.Nat.{ℕ, zero, suc, ◌+◌, ◌-◌, ◌≤◌, ◌<◌}
+use Prim.Native.Nat.{ℕ, zero, suc, ◌+◌, ◌≤◌, ◌<◌}
 use native.Mathlib.Numerals.{add-one}
 use native.Mathlib.Omega.{arith}
-use lib.ListN.{length, get_or, drop, drop_of_length-le}
-use lib.Dec.{leb, ltb}
-use lib.Seq.{drop-cons}
-use borrow.Author.Tests.{lt-ltb, le-ltb, ltb-true, le-leb, lt-leb, leb-true}
+use lib.ListN.{length, get_or}
+use lib.Dec.{leb, ltb, eqb}
+use borrow.Author.Tests.{lt-ltb, le-ltb, ltb-true, leb-true, eqb-true}
+use Rattle.std.specs.Prelude.{nat_lt, nat_le, ◌&&◌}
+use Rattle.std.specs.List.{list_all, IsAllAdjacentAnswer}
 use Rattle.bits.specs.Field.{both}
 use Rattle.bits.proofs.Answers.{both_true}
 use Rattle.receiver.specs.declared.Setup.{Setup}
 use Rattle.receiver.specs.Channels.{key_count}
 use Rattle.receiver.specs.Halving.{first_of, rises}
-use Rattle.receiver.specs.Count.{sets_right}
+use Rattle.receiver.specs.Count.{is_set, all_sets, sets_right}
 use Rattle.receiver.specs.Model.{last_key, index_of, is_timer, all_low, setup_right}
 use Rattle.receiver.proofs.Cases.{by-test}
 use Rattle.receiver.proofs.Halving.{Finds, nothing, place, all-finds, rising, all_own, as_from-front}
+
+both_false : (b : Bool) → both b false ≡ false
+both_false true = refl
+both_false false = refl
+
+and_both : (b : Bool) {c d : Bool} → c ≡ d → (b && c) ≡ both b d
+and_both true e = e
+and_both false e = refl
 
 -- ## The two laws
 
@@ -48,48 +57,37 @@ module _ (ks : List ℕ) (r : rises ks ≡ true) where
       (λ p. let q = ltb-true (first_of ks key) (length ks) p in rw (lent-index key q, p) (lt-ltb (first_of ks key) key_count (omega arith)))
       (λ p. rw (as_from-front ks (rising ks r) key, p) (le-ltb key_count key_count (omega arith)))
 
--- ## No key is above the highest
+-- ## What a setup asks of its keys, as the library's tests answer it
 
-module _ (ks : List ℕ) (i d : ℕ) (h : i < length ks) where
-  low-split : all_low (drop i ks) ≡ both (leb (get_or ks i d) last_key) (all_low (drop (i + 1) ks))
-  unfolding all_low
-  low-split = rw (add-one, drop-cons ks i d h)
-
-  pub low-high : last_key < get_or ks i d → all_low (drop i ks) ≡ false
-  low-high g = rw (low-split, lt-leb (get_or ks i d) last_key g)
-
-  pub low-next : get_or ks i d ≤ last_key → all_low (drop i ks) ≡ all_low (drop (i + 1) ks)
-  low-next g = rw (low-split, le-leb (get_or ks i d) last_key g)
-
-pub low-past : (ks : List ℕ) (i : ℕ) → length ks ≤ i → all_low (drop i ks) ≡ true
+-- none is above the highest
+pub low_all : (ks : List ℕ) → list_all (λ k. nat_le k last_key) ks ≡ all_low ks
 unfolding all_low
-low-past ks i h = rw (drop_of_length-le ks {i = i} h)
+low_all [] = refl
+low_all (k ∷ ks) = and_both (leb k last_key) (low_all ks)
 
--- ## Each key is above the one before it
+-- each set is right
+pub sets_all : (ms : List ℕ) → list_all is_set ms ≡ all_sets ms
+unfolding all_sets
+sets_all [] = refl
+sets_all (m ∷ ms) = and_both (is_set m) (sets_all ms)
 
-rise_split : (ks : List ℕ) (i d : ℕ) → 1 ≤ i → i < length ks → rises (drop (i - 1) ks) ≡ both (ltb (get_or ks (i - 1) d) (get_or ks i d)) (rises (drop i ks))
+-- each is above the one before it
+rise_all : (ks : List ℕ) → ((k d : ℕ) → k + 1 < length ks → true ≡ ltb (get_or ks k d) (get_or ks (k + 1) d)) → rises ks ≡ true
 unfolding rises
-rise_split ks zero d l h = absurd (omega arith)
-rise_split ks (suc i) d l h = let e : suc i - 1 ≡ i = omega arith in rw (e, drop-cons ks i d (omega arith), drop-cons ks (suc i) d h)
+rise_all [] h = refl
+rise_all (a ∷ []) h = refl
+rise_all (a ∷ (b ∷ ks)) h = rw (sym (h 0 0 (omega arith)), rise_all (b ∷ ks) (λ k d l. rw (add-one k) (rw (add-one (suc k)) at (h (suc k) d (omega arith)))))
 
-module _ (ks : List ℕ) (i d : ℕ) (l : 1 ≤ i) (h : i < length ks) where
-  pub rise_not : get_or ks i d ≤ get_or ks (i - 1) d → rises (drop (i - 1) ks) ≡ false
-  rise_not g = rw (rise_split ks i d l h, le-ltb (get_or ks (i - 1) d) (get_or ks i d) g)
-
-  pub rise_next : get_or ks (i - 1) d < get_or ks i d → rises (drop (i - 1) ks) ≡ rises (drop (i + 1 - 1) ks)
-  rise_next g = let e : i + 1 - 1 ≡ i = omega arith in rw (rise_split ks i d l h, lt-ltb (get_or ks (i - 1) d) (get_or ks i d) g, e)
-
--- the last one has none behind it
-rise_last : (ks : List ℕ) (i : ℕ) → length ks ≤ suc i → rises (drop i ks) ≡ true
+rise_not : (ks : List ℕ) (k : ℕ) → k + 1 < length ks → false ≡ ltb (get_or ks k 0) (get_or ks (k + 1) 0) → rises ks ≡ false
 unfolding rises
-rise_last [] zero h = refl
-rise_last [] (suc i) h = refl
-rise_last (k ∷ []) zero h = refl
-rise_last (k ∷ (l ∷ ks)) zero h = absurd (omega arith)
-rise_last (k ∷ ks) (suc i) h = rise_last ks i (omega arith)
+rise_not [] k l h = absurd (omega arith)
+rise_not (a ∷ []) k l h = absurd (omega arith)
+rise_not (a ∷ (b ∷ ks)) zero l h = rw (sym h)
+rise_not (a ∷ (b ∷ ks)) (suc k) l h = rw (rise_not (b ∷ ks) k (omega arith) (rw (add-one k) (rw (add-one (suc k)) at h))) (both_false (ltb a b))
 
-pub rise_past : (ks : List ℕ) (i : ℕ) → 1 ≤ i → length ks ≤ i → rises (drop (i - 1) ks) ≡ true
-rise_past ks i l h = rise_last ks (i - 1) (omega arith)
+pub rise_from : (ks : List ℕ) (r : Bool) → IsAllAdjacentAnswer (λ x y b. b ≡ nat_lt x y) ks r → r ≡ rises ks
+rise_from ks true h = sym (rise_all ks h)
+rise_from ks false (k, l, h) = sym (rise_not ks k l (h 0))
 
 -- ## The keys of a setup
 
@@ -107,3 +105,11 @@ right_keys s keys sets e =
     let p = passed (leb (length keys) key_count) (is_timer s.t3206) (is_timer s.t3208) (is_timer s.t3210) (both (sets_right keys sets) (both (all_low keys) (rises keys))) e in
     let q = both_true (sets_right keys sets) (both (all_low keys) (rises keys)) p.1 in
     (leb-true (length keys) key_count p.0, (both_true (all_low keys) (rises keys) q.1).1)
+
+-- and so are its sets
+pub right_sets : (s : Setup) (keys sets : List ℕ) → setup_right s keys sets ≡ true → length sets ≤ key_count
+unfolding setup_right
+right_sets s keys sets e =
+    let p = passed (leb (length keys) key_count) (is_timer s.t3206) (is_timer s.t3208) (is_timer s.t3210) (both (sets_right keys sets) (both (all_low keys) (rises keys))) e in
+    let q = both_true (eqb (length sets) (length keys)) (all_sets sets) (both_true (sets_right keys sets) (both (all_low keys) (rises keys)) p.1).0 in
+    omega (arith, leb-true (length keys) key_count p.0, eqb-true (length sets) (length keys) q.0)

@@ -5,7 +5,6 @@ pub mod Loops
 pub mod Halving
 pub mod Keys
 pub mod KeyPlaces
-pub mod Sets
 pub mod MessageEntries
 pub mod Accepted
 pub mod Entering

@@ -15,13 +15,10 @@ fn raised(n: u8) -> u8
 pub fn taken(cell: Cell, counted: bool, count: u8) -> Cell
     ensures { result ≡ cell_with cell (counting counted count) }
 {
-    if !counted {
-        return cell;
-    }
-    Cell {
-        nln: cell.nln,
-        count,
-        bit: cell.bit,
+    if counted {
+        Cell { count, ..cell }
+    } else {
+        cell
     }
 }
 
@@ -29,22 +26,13 @@ pub fn taken(cell: Cell, counted: bool, count: u8) -> Cell
 pub fn taken_over(cell: Cell, counted: bool, b22: bool, count: u8) -> Cell
     ensures { result ≡ cell_with cell (counting_over counted b22 count) }
 {
-    if !counted {
+    if !counted || NO_BIT <= cell.bit {
         return cell;
     }
-    if NO_BIT <= cell.bit {
-        return cell;
-    }
-    let mut n = count;
-    if b22 {
-        if cell.bit == 0 {
-            n = raised(count);
-        }
-    }
+    let behind = b22 && cell.bit == 0;
     Cell {
-        nln: cell.nln,
-        count: n,
-        bit: cell.bit,
+        count: if behind { raised(count) } else { count },
+        ..cell
     }
 }
 
@@ -52,18 +40,15 @@ pub fn taken_over(cell: Cell, counted: bool, b22: bool, count: u8) -> Cell
 pub fn turned(cell: Cell, bit: u8) -> Cell
     ensures { result ≡ cell_with cell (bits bit) }
 {
-    let mut n = cell.count;
-    if cell.bit == 1 {
-        if bit == 0 {
-            if n < NO_COUNT {
-                n = raised(n);
-            }
-        }
-    }
+    let raises = cell.bit == 1 && bit == 0 && cell.count < NO_COUNT;
     Cell {
-        nln: cell.nln,
-        count: n,
+        count: if raises {
+            raised(cell.count)
+        } else {
+            cell.count
+        },
         bit,
+        ..cell
     }
 }
 
@@ -74,40 +59,28 @@ pub const LAST_GROUP_KEY: u8 = 15;
 fn holds(set: u32, n: u8) -> bool
     ensures { result ≡ holds set n }
 {
-    if n < 1 {
-        return false;
-    }
-    if LAST_GROUP_KEY < n {
-        return false;
-    }
-    (set >> n) % 2 == 1
+    1 <= n && n <= LAST_GROUP_KEY && (set >> n) % 2 == 1
 }
 
 // Whether a call that was told a number can be followed: 1 no key, 2 no count, 3 follow; 0 beside other numbers than 2 and 3.
+#[tactic(auto, unfolding(crate::specs::Count::follow_of))]
 pub fn follow(set: u32, cell: Cell, number: u8, cipher: u8) -> u8
     ensures { result ≡ follow_of set cell number cipher }
 {
-    if number < 2 {
-        return 0;
+    if number < 2 || 3 < number {
+        0
+    } else if !holds(set, cipher) {
+        1
+    } else if cell.count < NO_COUNT {
+        3
+    } else {
+        2
     }
-    if 3 < number {
-        return 0;
-    }
-    if !holds(set, cipher) {
-        return 1;
-    }
-    if cell.count < NO_COUNT {
-        return 3;
-    }
-    2
 }
 
 // The kept count, beside 3.
 pub fn beside(follow: u8, cell: Cell) -> u8
     ensures { result ≡ count_beside follow cell }
 {
-    if follow == 3 {
-        return cell.count;
-    }
-    0
+    if follow == 3 { cell.count } else { 0 }
 }

@@ -5,21 +5,17 @@ ghost use Rattle.receiver.specs.Channels.{key_count, Channel, hasNln, has_pages,
 ghost use Rattle.receiver.specs.Model.{rule_for};
 ghost use Rattle.receiver.specs.Step.{changes, numbering, moving, cell_by};
 
-use crate::{Cell, Move, NO_BIT, NO_COUNT, NO_NLN, Rule, Setup};
+use crate::{Cell, Move, NO_BIT, NO_COUNT, NO_NLN, Rule, store};
 
 // ## A message's NLN
+
+// Stays: a flag and a number for an NLN, and in count for a message's count: a notification has the two apart, and docs/PROMISES.md names these functions.
 
 // Whether a message has another NLN than the last one seen; the first one seen is no change.
 pub fn nln_changes(cell: Cell, numbered: bool, nln: u8) -> bool
     ensures { result ≡ both numbered (changes cell nln) }
 {
-    if !numbered {
-        return false;
-    }
-    if cell.nln == NO_NLN {
-        return false;
-    }
-    cell.nln != nln
+    numbered && cell.nln != NO_NLN && cell.nln != nln
 }
 
 // NCH halves go where the NLN changes.
@@ -28,9 +24,7 @@ pub fn nln_rule(cell: Cell, numbered: bool, nln: u8) -> Rule
 {
     Rule {
         nch: nln_changes(cell, numbered, nln),
-        facch: false,
-        pch: false,
-        but: Setup::KEYS,
+        ..store::keep()
     }
 }
 
@@ -38,14 +32,7 @@ pub fn nln_rule(cell: Cell, numbered: bool, nln: u8) -> Rule
 pub fn nln_cell(cell: Cell, numbered: bool, nln: u8) -> Cell
     ensures { result ≡ cell_by cell (numbering numbered nln) }
 {
-    if numbered {
-        return Cell {
-            nln,
-            count: cell.count,
-            bit: cell.bit,
-        };
-    }
-    cell
+    if numbered { Cell { nln, ..cell } } else { cell }
 }
 
 // ## Joins and moves
@@ -67,10 +54,9 @@ pub fn page_rule(but: usize) -> Rule
     ensures { result ≡ rule_for has_pages but }
 {
     Rule {
-        nch: false,
-        facch: false,
         pch: true,
         but,
+        ..store::keep()
     }
 }
 
@@ -81,27 +67,16 @@ pub fn move_rule(m: Move) -> Rule
     match m {
         Move::Reselection => Rule {
             nch: true,
-            facch: false,
             pch: true,
-            but: Setup::KEYS,
+            ..store::keep()
         },
-        Move::Handover => Rule {
-            nch: false,
+        Move::Handover | Move::Reconfiguration => Rule {
             facch: true,
-            pch: false,
-            but: Setup::KEYS,
-        },
-        Move::Reconfiguration => Rule {
-            nch: false,
-            facch: true,
-            pch: false,
-            but: Setup::KEYS,
+            ..store::keep()
         },
         Move::LeftIdle => Rule {
-            nch: false,
-            facch: false,
             pch: true,
-            but: Setup::KEYS,
+            ..store::keep()
         },
     }
 }
@@ -110,24 +85,14 @@ pub fn move_rule(m: Move) -> Rule
 fn forgets(m: Move) -> bool
     ensures { result ≡ forgets m }
 {
-    match m {
-        Move::Reselection => true,
-        Move::Handover => false,
-        Move::Reconfiguration => false,
-        Move::LeftIdle => false,
-    }
+    matches!(m, Move::Reselection)
 }
 
 // Whether a move makes the cell's count and bit 22 unknown.
 fn forgets_count(m: Move) -> bool
     ensures { result ≡ forgets_count m }
 {
-    match m {
-        Move::Reselection => true,
-        Move::Handover => true,
-        Move::Reconfiguration => false,
-        Move::LeftIdle => false,
-    }
+    matches!(m, Move::Reselection | Move::Handover)
 }
 
 // What is known of the cell, behind a move.

@@ -14,6 +14,7 @@ pub mod start;
 pub mod store;
 
 // The parts that a message has once for all of its calls.
+// Stays: a flag beside each value, here and in Record, Slot and Paged: the state's octets hold both (docs/STATE.md), and what is read of them keeps both.
 #[derive(Clone, Copy)]
 pub struct Common {
     pub hasCount: bool,
@@ -58,6 +59,7 @@ pub struct Slot {
 }
 
 // An NLN has two bits: this says that none is known.
+// Stays: a number for none, here, in NO_COUNT, NO_BIT and NO_KEY: the state's octets hold these numbers (docs/STATE.md), and cell_with, cell_by and key_places speak of them.
 pub const NO_NLN: u8 = 4;
 
 // CELL_GLOBAL_COUNT has two bits: this, and any number above, says that none is kept.
@@ -102,6 +104,7 @@ pub struct Receiver {
 }
 
 // What an entry is told: document 01's number, and for 1 to 3 the record.
+// Stays: numbers for what is told and whether it can be followed, here and in Met: C and the state's octets have them, and meet_of, follow_of and the theorems of isolation name them.
 #[derive(Clone, Copy)]
 pub struct Told {
     // Reference times 2 plus service flag.
@@ -127,6 +130,7 @@ pub struct Paged {
 // A message has at most this many entries: four calls and five reduced references.
 pub const MOST_ENTRIES: usize = 9;
 
+// Stays: a refusal beside the rest: step_of and the theorems of isolation speak of the counts, the entries and the receiver of every answer, refused or not.
 // What an event is answered. A refusal is its number and its bit alone, and the receiver as it stood.
 #[derive(Drop)]
 pub struct Answer {
@@ -139,14 +143,8 @@ pub struct Answer {
     pub receiver: Receiver,
 }
 
-// What a setup is answered.
-#[derive(Drop)]
-pub struct Started {
-    pub refusal: Refusal,
-    pub receiver: Receiver,
-}
-
 // What an event drops beside what ran out: the halves of some channels, save those under the key at an index. No key has the index KEYS.
+// Stays: KEYS for no key in but: rule_for and spares, and through them isolation's theorems, have the index as a number.
 #[derive(Clone, Copy)]
 pub struct Rule {
     pub nch: bool,

@@ -55,132 +55,93 @@ pub fn empty_slot() -> Slot
 fn is_ciphered(e: Record) -> bool
     ensures { result ≡ is_ciphered e }
 {
-    if !e.full {
-        return true;
-    }
-    1 <= e.call.cipher
+    !e.full || 1 <= e.call.cipher
 }
 
 // Segment Id as it must be where the channel has it.
 fn segment_is(ch: usize, b: bool, e: Record) -> bool
     ensures { result ≡ segment_is ch b e }
 {
-    if !channels::asks(ch) {
-        return true;
-    }
-    if !e.hasSegment {
-        return false;
-    }
-    if b {
-        return e.segment;
-    }
-    !e.segment
+    !channels::asks(ch) || (e.hasSegment && e.segment == b)
 }
 
 // A second half: ciphered, not described, with VSTK_RAND, and Segment Id 1 where the channel has it.
 fn is_second(ch: usize, e: Record) -> bool
     ensures { result ≡ is_second ch e }
 {
-    if !is_ciphered(e) {
-        return false;
-    }
-    if e.call.hasDescription {
-        return false;
-    }
-    if !e.hasRandom {
-        return false;
-    }
-    segment_is(ch, true, e)
+    is_ciphered(e) && !e.call.hasDescription && e.hasRandom && segment_is(ch, true, e)
 }
 
 // 1 complete and clear, 2 complete in one piece, 3 a first half, 4 a second half, 6 no channel, 7 any other.
+// Stays: numbers for classes: class_of has them, and meet_of tells a class that is no half by its number (document 01).
+#[tactic(auto, unfolding(crate::specs::Model::class_of))]
 pub fn class(ch: usize, e: Record) -> u8
     ensures { result ≡ class_of ch e }
 {
     if e.call.hasDescription {
         if !is_ciphered(e) {
-            return 1;
+            1
+        } else if !segment_is(ch, false, e) {
+            7
+        } else if e.hasRandom {
+            2
+        } else {
+            3
         }
-        if segment_is(ch, false, e) {
-            if e.hasRandom {
-                return 2;
-            }
-            return 3;
-        }
-        return 7;
+    } else if is_second(ch, e) {
+        4
+    } else if e.full {
+        6
+    } else {
+        7
     }
-    if is_second(ch, e) {
-        return 4;
-    }
-    if e.full {
-        return 6;
-    }
-    7
 }
 
 // All 36 bits are the same.
 fn same_reference(a: Call, b: Call) -> bool
     ensures { result ≡ same_reference a b }
 {
-    if a.reference != b.reference {
-        return false;
-    }
-    if a.vgcs as u8 != b.vgcs as u8 {
-        return false;
-    }
-    if a.acknowledged as u8 != b.acknowledged as u8 {
-        return false;
-    }
-    if a.priority != b.priority {
-        return false;
-    }
-    a.cipher == b.cipher
+    a.reference == b.reference
+        && a.vgcs == b.vgcs
+        && a.acknowledged == b.acknowledged
+        && a.priority == b.priority
+        && a.cipher == b.cipher
 }
 
 // Two full references must agree.
+#[tactic(auto, unfolding(crate::specs::Model::agree))]
 pub fn agrees(a: Record, b: Record) -> bool
     ensures { result ≡ agree a b }
 {
-    if !a.full {
-        return true;
-    }
-    if !b.full {
-        return true;
-    }
-    let x = a.call;
-    let y = b.call;
-    same_reference(x, y)
+    !a.full || !b.full || same_reference(a.call, b.call)
 }
 
 // The count, with B22, comes from the second half if there, else from the first.
 fn with_count(first: Common, second: Common) -> Common
     ensures { result ≡ with_count first second }
 {
-    let mut c = first;
     if second.hasCount {
-        c.hasCount = true;
-        c.cellcount = second.cellcount;
-        c.b22 = second.b22;
+        Common {
+            hasCount: true,
+            cellcount: second.cellcount,
+            b22: second.b22,
+            ..first
+        }
+    } else {
+        first
     }
-    c
 }
 
 // Everything from the first half, VSTK_RAND from the second.
+#[tactic(auto, unfolding(crate::specs::Model::joined_of))]
 pub fn join(first: Record, second: Record) -> Record
     ensures { result ≡ joined_of first second }
 {
-    let a = first.common;
-    let b = second.common;
-    let call = first.call;
     Record {
-        full: first.full,
-        call,
-        hasSegment: first.hasSegment,
-        segment: first.segment,
         hasRandom: true,
         rand: second.rand,
-        emergency: first.emergency,
-        common: with_count(a, b),
+        common: with_count(first.common, second.common),
+        ..first
     }
 }
 
@@ -188,5 +149,5 @@ pub fn join(first: Record, second: Record) -> Record
 pub fn key_of(c: Call) -> u64
     ensures { result ≡ key_of c }
 {
-    c.reference as u64 * 2 + c.vgcs as u64
+    u64::from(c.reference) * 2 + u64::from(c.vgcs)
 }

@@ -4,19 +4,17 @@ ghost use Rattle.std.proofs.Math.Option.{none};
 ghost use Rattle.receiver.specs.Model.{no_paged};
 ghost use Rattle.receiver.specs.Entries.{owned_of, facch_entry, paged_of, pch_entry};
 
-use crate::{Common, Paged, Record};
+use crate::{Common, Paged, Record, meeting};
 use facch::Page;
 
 // What a FACCH message says of its call.
+#[tactic(auto, unfolding(crate::specs::Entries::facch_entry))]
 pub fn facch_entry(m: facch::Notification) -> Record
     ensures { result ≡ facch_entry m }
 {
-    let call = m.call;
     Record {
         full: true,
-        call,
-        hasSegment: false,
-        segment: false,
+        call: m.call,
         hasRandom: m.release6.hasRandom,
         rand: m.release6.rand,
         emergency: m.release7.emergency,
@@ -26,15 +24,9 @@ pub fn facch_entry(m: facch::Notification) -> Record
             b22: m.release6.b22,
             hasUplink: m.release7.hasRelease,
             uplink: m.release7.uplink,
-            hasAmr: false,
-            hasFullrate: false,
-            fullrate: 0,
-            hasHalfrate: false,
-            halfrate: 0,
-            hasSms: false,
-            confidential: false,
-            private: false,
+            ..meeting::no_common()
         },
+        ..meeting::no_record()
     }
 }
 
@@ -58,50 +50,38 @@ pub fn no_paged() -> Paged
 }
 
 // Who is paged by a FACCH message.
+#[tactic(auto, unfolding(crate::specs::Entries::paged_of))]
 pub fn paged_of(m: facch::Notification) -> Paged
     ensures { result ≡ paged_of m }
 {
     if !m.paging {
         return no_paged();
     }
-    let page = m.page;
     Paged {
         there: true,
-        page,
+        page: m.page,
         hasCause: m.release7.hasCause,
         cause: m.release7.cause,
     }
 }
 
 // What an entry of the PCH says of its call. A VSTK_RAND is of use to a call that is ciphered, and to a reduced reference that is not marked so it is none.
+#[tactic(auto, unfolding(crate::specs::Entries::pch_entry))]
 pub fn pch_entry(p: pch::Entry) -> Record
     ensures { result ≡ pch_entry p }
 {
-    let call = p.call;
     let given = p.hasRandom && (p.full || p.ciphered);
     Record {
         full: p.full,
-        call,
-        hasSegment: false,
-        segment: false,
+        call: p.call,
         hasRandom: given,
         rand: if given { p.rand } else { 0 },
-        emergency: false,
         common: Common {
             hasCount: p.hasCount,
             cellcount: p.cellcount,
-            b22: false,
-            hasUplink: false,
-            uplink: false,
-            hasAmr: false,
-            hasFullrate: false,
-            fullrate: 0,
-            hasHalfrate: false,
-            halfrate: 0,
-            hasSms: false,
-            confidential: false,
-            private: false,
+            ..meeting::no_common()
         },
+        ..meeting::no_record()
     }
 }
 

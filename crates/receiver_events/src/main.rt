@@ -7,9 +7,11 @@
 ghost use Rattle.std.specs.Prelude.{◌≤◌, length};
 
 use call::{Call, Description};
-use receiver::{Answer, Common, Receiver, Record, Setup, Started, Told};
+use csn1::Refusal;
+use receiver::{Answer, Common, Move, Receiver, Record, Setup, Told};
 use std::io;
 use std::io::Stdout;
+use steps::events;
 use text::Line;
 
 // The most octets of input that are read.
@@ -92,11 +94,8 @@ fn show_told(t: Told) -> Line {
     let mut line = Line::new()
         .number(b"  ", t.key)
         .number(b" ", t.number as u64);
-    if 1 <= t.number {
-        if t.number <= 3 {
-            let r = t.record;
-            line = show_record(line, r);
-        }
+    if (1..=3).contains(&t.number) {
+        line = show_record(line, t.record);
     }
     line
 }
@@ -120,28 +119,20 @@ fn show_head(
 // Shows an answer, and hands on the receiver in it.
 fn answered(a: Answer, out: &mut Stdout) -> io::Result<Receiver> {
     show_head(a.refusal.number, a.expired, a.dropped, a.count, out)?;
-    let entries = a.entries;
-    let mut i: usize = 0;
-    while i < 9 {
-        if i < a.count {
-            let t = entries[i];
-            show_told(t).end(out)?;
-        }
-        i += 1;
+    for t in a.entries.iter().take(a.count) {
+        show_told(*t).end(out)?;
     }
     Ok(a.receiver)
 }
 
-// The number whose decimal digits stand from a place on, less whole times 2^32.
+// The number whose decimal digits stand from a place on, less whole times 2^32. A character that is no digit counts as 16.
 fn number(line: &[u8], from: usize) -> u32 {
     let mut n: u64 = 0;
-    let mut i = from;
-    while i < line.len() {
-        if line[i] == b' ' {
+    for c in line.iter().skip(from) {
+        if *c == b' ' {
             break;
         }
-        n = (n * 10 + text::digit(line[i]) as u64) % 4294967296;
-        i += 1;
+        n = (n * 10 + u64::from(text::digit(*c).unwrap_or(16))) % 4294967296;
     }
     n as u32
 }
@@ -151,38 +142,24 @@ fn after(line: &[u8], from: usize) -> usize
     requires { from ≤ length line.now }
     ensures { result ≤ length line.now }
 {
-    let mut i = from;
-    while i < line.len() {
-        if line[i] == b' ' {
-            return i + 1;
-        }
-        i += 1;
+    match line[from..].iter().position(|c| *c == b' ') {
+        Some(i) => from + i + 1,
+        None => line.len(),
     }
-    i
-}
-
-// A message of the octets whose hexadecimal digits are given, of which 64 are kept at most.
-fn message(r: Receiver, tick: u32, digits: &[u8], nch: bool) -> Answer {
-    let mut octets = [0u8; 64];
-    let n = text::read_hex(digits, &mut octets);
-    if nch {
-        return steps::events::nch(r, tick, &octets[..n]);
-    }
-    steps::events::facch(r, tick, &octets[..n])
 }
 
 // A setup with the keys from a place on, of which 64 are kept at most; no group keys are held.
-fn started(setup: Setup, line: &[u8], from: usize) -> Started
+fn started(setup: Setup, line: &[u8], from: usize) -> Result<Receiver, Refusal>
     requires { from ≤ length line.now }
 {
     let mut keys = [0u32; 64];
     let mut n: usize = 0;
     let mut at = from;
-    while n < 64 {
+    for key in keys.iter_mut() {
         if line.len() <= at {
             break;
         }
-        keys[n] = number(line, at);
+        *key = number(line, at);
         at = after(line, at);
         n += 1;
     }
@@ -199,78 +176,62 @@ fn set_up(r: Receiver, line: &[u8], first: usize, out: &mut Stdout) -> io::Resul
     let third = after(line, second);
     let t3208 = number(line, third);
     let keys = after(line, third);
-    let s = started(
-        Setup {
-            tick,
-            t3206,
-            t3208,
-            t3210: Setup::T3210,
-        },
-        line,
-        keys,
-    );
-    show_head(s.refusal.number, 0, 0, 0, out)?;
-    if s.refusal.number != 0 {
-        return Ok(r);
+    let setup = Setup {
+        tick,
+        t3206,
+        t3208,
+        t3210: Setup::T3210,
+    };
+    match started(setup, line, keys) {
+        Ok(fresh) => {
+            show_head(0, 0, 0, 0, out)?;
+            Ok(fresh)
+        }
+        Err(refusal) => {
+            show_head(refusal.number, 0, 0, 0, out)?;
+            Ok(r)
+        }
     }
-    Ok(s.receiver)
 }
 
-// An event without octets, by the first and the third letter of its word.
-fn other(r: Receiver, first: u8, third: u8, tick: u32, key: u32) -> Answer {
-    if first == b'j' {
-        return steps::events::joined(r, tick, key);
-    }
-    if first == b'h' {
-        return steps::events::handed_over(r, tick);
-    }
-    if first == b't' {
-        return steps::events::tick(r, tick);
-    }
-    if third == b's' {
-        return steps::events::reselected(r, tick);
-    }
-    steps::events::reconfigured(r, tick)
-}
-
+// An event, by the first letter of its word, and where that is r by the third. Of a message 64 octets are kept at most.
 fn event(r: Receiver, line: &[u8], out: &mut Stdout) -> io::Result<Receiver> {
     if line.len() < 3 {
         return Ok(r);
     }
-    let first = line[0];
     let at = after(line, 0);
-    if first == b's' {
+    if line[0] == b's' {
         return set_up(r, line, at, out);
     }
     let tick = number(line, at);
     let rest = after(line, at);
-    if first == b'n' {
-        return answered(message(r, tick, &line[rest..line.len()], true), out);
-    }
-    if first == b'f' {
-        return answered(message(r, tick, &line[rest..line.len()], false), out);
-    }
-    answered(other(r, first, line[2], tick, number(line, rest)), out)
+    let mut octets = [0u8; 64];
+    let n = text::read_hex(&line[rest..], &mut octets);
+    let message = &octets[..n];
+    let key = number(line, rest);
+    let a = match line[0] {
+        b'n' => events::nch(r, tick, message),
+        b'f' => events::facch(r, tick, message),
+        b'j' => events::joined(r, tick, key),
+        b'h' => events::moved(r, tick, Move::Handover),
+        b't' => events::tick(r, tick),
+        _ if line[2] == b's' => events::moved(r, tick, Move::Reselection),
+        _ => events::moved(r, tick, Move::Reconfiguration),
+    };
+    answered(a, out)
 }
 
 // Before the first setup the receiver has no key.
 fn no_receiver() -> Receiver {
-    let keys = [0u32; 1];
-    let sets = [0u32; 1];
-    let s = Setup::ready(0).start(&keys[..0], &sets[..0]);
-    s.receiver
+    Setup::ready(0).start(&[], &[]).unwrap()
 }
 
-fn events(text: &[u8], out: &mut Stdout) -> io::Result<()> {
+fn show_lines(text: &[u8], out: &mut Stdout) -> io::Result<()> {
     let mut r = no_receiver();
-    let mut start: usize = 0;
-    let mut i: usize = 0;
-    while i < text.len() {
-        if text[i] == b'\n' {
-            r = event(r, &text[start..i], out)?;
-            start = i + 1;
-        }
-        i += 1;
+    let mut rest = text;
+    while let Some(end) = rest.iter().position(|c| *c == b'\n') {
+        r = event(r, &rest[..end], out)?;
+        rest = &rest[end + 1..];
     }
     Ok(())
 }
@@ -278,5 +239,5 @@ fn events(text: &[u8], out: &mut Stdout) -> io::Result<()> {
 fn main(rt: HostRuntime) -> io::Result<()> {
     let mut text = [0u8; INPUT];
     let n = text::read_full(&mut rt.stdin(), &mut text)?;
-    events(&text[..n], &mut rt.stdout())
+    show_lines(&text[..n], &mut rt.stdout())
 }

@@ -5,7 +5,7 @@ use native.Mathlib.Omega.{arith}
 use Prim.Native.Nat.{ℕ, ◌≤◌}
 use lib.ListN.{length}
 use Rattle.receiver.proofs.Cases.{by-test}
-use Rattle.text.specs.declared.Line.{Line}
+use Rattle.text.specs.Lines.{Line}
 use Rattle.capture.specs.declared.Fed.{Fed}
 use Rattle.capture.specs.Machine.{Machine, Taken, fed_by, is_ready, Replayed}
 use Rattle.capture.proofs.Promises.{a_call_takes_no_more_than_it_is_offered}

@@ -2,7 +2,7 @@
 ghost use Rattle.std.specs.Prelude.{◌≡◌, false, [], length};
 ghost use Rattle.std.proofs.Math.Option.{none};
 ghost use Rattle.bits.specs.Field.{pick};
-ghost use Rattle.csn1.specs.Told.{as_bit, padded};
+ghost use Rattle.csn1.specs.Told.{padded};
 ghost use Rattle.call.specs.Call.{ciphered};
 ghost use Rattle.nch.specs.Octets.{count};
 ghost use Rattle.nch.specs.Write.{calls_of, is_described};
@@ -18,6 +18,7 @@ use receiver::messages::Owned;
 use receiver::{Common, MOST_ENTRIES, Record, meeting, messages};
 
 // The entries of a message, in order.
+// Stays: an array with a count, here and in CallEntries: no heap.
 #[derive(Clone, Copy)]
 pub struct Entries {
     pub items: [Record; MOST_ENTRIES],
@@ -34,6 +35,7 @@ pub fn no_entries() -> Entries
 }
 
 // The entries of a FACCH message: its call, and none where it pages somebody.
+#[tactic(auto, unfolding(receiver::specs::Entries::facch_entries))]
 pub fn facch_entries(m: facch::Notification) -> Entries
     ensures { result ≡ entries_in (facch_entries m) }
 {
@@ -47,6 +49,7 @@ pub fn facch_entries(m: facch::Notification) -> Entries
 }
 
 // The entries of the PCH: one.
+#[tactic(auto, unfolding(receiver::specs::Entries::pch_entries))]
 pub fn pch_entries(p: pch::Entry) -> Entries
     ensures { result ≡ entries_in (pch_entries p) }
 {
@@ -110,20 +113,15 @@ fn random_of_call(m: nch::Notification, c: Call, k: usize) -> Owned
 fn emergency_of_call(m: nch::Notification, c: Call, k: usize) -> bool
     ensures { result ≡ pick (is_described c) (or_not (nth k (marks_of m))) false }
 {
-    if !c.hasDescription {
-        return false;
+    if c.hasDescription && k < m.release7.markcount && k < 4 {
+        m.release7.marks[k]
+    } else {
+        false
     }
-    if m.release7.markcount <= k {
-        return false;
-    }
-    if 4 <= k {
-        return false;
-    }
-    let seven = m.release7;
-    seven.marks[k]
 }
 
 // The entry of a call, with the random entry and the mark at these places where it owns one.
+#[tactic(auto, unfolding(receiver::specs::Entries::call_with))]
 pub fn call_entry(m: nch::Notification, c: Call, random: usize, mark: usize) -> Record
     ensures { result ≡ call_with m random mark c }
 {
@@ -141,6 +139,7 @@ pub fn call_entry(m: nch::Notification, c: Call, random: usize, mark: usize) -> 
 }
 
 // The entry of a reduced reference, with the random entry at this place. It has no mark.
+#[tactic(auto, unfolding(receiver::specs::Entries::reduced_with))]
 pub fn reduced_entry(m: nch::Notification, r: Reduced, random: usize) -> Record
     ensures { result ≡ reduced_with m random r }
 {
@@ -160,12 +159,6 @@ pub fn reduced_entry(m: nch::Notification, r: Reduced, random: usize) -> Record
     }
 }
 
-fn one_if(b: bool) -> usize
-    ensures { result ≡ as_bit b }
-{
-    if b { 1 } else { 0 }
-}
-
 // The entries of the calls, and how many of the calls are ciphered.
 #[derive(Drop)]
 struct CallEntries {
@@ -178,16 +171,13 @@ fn call_entries(m: nch::Notification) -> CallEntries
     ensures { (result.items ≡ padded no_record most_entries (map_at (call_entry m) 0 (calls_of m))) × ((result.count ≡ length (calls_of m)) × (result.ciphered ≡ count ciphered (calls_of m))) }
 {
     let mut items = [meeting::no_record(); MOST_ENTRIES];
-    let count = bits::least(m.callcount, 4);
+    let count = m.callcount.min(4);
     let mut random: usize = 0;
     let mut mark: usize = 0;
-    let mut i: usize = 0;
-    while i < count {
-        let c = m.calls[i];
-        items[i] = call_entry(m, c, random, mark);
-        random += one_if(1 <= c.cipher);
-        mark += one_if(c.hasDescription);
-        i += 1;
+    for (i, call) in m.calls[..count].iter().enumerate() {
+        items[i] = call_entry(m, *call, random, mark);
+        random += usize::from(1 <= call.cipher);
+        mark += usize::from(call.hasDescription);
     }
     CallEntries {
         items,
@@ -203,13 +193,9 @@ pub fn nch_entries(m: nch::Notification) -> Entries
     let calls = call_entries(m);
     let mut items = calls.items;
     let first = calls.count;
-    let six = m.release6;
-    let count = bits::least(six.reducedcount, 5);
-    let mut j: usize = 0;
-    while j < count {
-        let r = six.reduced[j];
-        items[first + j] = reduced_entry(m, r, calls.ciphered + j);
-        j += 1;
+    let count = m.release6.reducedcount.min(5);
+    for (j, reduced) in m.release6.reduced[..count].iter().enumerate() {
+        items[first + j] = reduced_entry(m, *reduced, calls.ciphered + j);
     }
     Entries {
         items,

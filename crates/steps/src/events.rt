@@ -4,7 +4,7 @@ ghost use Rattle.csn1.specs.Told.{padded};
 ghost use Rattle.receiver.specs.Channels.{channels, key_count, places, place_on};
 ghost use Rattle.receiver.specs.Model.{no_paged, keys_of, with_slots};
 ghost use Rattle.receiver.specs.Step.{most_entries, told_as, told_only, no_told, told_of, slots_after, all_after, all_told, refused_with, accepted_with};
-ghost use Rattle.receiver.specs.Step.{step_of, nch, facch, pch, joined, moved, reselected, handed_over, reconfigured, left_idle, bit22, tick};
+ghost use Rattle.receiver.specs.Step.{step_of, nch, facch, pch, joined, moved, bit22, tick};
 
 use crate::entries;
 use crate::entries::Entries;
@@ -30,12 +30,6 @@ fn told_only(key: u64, number: u8) -> Told
     }
 }
 
-fn no_told() -> Told
-    ensures { result ≡ no_told }
-{
-    told_only(0, 0)
-}
-
 // What a number told and a record say under a key, with whether the call can be followed.
 pub fn told_as(set: u32, cell: Cell, key: u64, number: u8, record: Record) -> Told
     ensures { result ≡ told_as set cell key number «record» }
@@ -58,67 +52,33 @@ fn place_on(i: usize, ch: usize) -> usize
     CHANNELS * i + ch
 }
 
-#[derive(Drop)]
-struct Entry {
-    told: Told,
-    receiver: Receiver,
-}
-
 // One entry: what it is told, and the receiver then.
-fn tell(r: Receiver, ch: usize, now: u32, e: Record) -> Entry
+fn tell(r: &mut Receiver, ch: usize, now: u32, e: Record) -> Told
     requires { ch < channels }
-    ensures { (result.told ≡ told_of (keys_of r) r.sets r.cell ch now r.slots e) × (result.receiver ≡ with_slots r (slots_after (keys_of r) ch now r.slots e)) }
+    ensures { (result ≡ told_of (keys_of r.old) r.old.sets r.old.cell ch now r.old.slots e) × (r.new ≡ with_slots r.old (slots_after (keys_of r.old) ch now r.old.slots e)) }
 {
-    let call = e.call;
-    let key = meeting::key_of(call);
-    let keys = r.keys;
-    let i = finding::index_of(keys, r.keycount, key);
+    let key = meeting::key_of(e.call);
+    let i = finding::index_of(r.keys, r.keycount, key);
     if Setup::KEYS <= i {
-        return Entry {
-            told: told_only(key, 0),
-            receiver: r,
-        };
+        return told_only(key, 0);
     }
     let at = place_on(i, ch);
-    let held = r.slots[at];
-    let m = meet(ch, now, held, e);
-    let mut after = r;
-    let left = m.held;
-    after.slots[at] = left;
-    let told = m.told;
-    let cell = r.cell;
-    Entry {
-        told: told_as(r.sets[i], cell, key, m.number, told),
-        receiver: after,
-    }
-}
-
-#[derive(Drop)]
-struct Telling {
-    entries: [Told; MOST_ENTRIES],
-    receiver: Receiver,
+    let m = meet(ch, now, r.slots[at], e);
+    r.slots[at] = m.held;
+    told_as(r.sets[i], r.cell, key, m.number, m.told)
 }
 
 // All entries of a message, in order.
-fn tell_all(r: Receiver, ch: usize, now: u32, e: Entries) -> Telling
+fn tell_all(r: &mut Receiver, ch: usize, now: u32, e: Entries) -> [Told; MOST_ENTRIES]
     requires { (ch < channels) × (e.count ≤ most_entries) }
-    ensures { (result.entries ≡ padded no_told most_entries (all_told (keys_of r) r.sets r.cell ch now r.slots (take e.count e.items)))
-        × (result.receiver ≡ with_slots r (all_after (keys_of r) ch now r.slots (take e.count e.items))) }
+    ensures { (result ≡ padded no_told most_entries (all_told (keys_of r.old) r.old.sets r.old.cell ch now r.old.slots (take e.count e.items)))
+        × (r.new ≡ with_slots r.old (all_after (keys_of r.old) ch now r.old.slots (take e.count e.items))) }
 {
-    let mut entries = [no_told(); MOST_ENTRIES];
-    let mut after = r;
-    let mut i: usize = 0;
-    while i < e.count {
-        let t = tell(after, ch, now, e.items[i]);
-        let told = t.told;
-        entries[i] = told;
-        after = t.receiver;
-        i += 1;
+    let mut told = [told_only(0, 0); MOST_ENTRIES];
+    for (i, record) in e.items[..e.count].iter().enumerate() {
+        told[i] = tell(r, ch, now, *record);
     }
-    Telling {
-        entries,
-        receiver: after,
-    }
+    told
 }
 
 fn refused(r: Receiver, refusal: Refusal) -> Answer
@@ -129,7 +89,7 @@ fn refused(r: Receiver, refusal: Refusal) -> Answer
         expired: 0,
         dropped: 0,
         count: 0,
-        entries: [no_told(); MOST_ENTRIES],
+        entries: [told_only(0, 0); MOST_ENTRIES],
         paged: messages::no_paged(),
         receiver: r,
     }
@@ -141,12 +101,10 @@ fn accepted(r: Receiver, now: u32, rule: Rule, cell: Cell, ch: usize, e: Entries
     ensures { result ≡ accepted_with r now rule cell ch (take e.count e.items) no_paged }
 {
     let swept = sweep(r, now, rule);
-    let mut before = swept.receiver;
-    before.tick = now;
-    before.cell = cell;
-    let t = tell_all(before, ch, now, e);
-    let entries = t.entries;
-    let after = t.receiver;
+    let mut after = swept.receiver;
+    after.tick = now;
+    after.cell = cell;
+    let entries = tell_all(&mut after, ch, now, e);
     Answer {
         refusal: csn1::no_refusal(),
         expired: swept.expired,
@@ -165,17 +123,6 @@ fn plain(r: Receiver, now: u32, rule: Rule, cell: Cell) -> Answer
     accepted(r, now, rule, cell, channels::NCH, entries::no_entries())
 }
 
-// The mobile moved.
-fn move_on(r: Receiver, tick: u32, m: Move) -> Answer
-    ensures { result ≡ step_of r (moved tick m) }
-{
-    if clock::is_late(tick, r.tick) {
-        return refused(r, csn1::ground(9));
-    }
-    let cell = r.cell;
-    plain(r, tick, events::move_rule(m), events::move_cell(cell, m))
-}
-
 // ## The events
 
 // NT/N Rest Octets.
@@ -190,11 +137,9 @@ pub fn nch(r: Receiver, tick: u32, octets: &[u8]) -> Answer
         return refused(r, m.refusal);
     }
     let n = m.record;
-    let last = r.cell;
-    let rule = events::nln_rule(last, n.hasNln, n.nln);
-    let cell = events::nln_cell(last, n.hasNln, n.nln);
-    let six = n.release6;
-    let cell = count::taken(cell, six.hasCount, six.cellcount);
+    let rule = events::nln_rule(r.cell, n.hasNln, n.nln);
+    let cell = events::nln_cell(r.cell, n.hasNln, n.nln);
+    let cell = count::taken(cell, n.release6.hasCount, n.release6.cellcount);
     accepted(r, tick, rule, cell, channels::NCH, entries::nch_entries(n))
 }
 
@@ -210,9 +155,8 @@ pub fn facch(r: Receiver, tick: u32, octets: &[u8]) -> Answer
         return refused(r, m.refusal);
     }
     let n = m.record;
-    let last = r.cell;
     let six = n.release6;
-    let cell = count::taken_over(last, six.hasCount, six.b22, six.cellcount);
+    let cell = count::taken_over(r.cell, six.hasCount, six.b22, six.cellcount);
     let mut a = accepted(
         r,
         tick,
@@ -221,8 +165,7 @@ pub fn facch(r: Receiver, tick: u32, octets: &[u8]) -> Answer
         channels::FACCH,
         entries::facch_entries(n),
     );
-    let paged = messages::paged_of(n);
-    a.paged = paged;
+    a.paged = messages::paged_of(n);
     a
 }
 
@@ -238,11 +181,8 @@ pub fn pch(r: Receiver, tick: u32, numbers: &[u64]) -> Answer
         return refused(r, m.refusal);
     }
     let p = m.record;
-    let call = p.call;
-    let keys = r.keys;
-    let last = r.cell;
-    let cell = count::taken(last, p.hasCount, p.cellcount);
-    let but = finding::index_of(keys, r.keycount, meeting::key_of(call));
+    let cell = count::taken(r.cell, p.hasCount, p.cellcount);
+    let but = finding::index_of(r.keys, r.keycount, meeting::key_of(p.call));
     accepted(
         r,
         tick,
@@ -263,38 +203,20 @@ pub fn joined(r: Receiver, tick: u32, key: u32) -> Answer
     if LAST_KEY < key {
         return refused(r, csn1::ground(4));
     }
-    let keys = r.keys;
     let cell = r.cell;
-    let but = finding::index_of(keys, r.keycount, key as u64);
+    let but = finding::index_of(r.keys, r.keycount, u64::from(key));
     plain(r, tick, events::join_rule(but), cell)
 }
 
-// Another cell was selected.
-pub fn reselected(r: Receiver, tick: u32) -> Answer
-    ensures { result ≡ step_of r (reselected tick) }
+// The mobile moved: another cell was selected, it was handed over, the group call was reconfigured, or it left idle mode.
+pub fn moved(r: Receiver, tick: u32, m: Move) -> Answer
+    ensures { result ≡ step_of r (moved tick m) }
 {
-    move_on(r, tick, Move::Reselection)
-}
-
-// Handed over to another cell.
-pub fn handed_over(r: Receiver, tick: u32) -> Answer
-    ensures { result ≡ step_of r (handed_over tick) }
-{
-    move_on(r, tick, Move::Handover)
-}
-
-// The group call was reconfigured.
-pub fn reconfigured(r: Receiver, tick: u32) -> Answer
-    ensures { result ≡ step_of r (reconfigured tick) }
-{
-    move_on(r, tick, Move::Reconfiguration)
-}
-
-// The mobile left idle mode.
-pub fn left_idle(r: Receiver, tick: u32) -> Answer
-    ensures { result ≡ step_of r (left_idle tick) }
-{
-    move_on(r, tick, Move::LeftIdle)
+    if clock::is_late(tick, r.tick) {
+        return refused(r, csn1::ground(9));
+    }
+    let cell = events::move_cell(r.cell, m);
+    plain(r, tick, events::move_rule(m), cell)
 }
 
 // Bit 22 of COUNT has a value, 0 or 1.
@@ -307,8 +229,8 @@ pub fn bit_22(r: Receiver, tick: u32, bit: u32) -> Answer
     if 1 < bit {
         return refused(r, csn1::ground(12));
     }
-    let last = r.cell;
-    plain(r, tick, store::keep(), count::turned(last, bit as u8))
+    let cell = count::turned(r.cell, bit as u8);
+    plain(r, tick, store::keep(), cell)
 }
 
 // Time passed.

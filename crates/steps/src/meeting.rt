@@ -22,8 +22,7 @@ fn meet_half(half: u8, held: Slot, e: Record, joined: Record) -> Met
     if held.half == half {
         return only_number(5, held);
     }
-    let h = held.record;
-    if !meeting::agrees(h, e) {
+    if !meeting::agrees(held.record, e) {
         return only_number(7, held);
     }
     Met {
@@ -49,16 +48,13 @@ pub fn meet(ch: usize, now: u32, held: Slot, e: Record) -> Met
         return only_number(c, held);
     }
     if held.half != 0 {
-        let h = held.record;
         if c == 3 {
-            return meet_half(1, held, e, meeting::join(e, h));
+            return meet_half(1, held, e, meeting::join(e, held.record));
         }
-        return meet_half(2, held, e, meeting::join(h, e));
+        return meet_half(2, held, e, meeting::join(held.record, e));
     }
-    if c == 4 {
-        if !channels::leads(ch) {
-            return only_number(8, held);
-        }
+    if c == 4 && !channels::leads(ch) {
+        return only_number(8, held);
     }
     only_number(
         4,

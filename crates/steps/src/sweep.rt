@@ -13,22 +13,18 @@ fn takes(rule: Rule, ch: usize) -> bool
 }
 
 // Whether a rule leaves the half at a place.
+#[tactic(auto, unfolding(receiver::specs::Model::spares))]
 pub fn spared(rule: Rule, i: usize) -> bool
     ensures { result ≡ spares rule i }
 {
-    if !takes(rule, channels::side_of(i)) {
-        return true;
-    }
-    channels::index_in(i) == rule.but
+    !takes(rule, channels::side_of(i)) || channels::index_in(i) == rule.but
 }
 
+#[tactic(auto, unfolding(receiver::specs::Model::ran_out_of))]
 fn ran_out(now: u32, timer: u32, s: Slot) -> bool
     ensures { result ≡ ran_out_of now timer s }
 {
-    if s.half == 0 {
-        return false;
-    }
-    timer <= clock::elapsed(now, s.since)
+    s.half != 0 && timer <= clock::elapsed(now, s.since)
 }
 
 // What becomes of a place: it stays as it is, its half ran out, or the rule takes its half.
@@ -39,19 +35,18 @@ enum Fate {
     Taken,
 }
 
+#[tactic(auto, unfolding(crate::specs::Inner::fate_of, receiver::specs::Model::ran_out_of, receiver::specs::Model::taken_of))]
 fn fate_of(now: u32, timer: u32, rule: Rule, i: usize, s: Slot) -> Fate
     ensures { result ≡ fate_of now timer rule i s }
 {
-    if s.half == 0 {
-        return Fate::Stays;
-    }
     if ran_out(now, timer, s) {
         return Fate::RanOut;
     }
-    if spared(rule, i) {
-        return Fate::Stays;
+    if s.half == 0 || spared(rule, i) {
+        Fate::Stays
+    } else {
+        Fate::Taken
     }
-    Fate::Taken
 }
 
 #[derive(Drop)]
@@ -69,16 +64,9 @@ pub fn sweep(mut r: Receiver, now: u32, rule: Rule) -> Swept
     let e = meeting::empty_slot();
     let mut expired: usize = 0;
     let mut dropped: usize = 0;
-    let mut i: usize = 0;
-    while i < PLACES {
-        let s = r.slots[i];
-        match fate_of(
-            now,
-            store::timer_at(r.t3206, r.t3208, r.t3210, i),
-            rule,
-            i,
-            s,
-        ) {
+    for i in 0..PLACES {
+        let timer = store::timer_at(r.t3206, r.t3208, r.t3210, i);
+        match fate_of(now, timer, rule, i, r.slots[i]) {
             Fate::Stays => {}
             Fate::RanOut => {
                 r.slots[i] = e;
@@ -89,7 +77,6 @@ pub fn sweep(mut r: Receiver, now: u32, rule: Rule) -> Swept
                 dropped += 1;
             }
         }
-        i += 1;
     }
     Swept {
         receiver: r,

@@ -1,37 +1,23 @@
 -- Powers of a base, and how many digits hold a number. Assumes nothing.
-use Prim.Native.Nat.{ℕ, ◌+◌, ◌-◌, ◌*◌, ◌/◌, ◌^◌, ◌≤◌, ◌<◌}
-use native.Mathlib.Nat.{le_trans, le_of_suc-le-suc, lt_of_not-le, mul-le-mul_right, one-mul, pow-zero, pow-suc, one-le-pow, pow-le-pow_right}
-use native.Mathlib.Nat.{mul-div-le, div-div-eq-div-mul, le-div_iff_mul-le, div-lt_iff_lt-mul}
-use native.Mathlib.Numerals.{add-one}
+use Prim.Native.Nat.{ℕ, ◌+◌, ◌-◌, ◌*◌, ◌^◌, ◌≤◌, ◌<◌, suc, max}
+use native.Mathlib.Nat.{le_of_suc-le-suc, lt_of_not-le, pow-succ', one-le-pow, pow-le-pow_right}
 use native.Mathlib.Omega.{arith}
-use mathlib.Core.Path.{◌≡◌, sym, ap, subst, ◌∙◌}
+use mathlib.Core.Path.{◌≡◌, sym, subst}
 use mathlib.Core.List.{List}
 use lib.ListN.{length}
 use lib.Seq.{length-take-le}
 use Rattle.text.specs.Inner.{IsDigitCount, IsPrefixLen}
 
-pub two-mul-div-le : (n b : ℕ) → 1 < b → 2 * (n / b) ≤ n
-two-mul-div-le n b h = le_trans (mul-le-mul_right (n / b) h) (mul-div-le n b)
+-- the power that a number reaches, and the next one, tell how many digits it takes
+pub digits_counted : (b n k least r : ℕ) → 1 < b → b ^ k ≤ n → n < b * b ^ k → r ≡ max least (k + 1) → IsDigitCount b least n r
+digits_counted b n k least r h low high e =
+    let q : n < b ^ suc k = rw pow-succ' high in
+    let p : b ^ suc k ≤ b ^ r = pow-le-pow_right {n = b} (omega arith) {i = suc k} {j = r} (omega arith) in
+    (omega arith, omega arith, λ more. let f : k ≡ r - 1 = omega arith in subst (λ (j : ℕ). b ^ j ≤ n) f low)
 
-pub div-pow-one : (n b : ℕ) → n / b ≡ n / b ^ 1
-div-pow-one n b = ap (λ (d : ℕ). n / d) (sym (pow-suc b 0 ∙ ap (λ (p : ℕ). p * b) (pow-zero b) ∙ one-mul b))
-
-pub div-pow-div : (n b k : ℕ) → n / b ^ k / b ≡ n / b ^ (k + 1)
-div-pow-div n b k = div-div-eq-div-mul n (b ^ k) b ∙ ap (λ (d : ℕ). n / d) (sym (pow-suc b k) ∙ ap (λ (j : ℕ). b ^ j) (sym (add-one k)))
-
--- something is left of n after k digits, so one more is wanted
-pub pow-le_of_div_pos : (n b k : ℕ) → 0 < b → 0 < n / b ^ k → b ^ (k + 1 - 1) ≤ n
-pow-le_of_div_pos n b k h some =
-    let e : k ≡ k + 1 - 1 = omega arith in
-    let p : 1 * b ^ k ≤ n = (le-div_iff_mul-le (one-le-pow k b h)).0 some in
-    subst (λ (j : ℕ). b ^ j ≤ n) e (omega arith)
-
--- nothing is left of n after k digits, so k digits hold it, and so do more
-pub lt-pow_of_div-zero : (n b k j : ℕ) → 0 < b → n / b ^ k < 1 → k ≤ j → n < b ^ j
-lt-pow_of_div-zero n b k j h none more =
-    let p : n < 1 * b ^ k = (div-lt_iff_lt-mul (one-le-pow k b h)).0 none in
-    let q : b ^ k ≤ b ^ j = pow-le-pow_right h more in
-    omega arith
+-- 0 takes as many as asked for, one at least
+pub digits_of_zero : (b n least : ℕ) → 1 < b → 0 < least → n ≡ 0 → IsDigitCount b least n least
+digits_of_zero b n least h some e = (omega arith, omega (arith, one-le-pow least b (omega arith)), λ more. absurd (omega arith))
 
 digit_count_not_above : (b width n k most : ℕ) → 0 < b → IsDigitCount b width n k → width ≤ most → n < b ^ most → most < k → ⊥
 digit_count_not_above b width n k most h fewest within holds over =

@@ -1,5 +1,5 @@
 -- Numbers as digits, the most significant first, and what digits are worth. Assumes nothing.
-use Rattle.std.specs.Prelude.{Bool, true, cond, List, [], ◌∷◌, ◌++◌, ℕ, zero, suc, ◌+◌, ◌-◌, ◌*◌, ◌/◌, ◌%◌, min, length, ltb, leb}
+use Rattle.std.specs.Prelude.{Option as CodeOption, Some, None, Bool, true, cond, List, [], ◌∷◌, ◌++◌, ℕ, zero, suc, ◌+◌, ◌-◌, ◌*◌, ◌/◌, ◌%◌, min, length, ltb, leb}
 
 -- the ASCII code of a digit below 16: `0` to `9`, then `a` to `f`
 abbrev pub hex_digit_ascii : ℕ → ℕ
@@ -24,6 +24,10 @@ hexadecimal least n = numeral 16 16 least n
 -- what a digit is worth, or 16 where a character is none
 unfoldable pub value : ℕ → ℕ
 value c = cond (ltb c 48) 16 (cond (leb c 57) (c - 48) (cond (ltb c 97) 16 (cond (leb c 102) (c - 87) 16)))
+
+-- the same of a digit alone: none of a character that is none
+abbrev pub digit_value : ℕ → CodeOption ℕ
+digit_value c = cond (ltb (value c) 16) (Some (value c)) None
 
 -- the number that digits spell in base b, behind those of a
 unfoldable pub number_spelled : ℕ → ℕ → List ℕ → ℕ

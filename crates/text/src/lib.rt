@@ -5,8 +5,8 @@
 
 ghost use Rattle.std.specs.Prelude.{◌≡◌, ◌≤◌, [], ◌∷◌, IfOk, length};
 ghost use Rattle.std.proofs.Math.Seq.{paste};
-ghost use Rattle.text.specs.Lines.{empty, added};
-ghost use Rattle.text.specs.Digits.{decimal, hexadecimal, value, octets_of, pairs};
+ghost use Rattle.text.specs.Lines.{empty, added, place_behind, with_behind};
+ghost use Rattle.text.specs.Digits.{decimal, hexadecimal, digit_value, octets_of, pairs};
 
 mod number;
 
@@ -17,51 +17,36 @@ use std::io::{Read, Write};
 // How many octets have room in a line.
 pub const ROOM: usize = 512;
 
-// The place of a line in which something did not fit; nothing more is then put.
-pub const FULL: usize = 18446744073709551615;
-
-// The octets of a line, and the place up to which they are filled.
+// The octets of a line, and the place up to which they are filled; none where something did not fit, and nothing more is then put.
+//
+// Stays: octets of a fixed size, not a `Vec` or a `String`: those can run out of memory, and a program would then end where it went on.
 #[derive(Drop)]
 pub struct Line {
     pub octets: [u8; ROOM],
-    pub at: usize,
+    pub at: Option<usize>,
 }
 
 // Puts a word from a place on, all of it or nothing where it does not fit, and answers the place behind it.
-pub fn put(octets: &mut [u8], at: usize, word: &[u8]) -> usize
-    ensures { (result ≡ (added word.now (record { octets = octets.old; at = at })).at)
-        × (octets.new ≡ (added word.now (record { octets = octets.old; at = at })).octets) }
+pub fn put(octets: &mut [u8], at: usize, word: &[u8]) -> Option<usize>
+    ensures place { result ≡ place_behind word.now (record { octets = octets.old; at = at }) }
+    ensures octets { octets.new ≡ (added word.now (record { octets = octets.old; at = at })).octets }
 {
-    if octets.len() < at {
-        return FULL;
+    if octets.len() < at || octets.len() - at < word.len() {
+        return None;
     }
-    if octets.len() - at < word.len() {
-        return FULL;
-    }
-    let mut i: usize = 0;
-    while i < word.len() {
-        octets[at + i] = word[i];
-        i += 1;
-    }
-    at + word.len()
+    let end = at + word.len();
+    octets[at..end].copy_from_slice(word);
+    Some(end)
 }
 
 // Puts a number from a place on in decimal digits, likewise.
-pub fn put_decimal(octets: &mut [u8], at: usize, n: u64) -> usize
-    ensures { (result ≡ (added (decimal n) (record { octets = octets.old; at = at })).at)
-        × (octets.new ≡ (added (decimal n) (record { octets = octets.old; at = at })).octets) }
+pub fn put_decimal(octets: &mut [u8], at: usize, n: u64) -> Option<usize>
+    ensures place { result ≡ place_behind (decimal n) (record { octets = octets.old; at = at }) }
+    ensures octets { octets.new ≡ (added (decimal n) (record { octets = octets.old; at = at })).octets }
 {
     let mut digits = [0u8; 20];
     let k = find_decimal(n, &mut digits);
     put(octets, at, &digits[..k])
-}
-
-// Hands the first octets to a file: no contract can say what it gets. Of a line that is full it gets a question mark.
-fn hand<W: Write>(file: &mut W, octets: &[u8], at: usize) -> io::Result<()> {
-    if octets.len() < at {
-        return file.write_all(b"?\n");
-    }
-    file.write_all(&octets[..at])
 }
 
 impl Line {
@@ -71,22 +56,25 @@ impl Line {
     {
         Line {
             octets: [0; ROOM],
-            at: 0,
+            at: Some(0),
         }
     }
 
     // Puts a word behind the line, which is full where the word has no room.
     pub fn word(self, word: &[u8]) -> Line
-        ensures { result ≡ added word.now self }
+        ensures { result ≡ with_behind word.now self }
     {
         let mut octets = self.octets;
-        let at = put(&mut octets, self.at, word);
+        let at = match self.at {
+            Some(at) => put(&mut octets, at, word),
+            None => None,
+        };
         Line { octets, at }
     }
 
     // Puts a word, and a number behind it in decimal digits.
     pub fn number(self, word: &[u8], n: u64) -> Line
-        ensures { result ≡ added (decimal n) (added word.now self) }
+        ensures { result ≡ with_behind (decimal n) (with_behind word.now self) }
     {
         let mut digits = [0u8; 20];
         let k = find_decimal(n, &mut digits);
@@ -95,55 +83,50 @@ impl Line {
 
     // Puts a word, and a number behind it in hexadecimal digits: at least as many as asked for, and at most sixteen.
     pub fn hex(self, word: &[u8], n: u64, least: usize) -> Line
-        ensures { result ≡ added (hexadecimal least n) (added word.now self) }
+        ensures { result ≡ with_behind (hexadecimal least n) (with_behind word.now self) }
     {
         let mut digits = [0u8; 16];
         let k = find_hex(n, least, &mut digits);
         self.word(word).word(&digits[..k])
     }
 
+    // The octets that are filled, and of a line that is full a question mark.
+    fn filled(&self) -> &[u8] {
+        match self.at {
+            Some(at) => self.octets.get(..at).unwrap_or(b"?\n"),
+            None => b"?\n",
+        }
+    }
+
     // Puts a line end and hands the line to a file. Answers what was handed on, or why the file did not take it; then nothing is left of the line, and the file may have a part of it.
     pub fn end<W: Write>(self, file: &mut W) -> io::Result<Line>
-        ensures { IfOk result (λ line. line ≡ added (10 ∷ []) self) }
+        ensures { IfOk result (λ line. line ≡ with_behind (10 ∷ []) self) }
     {
         let line = self.word(b"\n");
-        let octets = line.octets;
-        hand(file, &octets, line.at)?;
+        file.write_all(line.filled())?;
         Ok(line)
     }
 }
 
-// The value of a hexadecimal digit, or 16 for any other character.
-pub fn digit(c: u8) -> u8
-    ensures { result ≡ value c }
+// The value of a hexadecimal digit, and none of any other character.
+pub fn digit(c: u8) -> Option<u8>
+    ensures { result ≡ digit_value c }
 {
-    if c < b'0' {
-        return 16;
+    match c {
+        b'0'..=b'9' => Some(c - b'0'),
+        b'a'..=b'f' => Some(c - b'a' + 10),
+        _ => None,
     }
-    if c <= b'9' {
-        return c - b'0';
-    }
-    if c < b'a' {
-        return 16;
-    }
-    if c <= b'f' {
-        return c - b'a' + 10;
-    }
-    16
 }
 
 // Reads octets, two digits to each and as many as there is room for, and answers how many there are. A character that is no digit counts as 0.
 pub fn read_hex(digits: &[u8], octets: &mut [u8]) -> usize
-    ensures { (result ≡ pairs digits.now octets.old)
-        × (octets.new ≡ paste octets.old 0 (octets_of digits.now) (pairs digits.now octets.old)) }
+    ensures count { result ≡ pairs digits.now octets.old }
+    ensures octets { octets.new ≡ paste octets.old 0 (octets_of digits.now) (pairs digits.now octets.old) }
 {
-    let mut n: usize = 0;
-    while n < octets.len() {
-        if digits.len() / 2 <= n {
-            break;
-        }
-        octets[n] = digit(digits[2 * n]) % 16 * 16 + digit(digits[2 * n + 1]) % 16;
-        n += 1;
+    let n = octets.len().min(digits.len() / 2);
+    for (i, octet) in octets[..n].iter_mut().enumerate() {
+        *octet = digit(digits[2 * i]).unwrap_or(0) * 16 + digit(digits[2 * i + 1]).unwrap_or(0);
     }
     n
 }
@@ -154,6 +137,7 @@ pub fn read_full<R: Read>(input: &mut R, octets: &mut [u8]) -> io::Result<usize>
     ensures within { IfOk result (λ n. n ≤ length octets.new) }
     ensures kept { length octets.new ≡ length octets.old }
 {
+    // Stays: each turn goes on by as many octets as the input gave, which no range counts; the library's `read_exact` takes an input that ends early for an error.
     let mut n: usize = 0;
     while n < octets.len() {
         let more = input.read(&mut octets[n..])?;

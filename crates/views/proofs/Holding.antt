@@ -23,7 +23,6 @@ use Rattle.layout.specs.Parts.{record_numbers}
 use Rattle.layout.proofs.Numbers.{get_d_table}
 use Rattle.layout.proofs.Decoding.{slot-empty, slot_held}
 use Rattle.views.specs.Held.{held_from, held_list, left_of, sooner, least_of, least_left, held_numbers, numbers_no}
-use Rattle.views.specs.Inner.{place_no}
 
 -- ## A place
 
@@ -131,65 +130,27 @@ least_all l = ap (λ (x : List (ℕ × Slot)). least_of 4294967295 (map (left_of
 
 -- ## The n-th
 
--- the place of the n-th of some
-abbrev pub nth : List (ℕ × Slot) → ℕ → ℕ
-nth hs n = get_or (map (λ (h : ℕ × Slot). h.0) hs) n places
+-- the numbers of the n-th of some
+abbrev pub numbers_in : List ℕ → List (ℕ × Slot) → ℕ → List ℕ
+numbers_in l hs n = get_or (map (held_numbers (decode_of l)) hs) n []
 
-pub nth-all : (l : List ℕ) (n : ℕ) → nth (rest l 0) n ≡ place_no (decode_of l) n
-unfolding place_no
-nth-all l n = ap (λ (x : List (ℕ × Slot)). nth x n) (rest_all l)
+pub nth-all : (l : List ℕ) (n : ℕ) → numbers_no (decode_of l) n ≡ numbers_in l (rest l 0) n
+unfolding numbers_no
+nth-all l n = ap (λ (x : List (ℕ × Slot)). numbers_in l x n) (sym (rest_all l))
 
-nth-by : (b : Bool) → b ≡ true → (a : ℕ × Slot) (xs : List (ℕ × Slot)) (n : ℕ) → (n ≡ 0 → ⊥) → nth (pick b (a ∷ xs) xs) n ≡ nth xs (n - 1)
-nth-by true e a xs zero z = absurd (z refl)
-nth-by true e a xs (suc n) z = let q : n ≡ suc n - 1 = omega arith in ap (nth xs) q
-nth-by false e a xs n z = cc
+nth-by : (l : List ℕ) (a : ℕ × Slot) (xs : List (ℕ × Slot)) (n : ℕ) → (n ≡ 0 → ⊥) → numbers_in l (a ∷ xs) n ≡ numbers_in l xs (n - 1)
+nth-by l a xs zero z = absurd (z refl)
+nth-by l a xs (suc n) z = let q : n ≡ suc n - 1 = omega arith in ap (numbers_in l xs) q
 
 module _ (l : List ℕ) (i : ℕ) (h : i < places) where
-  pub nth-found : is_held (slot_no l i) ≡ true → (n : ℕ) → n ≡ 0 → nth (rest l i) n ≡ i
+  pub nth-found : is_held (slot_no l i) ≡ true → (n : ℕ) → n ≡ 0 → numbers_in l (rest l i) n ≡ held_numbers (decode_of l) (i, slot_no l i)
   nth-found q n e = rw (rest-next l i h, q, e)
 
-  pub nth-next : is_held (slot_no l i) ≡ true → (n : ℕ) → (n ≡ 0 → ⊥) → nth (rest l i) n ≡ nth (rest l (i + 1)) (n - 1)
-  nth-next q n z = ap (λ (x : List (ℕ × Slot)). nth x n) (rest-next l i h) ∙ nth-by (is_held (slot_no l i)) q (i, slot_no l i) (rest l (i + 1)) n z
+  pub nth-next : is_held (slot_no l i) ≡ true → (n : ℕ) → (n ≡ 0 → ⊥) → numbers_in l (rest l i) n ≡ numbers_in l (rest l (i + 1)) (n - 1)
+  nth-next q n z = rw (rest-next l i h, q) (nth-by l (i, slot_no l i) (rest l (i + 1)) n z)
 
-  pub nth_past : is_held (slot_no l i) ≡ false → (n : ℕ) → nth (rest l i) n ≡ nth (rest l (i + 1)) n
+  pub nth_past : is_held (slot_no l i) ≡ false → (n : ℕ) → numbers_in l (rest l i) n ≡ numbers_in l (rest l (i + 1)) n
   nth_past q n = rw (rest-next l i h, q)
 
-pub nth_end : (l : List ℕ) (i n : ℕ) → places ≤ i → nth (rest l i) n ≡ places
-nth_end l i n h = ap (λ (x : List (ℕ × Slot)). nth x n) (rest_end l i h)
-
--- what stands at its place is what is listed
-module _ (f : ℕ → Slot) (g : ℕ × Slot → List ℕ) where
-  abbrev Listed : List (ℕ × Slot) → Type 0
-  Listed hs = (n p : ℕ) → p ≡ nth hs n → p < places → (is_held (f p) ≡ true) × (get_or (map g hs) n [] ≡ g (p, f p))
-
-  listed_by : (b : Bool) (k : ℕ) → is_held (f k) ≡ b → (hs : List (ℕ × Slot)) → Listed hs → Listed (pick b ((k, f k) ∷ hs) hs)
-  listed_by true k q hs r zero p e lt = (rw e q, ap (λ (x : ℕ). g (x, f x)) (sym e))
-  listed_by true k q hs r (suc n) p e lt = r n p e lt
-  listed_by false k q hs r n p e lt = r n p e lt
-
-  listed : (k m : ℕ) → Listed (held_from k (tabulate f k m))
-  unfolding tabulate
-  listed k zero n p e lt = absurd (omega (arith, e, lt))
-  listed k (suc m) n p e lt = listed_by (is_held (f k)) k refl (held_from (suc k) (tabulate f (suc k) m)) (listed (suc k) m) n p e lt
-
-  abbrev Over : List (ℕ × Slot) → Type 0
-  Over hs = (n p : ℕ) → p ≡ nth hs n → places ≤ p → get_or (map g hs) n [] ≡ []
-
-  over_by : (b : Bool) (k : ℕ) → k < places → (hs : List (ℕ × Slot)) → Over hs → Over (pick b ((k, f k) ∷ hs) hs)
-  over_by true k lt hs r zero p e h = absurd (omega (arith, e, h, lt))
-  over_by true k lt hs r (suc n) p e h = r n p e h
-  over_by false k lt hs r n p e h = r n p e h
-
-  over : (k m : ℕ) → k + m ≤ places → Over (held_from k (tabulate f k m))
-  unfolding tabulate
-  over k zero lt n p e h = refl
-  over k (suc m) lt n p e h = over_by (is_held (f k)) k (omega arith) (held_from (suc k) (tabulate f (suc k) m)) (over (suc k) m (omega arith)) n p e h
-
-module _ (l : List ℕ) (n p : ℕ) (e : p ≡ place_no (decode_of l) n) where
-  pub no_found : p < places → (is_held (slot_no l p) ≡ true) × (numbers_no (decode_of l) n ≡ held_numbers (decode_of l) (p, slot_no l p))
-  unfolding numbers_no place_no held_list decode_of
-  no_found lt = listed (slot_no l) (held_numbers (decode_of l)) 0 places n p e lt
-
-  pub no_more : places ≤ p → numbers_no (decode_of l) n ≡ []
-  unfolding numbers_no place_no held_list decode_of
-  no_more h = over (slot_no l) (held_numbers (decode_of l)) 0 places (omega arith) n p e h
+pub nth_end : (l : List ℕ) (i n : ℕ) → places ≤ i → numbers_in l (rest l i) n ≡ []
+nth_end l i n h = ap (λ (x : List (ℕ × Slot)). numbers_in l x n) (rest_end l i h)

@@ -1,10 +1,10 @@
 -- What only private functions' contracts speak of; nothing public rests on it. Assumes nothing.
-use Rattle.std.specs.Prelude.{map, ℕ, get_or}
-use Rattle.receiver.specs.declared.Slot.{Slot}
-use Rattle.receiver.specs.declared.Receiver.{Receiver}
+use Rattle.std.specs.Prelude.{◌≡◌, List, true, ℕ, ◌<◌}
 use Rattle.receiver.specs.Channels.{places}
-use Rattle.views.specs.Held.{held_list}
+use Rattle.receiver.specs.Model.{is_held}
+use Rattle.layout.specs.Layout.{slot_no, decode_of}
+use Rattle.views.specs.Held.{held_numbers, numbers_no}
 
--- the place of the n-th half held, and a place that there is none of where there are not so many
-unfoldable pub place_no : Receiver → ℕ → ℕ
-place_no r n = get_or (map (λ (h : ℕ × Slot). h.0) (held_list r)) n places
+-- a place that holds the n-th half
+abbrev pub HasNumbers : List ℕ → ℕ → ℕ → Type 0
+HasNumbers l n i = (i < places) × ((is_held (slot_no l i) ≡ true) × (numbers_no (decode_of l) n ≡ held_numbers (decode_of l) (i, slot_no l i)))

@@ -1,12 +1,12 @@
 // The halves held: how many, each as numbers, and when the next one runs out.
-ghost use Rattle.std.specs.Prelude.{◌≡◌, [], true, ◌<◌, length};
+ghost use Rattle.std.specs.Prelude.{◌≡◌, [], true, ◌<◌, length, MatchOption};
 ghost use Rattle.bits.specs.Field.{pick};
 ghost use Rattle.csn1.specs.Told.{padded};
 ghost use Rattle.receiver.specs.Channels.{places};
 ghost use Rattle.receiver.specs.Model.{is_held};
 ghost use Rattle.layout.specs.Layout.{state_length, is_state, slot_no, decode_of};
 ghost use Rattle.views.specs.Held.{held_list, held_numbers, numbers_no, left_of, sooner, least_left};
-ghost use Rattle.views.specs.Inner.{place_no};
+ghost use Rattle.views.specs.Inner.{HasNumbers};
 
 use crate::all;
 use arrays::fill;
@@ -32,31 +32,27 @@ pub fn count(b: &[u8]) -> u64
         return 0;
     }
     let mut n: u64 = 0;
-    let mut i: usize = 0;
-    while i < PLACES {
-        n += holds(b, i) as u64;
-        i += 1;
+    for i in 0..PLACES {
+        n += u64::from(holds(b, i));
     }
     n
 }
 
-// The place of the n-th half held, counted from 0, and PLACES where there are not so many.
-fn place_of(b: &[u8], n: usize) -> usize
+// The place of the n-th half held, counted from 0, where there are so many.
+fn place_of(b: &[u8], n: usize) -> Option<usize>
     requires { length b.now ≡ state_length }
-    ensures { result ≡ place_no (decode_of b.now) n }
+    ensures { MatchOption result (numbers_no (decode_of b.now) n ≡ []) (HasNumbers b.now n) }
 {
     let mut ahead = n;
-    let mut i: usize = 0;
-    while i < PLACES {
+    for i in 0..PLACES {
         if holds(b, i) {
             if ahead == 0 {
-                return i;
+                return Some(i);
             }
             ahead -= 1;
         }
-        i += 1;
     }
-    PLACES
+    None
 }
 
 // The numbers of the half at a place.
@@ -64,10 +60,12 @@ fn numbers_at(b: &[u8], i: usize) -> [u64; all::HELD]
     requires { (length b.now ≡ state_length) × ((i < places) × (is_held (slot_no b.now i) ≡ true)) }
     ensures { result ≡ held_numbers (decode_of b.now) (i, slot_no b.now i) }
 {
-    let key = places::key_at(b, channels::index_in(i)) as u64;
+    // A place fits an octet: said so, the compiler divides it by the channels without a division of 64 bits.
+    let i = usize::from(i as u8);
+    let key = u64::from(places::key_at(b, channels::index_in(i)));
     let channel = channels::side_of(i) as u64;
-    let half = places::half_at(b, i) as u64;
-    let left = places::left_at(b, i) as u64;
+    let half = u64::from(places::half_at(b, i));
+    let left = u64::from(places::left_at(b, i));
     let record = places::held_at(b, i);
     all::held_numbers(key, channel, half, left, record)
 }
@@ -81,11 +79,10 @@ pub fn half(b: &[u8], n: usize, numbers: &mut [u64]) -> u8
         fill::clear(&mut *numbers, 0);
         return 13;
     }
-    let i = place_of(b, n);
-    if PLACES <= i {
+    let Some(i) = place_of(b, n) else {
         fill::clear(&mut *numbers, 0);
         return 0;
-    }
+    };
     let found = numbers_at(b, i);
     fill::store(&found, &mut *numbers);
     0
@@ -96,14 +93,11 @@ fn sooner_at(b: &[u8], i: usize, least: u32) -> u32
     requires { (length b.now ≡ state_length) × (i < places) }
     ensures { result ≡ pick (is_held (slot_no b.now i)) (sooner least (left_of (decode_of b.now) (i, slot_no b.now i))) least }
 {
-    if !holds(b, i) {
-        return least;
+    if holds(b, i) {
+        least.min(places::left_at(b, i))
+    } else {
+        least
     }
-    let left = places::left_at(b, i);
-    if left < least {
-        return left;
-    }
-    least
 }
 
 // In how many milliseconds, by the state's tick, the next half runs out.
@@ -114,10 +108,8 @@ pub fn next_expiry(b: &[u8]) -> u32
         return 0;
     }
     let mut least: u32 = NO_EXPIRY;
-    let mut i: usize = 0;
-    while i < PLACES {
+    for i in 0..PLACES {
         least = sooner_at(b, i, least);
-        i += 1;
     }
     least
 }

@@ -15,10 +15,10 @@ use Rattle.receiver.specs.declared.Told.{Told}
 use Rattle.receiver.specs.Step.{most_entries}
 use Rattle.receiver.proofs.Cases.{by-test}
 use Rattle.layout.specs.Octets.{le_at, octet_at, flag_at}
-use Rattle.layout.specs.Layout.{tick_from, record_size, told_place, told_length, record_at, carries}
+use Rattle.layout.specs.Layout.{told_at, tick_from, record_size, told_place, told_length, record_at, carries}
 use Rattle.layout.proofs.Numbers.{le_ext}
 use Rattle.yard.specs.Yard.{Shown, call_count}
-use Rattle.yard.specs.Octets.{call_length, yard_length, call_place, told_at, call_no, cut, put_call}
+use Rattle.yard.specs.Octets.{call_length, yard_length, call_place, call_no, cut, put_call}
 use Rattle.yard.proofs.Copying.{length_cut, cut_at}
 
 -- ## The same octets at two places are the same record

@@ -1,16 +1,16 @@
 -- What is shown: the calls counted and found by their places, and their numbers. Assumes nothing.
 use mathlib.Core.Path.{◌≡◌, refl, sym, ap, ◌∙◌}
-use mathlib.Core.Bool.{Bool, true, false}
+use mathlib.Core.Bool.{true, false, true≢false}
 use mathlib.Core.List.{List, [], ◌∷◌, ◌++◌, map}
 use mathlib.Core.Option.{Option, none, some}
 use Prim.Native.Nat.{ℕ, zero, suc, ◌+◌, ◌-◌, ◌≤◌, ◌<◌}
-use native.Mathlib.Nat.{zero-add, add-zero}
+use native.Mathlib.Nat.{zero-add}
 use native.Mathlib.Numerals.{add-one}
 use native.Mathlib.Omega.{arith}
 use lib.Dec.{leb, ltb}
 use lib.ListN.{length, take, drop, get_or, set, drop_of_length-le, get_or-append, get_or-eq_default}
 use lib.Seq.{drop-cons, get_or-append-add}
-use borrow.Author.Tests.{eq-eqb, ne_eqb, ltb-true, ltb-false, lt-ltb, le-ltb, le-leb}
+use borrow.Author.Tests.{eq-eqb, ne_eqb, ltb-true, ltb-false, le-leb}
 use Rattle.bits.specs.Field.{pick}
 use Rattle.csn1.specs.Told.{as_bit, padded}
 use Rattle.csn1.proofs.Lists.{length-padded}
@@ -18,26 +18,20 @@ use Rattle.arrays.proofs.Filling.{copied_next, copied}
 use Rattle.receiver.specs.Model.{wrap_sub}
 use Rattle.receiver.proofs.Cases.{by-test}
 use Rattle.layout.specs.Octets.{le_at, octet_at}
-use Rattle.layout.specs.Layout.{tick_from, carries, decode_of, record_at}
-use Rattle.layout.specs.Parts.{record_numbers, told_numbers}
+use Rattle.layout.specs.Layout.{told_at, told_length, tick_from, carries, decode_of}
+use Rattle.layout.specs.Parts.{told_numbers}
 use Rattle.layout.proofs.Numbers.{length-table, get_d_table}
 use Rattle.yard.specs.Yard.{Shown, call_count, called_at, called_from, called_in, called_numbers, called_no}
-use Rattle.yard.specs.Octets.{yard_length, is_yard, inside, call_place, told_at, call_no, yard_of}
-use Rattle.yard.specs.Inner.{is_shown, places_from, place_no, numbers_of}
+use Rattle.yard.specs.Octets.{yard_length, is_yard, inside, call_place, call_no, yard_of}
+use Rattle.yard.specs.Inner.{is_shown, numbers_of}
 use Rattle.yard.proofs.Values.{calls_in, tick-inside}
 
 -- ## A place
 
 module _ (l : List ℕ) (i : ℕ) where
-  shown-carries : is_shown (call_no l i) ≡ carries (octet_at l (call_place i + 16))
+  pub shown-carries : is_shown (call_no l i) ≡ carries (octet_at l (call_place i + 16))
   unfolding call_no
   shown-carries = by-test (carries (octet_at l (call_place i + 16))) (λ p. rw p) (λ p. rw p)
-
-  pub shown-low : carries (octet_at l (call_place i + 16)) ≡ false → false ≡ is_shown (call_no l i)
-  shown-low q = sym (shown-carries ∙ q)
-
-  pub shown_rest : 1 ≤ octet_at l (call_place i + 16) → leb (octet_at l (call_place i + 16)) 3 ≡ is_shown (call_no l i)
-  shown_rest h = sym (shown-carries ∙ rw (le-leb 1 (octet_at l (call_place i + 16)) h))
 
 -- the calls from a place on
 abbrev pub rest : List ℕ → ℕ → List (Option Shown)
@@ -85,107 +79,52 @@ at-yard l a b w = rw (eq-eqb (length l) yard_length w)
 
 -- ## Which
 
-abbrev pub nth : ℕ → List (Option Shown) → ℕ → ℕ
-nth i cs n = get_or (places_from i cs) n call_count
+-- the numbers of the n-th of some
+abbrev pub numbers_in : List ℕ → List (Option Shown) → ℕ → List ℕ
+numbers_in l cs n = get_or (map called_numbers (called_from (now l) cs)) n []
 
-pub nth-all : (l : List ℕ) (n : ℕ) → nth 0 (rest l 0) n ≡ place_no l n
-unfolding place_no
+pub nth-all : (l : List ℕ) (n : ℕ) → called_no (yard_of l) n ≡ numbers_in l (rest l 0) n
+unfolding called_no called_in yard_of
 nth-all l n = refl
-
--- c is the call at place i
-first_found : (i : ℕ) (c : Option Shown) (cs : List (Option Shown)) → is_shown c ≡ true → (n : ℕ) → n ≡ 0 → nth i (c ∷ cs) n ≡ i
-first_found i none cs p n z = absurd (omega (arith, ap (λ (b : Bool). as_bit b) p))
-first_found i (some s) cs p n z = rw z
-
-first_next : (i : ℕ) (c : Option Shown) (cs : List (Option Shown)) → is_shown c ≡ true → (n : ℕ) → (n ≡ 0 → ⊥) → nth i (c ∷ cs) n ≡ nth (i + 1) cs (n - 1)
-first_next i none cs p n z = absurd (omega (arith, ap (λ (b : Bool). as_bit b) p))
-first_next i (some s) cs p zero z = absurd (z refl)
-first_next i (some s) cs p (suc n) z =
-    let a : suc n - 1 ≡ n = omega arith in
-    ap (λ (k : ℕ). nth k cs n) (sym (add-one i)) ∙ ap (nth (i + 1) cs) (sym a)
-
-first_past : (i : ℕ) (c : Option Shown) (cs : List (Option Shown)) → is_shown c ≡ false → (n : ℕ) → nth i (c ∷ cs) n ≡ nth (i + 1) cs n
-first_past i none cs p n = ap (λ (k : ℕ). nth k cs n) (sym (add-one i))
-first_past i (some s) cs p n = absurd (omega (arith, ap (λ (b : Bool). as_bit b) p))
-
-module _ (l : List ℕ) (i : ℕ) (h : i < call_count) where
-  pub nth-found : is_shown (call_no l i) ≡ true → (n : ℕ) → n ≡ 0 → nth i (rest l i) n ≡ i
-  nth-found p n z = ap (λ (cs : List (Option Shown)). nth i cs n) (rest-cons l i h) ∙ first_found i (call_no l i) (rest l (i + 1)) p n z
-
-  pub nth-next : is_shown (call_no l i) ≡ true → (n : ℕ) → (n ≡ 0 → ⊥) → nth i (rest l i) n ≡ nth (i + 1) (rest l (i + 1)) (n - 1)
-  nth-next p n z = ap (λ (cs : List (Option Shown)). nth i cs n) (rest-cons l i h) ∙ first_next i (call_no l i) (rest l (i + 1)) p n z
-
-  pub nth_past : is_shown (call_no l i) ≡ false → (n : ℕ) → nth i (rest l i) n ≡ nth (i + 1) (rest l (i + 1)) n
-  nth_past p n = ap (λ (cs : List (Option Shown)). nth i cs n) (rest-cons l i h) ∙ first_past i (call_no l i) (rest l (i + 1)) p n
-
-pub nth_end : (l : List ℕ) (i n : ℕ) → call_count ≤ i → nth i (rest l i) n ≡ call_count
-nth_end l i n h = ap (λ (cs : List (Option Shown)). nth i cs n) (rest-none l i h)
-
--- ## Its numbers
 
 -- a call has the numbers of its place
 Says : ℕ → Option Shown → List ℕ → Type 0
 Says t none ns = Unit {0}
 Says t (some s) ns = called_numbers (called_at t s) ≡ ns
 
-says-call : (l : List ℕ) (i : ℕ) → Says (le_at 4 l tick_from) (call_no l i) (numbers_of l i)
-unfolding call_no numbers_of Says
-says-call l i = by-test (carries (octet_at l (call_place i + 16))) (λ p. rw p refl) (λ p. rw p tt)
+says-call : (l : List ℕ) (i : ℕ) → Says (now l) (call_no l i) (numbers_of l i)
+unfolding call_no numbers_of Says decode_of
+says-call l i = by-test (carries (octet_at l (call_place i + 16))) (λ p. rw (p, ← tick-inside l) refl) (λ p. rw p tt)
 
-numbers-found : (t : ℕ) (g : ℕ → List ℕ) (i n : ℕ) (cs : List (Option Shown)) → i + length cs ≡ call_count → ((j : ℕ) → j < length cs → Says t (get_or cs j none) (g (i + j)))
-    → get_or (map called_numbers (called_from t cs)) n [] ≡ pick (ltb (nth i cs n) call_count) (g (nth i cs n)) []
+-- c is the first of them
+first_found : (l : List ℕ) (c : Option Shown) (cs : List (Option Shown)) (ns : List ℕ) → Says (now l) c ns → is_shown c ≡ true → (n : ℕ) → n ≡ 0 → numbers_in l (c ∷ cs) n ≡ ns
 unfolding Says
-numbers-found t g i n [] e f = refl
-numbers-found t g i n (none ∷ cs) e f =
-    numbers-found t g (suc i) n cs (omega arith) (λ j h. let a : i + suc j ≡ suc i + j = omega arith in rw a at (f (suc j) (omega arith)))
-numbers-found t g i zero (some s ∷ cs) e f = rw (lt-ltb i call_count (omega arith)) (f 0 (omega arith) ∙ ap g (add-zero i))
-numbers-found t g i (suc n) (some s ∷ cs) e f =
-    numbers-found t g (suc i) n cs (omega arith) (λ j h. let a : i + suc j ≡ suc i + j = omega arith in rw a at (f (suc j) (omega arith)))
+first_found l none cs ns w p n z = absurd (true≢false (sym p))
+first_found l (some s) cs ns w p n z = rw z w
 
-module _ (l : List ℕ) (n : ℕ) where
-  call-numbers : called_no (yard_of l) n ≡ pick (ltb (place_no l n) call_count) (numbers_of l (place_no l n)) []
-  unfolding called_no called_in yard_of place_no decode_of
-  call-numbers =
-      numbers-found (le_at 4 (inside l) tick_from) (numbers_of l) 0 n (calls_in l) (omega (arith, length-table (call_no l) 0 call_count))
-      (λ j h.
-      let k : j < call_count = omega (arith, h, length-table (call_no l) 0 call_count) in
-      let p : get_or (calls_in l) j none ≡ call_no l j = get_d_table (call_no l) 0 call_count j none k ∙ ap (call_no l) (zero-add j) in
-      rw (p, zero-add j, ← tick-inside l) (says-call l j))
+first_next : (l : List ℕ) (c : Option Shown) (cs : List (Option Shown)) → is_shown c ≡ true → (n : ℕ) → (n ≡ 0 → ⊥) → numbers_in l (c ∷ cs) n ≡ numbers_in l cs (n - 1)
+first_next l none cs p n z = absurd (true≢false (sym p))
+first_next l (some s) cs p zero z = absurd (z refl)
+first_next l (some s) cs p (suc n) z = let a : n ≡ suc n - 1 = omega arith in ap (numbers_in l cs) a
 
-  pub call-found : (i : ℕ) → i ≡ place_no l n → i < call_count → numbers_of l i ≡ called_no (yard_of l) n
-  call-found i e h = sym (call-numbers ∙ rw (← e, lt-ltb i call_count h))
+first_past : (l : List ℕ) (c : Option Shown) (cs : List (Option Shown)) → is_shown c ≡ false → (n : ℕ) → numbers_in l (c ∷ cs) n ≡ numbers_in l cs n
+first_past l none cs p n = refl
+first_past l (some s) cs p n = absurd (true≢false p)
 
-  pub call-missing : (i : ℕ) → i ≡ place_no l n → call_count ≤ i → [] ≡ called_no (yard_of l) n
-  call-missing i e h = sym (call-numbers ∙ rw (← e, le-ltb i call_count h))
+module _ (l : List ℕ) (i : ℕ) (h : i < call_count) where
+  pub nth-found : is_shown (call_no l i) ≡ true → (n : ℕ) → n ≡ 0 → numbers_in l (rest l i) n ≡ numbers_of l i
+  nth-found p n z = ap (λ (cs : List (Option Shown)). numbers_in l cs n) (rest-cons l i h) ∙ first_found l (call_no l i) (rest l (i + 1)) (numbers_of l i) (says-call l i) p n z
+
+  pub nth-next : is_shown (call_no l i) ≡ true → (n : ℕ) → (n ≡ 0 → ⊥) → numbers_in l (rest l i) n ≡ numbers_in l (rest l (i + 1)) (n - 1)
+  nth-next p n z = ap (λ (cs : List (Option Shown)). numbers_in l cs n) (rest-cons l i h) ∙ first_next l (call_no l i) (rest l (i + 1)) p n z
+
+  pub nth_past : is_shown (call_no l i) ≡ false → (n : ℕ) → numbers_in l (rest l i) n ≡ numbers_in l (rest l (i + 1)) n
+  nth_past p n = ap (λ (cs : List (Option Shown)). numbers_in l cs n) (rest-cons l i h) ∙ first_past l (call_no l i) (rest l (i + 1)) p n
+
+pub nth_end : (l : List ℕ) (i n : ℕ) → call_count ≤ i → numbers_in l (rest l i) n ≡ []
+nth_end l i n h = ap (λ (cs : List (Option Shown)). numbers_in l cs n) (rest-none l i h)
 
 -- ## One number
-
-module _ (l : List ℕ) (at : ℕ) where
-  pub told-first : (part : ℕ) → part ≡ 0 → le_at 8 l at ≡ get_or (told_numbers (told_at l at)) part 0
-  unfolding told_at
-  told-first part q = rw q
-
-  pub told-second : (part : ℕ) → part ≡ 1 → octet_at l (at + 8) ≡ get_or (told_numbers (told_at l at)) part 0
-  unfolding told_at
-  told-second part q = rw q
-
-  pub told-last : (part : ℕ) → 32 ≤ part → get_or (octet_at l (at + 9) ∷ octet_at l (at + 10) ∷ []) (part - 32) 0 ≡ get_or (told_numbers (told_at l at)) part 0
-  unfolding told_at
-  told-last part h =
-      let t = told_at l at in
-      let e : 32 + (part - 32) ≡ part = omega arith in
-      sym (get_or-append-add (t.key ∷ t.number ∷ record_numbers t.«record») (t.follow ∷ t.kept ∷ []) (part - 32) 0)
-      ∙ ap (λ (n : ℕ). get_or (told_numbers t) n 0) e
-
-  pub told-middle : (part : ℕ) → (part ≡ 0 → ⊥) → (part ≡ 1 → ⊥) → part < 32
-      → get_or (record_numbers (record_at l (at + 16))) (part - 2) 0 ≡ get_or (told_numbers (told_at l at)) part 0
-  unfolding told_at
-  told-middle zero a b h = absurd (a refl)
-  told-middle (suc zero) a b h = absurd (b refl)
-  told-middle (suc (suc p)) a b h =
-      let e : suc (suc p) - 2 ≡ p = omega arith in
-      ap (λ (n : ℕ). get_or (record_numbers (record_at l (at + 16))) n 0) e
-      ∙ sym (get_or-append (record_numbers (record_at l (at + 16))) (octet_at l (at + 9) ∷ octet_at l (at + 10) ∷ []) 0 p (omega arith))
 
 beyond : (part : ℕ) → 34 ≤ part → (part ≡ 34 → ⊥) → 35 ≤ part
 beyond part h z = by-test (ltb 34 part) (λ p. omega (arith, ltb-true 34 part p)) (λ p. absurd (z (omega (arith, ltb-false 34 part p))))
@@ -196,6 +135,11 @@ module _ (l : List ℕ) (i : ℕ) where
 
   abbrev age : ℕ
   age = wrap_sub (le_at 4 l tick_from) (le_at 4 l (call_place i))
+
+  -- the octets do not end before it
+  pub told_there : (part : ℕ) → length l ≡ yard_length → i < call_count
+      → pick (leb (call_place i + 8 + told_length) (length l)) (get_or told part 0) 0 ≡ get_or told part 0
+  told_there part w h = rw (le-leb (call_place i + 8 + told_length) (length l) (omega arith))
 
   pub number-told : (part : ℕ) → part < 34 → get_or told part 0 ≡ get_or (numbers_of l i) part 0
   unfolding numbers_of

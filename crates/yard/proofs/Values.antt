@@ -19,11 +19,11 @@ use Rattle.receiver.specs.Model.{index_of}
 use Rattle.receiver.specs.Step.{most_entries, no_told}
 use Rattle.receiver.proofs.Cases.{by-test}
 use Rattle.layout.specs.Octets.{le_at, octet_at, tabulate}
-use Rattle.layout.specs.Layout.{tick_from, answer_from, told_place, told_length, carries, told_no, keys_in, last_of}
+use Rattle.layout.specs.Layout.{told_at, tick_from, answer_from, told_place, told_length, carries, told_no, keys_in, last_of}
 use Rattle.layout.proofs.Numbers.{le_ext, length-table, get_d_table, table_ext, table-set}
 use Rattle.layout.proofs.AllParts.{nine-entries}
 use Rattle.yard.specs.Yard.{Shown, call_count, leaves, left_call, brought_in, all_in}
-use Rattle.yard.specs.Octets.{call_length, yard_length, call_place, inside, told_at, call_no, left_at, left_run, cut, put_call, entry_no, place_for, brought_at, brought_run, settled}
+use Rattle.yard.specs.Octets.{call_length, yard_length, call_place, inside, call_no, left_at, left_run, cut, put_call, entry_no, place_for, brought_at, brought_run, settled}
 use Rattle.yard.proofs.Inside.{inside-at, inside-stored}
 use Rattle.yard.proofs.Places.{told_moved, call-gone, call_else, call_put, call_kept, length-call}
 

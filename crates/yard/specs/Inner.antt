@@ -1,32 +1,26 @@
 -- What only private functions' contracts speak of; nothing public rests on it. Assumes nothing.
-use Rattle.std.specs.Prelude.{◌≡◌, Bool, true, false, List, [], ◌∷◌, ◌++◌, ℕ, suc, ◌+◌, ◌≤◌, ◌<◌, get_or}
+use Rattle.std.specs.Prelude.{◌≡◌, Bool, true, false, List, [], ◌∷◌, ◌++◌, ℕ, ◌+◌, ◌≤◌, ◌<◌}
 use Rattle.std.proofs.Math.Option.{Option, none, some}
 use Rattle.receiver.specs.Channels.{key_count}
 use Rattle.receiver.specs.Model.{wrap_sub}
 use Rattle.receiver.specs.Step.{most_entries}
-use Rattle.layout.specs.Octets.{le_at, octet_at, tabulate}
-use Rattle.layout.specs.Layout.{tick_from}
+use Rattle.layout.specs.Octets.{le_at, octet_at}
+use Rattle.layout.specs.Layout.{tick_from, told_at}
 use Rattle.layout.specs.Parts.{told_numbers}
-use Rattle.yard.specs.Yard.{Shown, call_count}
-use Rattle.yard.specs.Octets.{call_place, told_at, call_no, place_for}
+use Rattle.yard.specs.Yard.{Shown, call_count, called_no}
+use Rattle.yard.specs.Octets.{call_place, place_for, yard_of}
 
 abbrev pub is_shown : Option Shown → Bool
 is_shown none = false
 is_shown (some s) = true
 
--- the places of the calls that are there, of those from place i on
-abbrev pub places_from : ℕ → List (Option Shown) → List ℕ
-places_from i [] = []
-places_from i (none ∷ cs) = places_from (suc i) cs
-places_from i (some s ∷ cs) = i ∷ places_from (suc i) cs
-
--- the place of the n-th call shown, and `call_count` where there are not so many
-unfoldable pub place_no : List ℕ → ℕ → ℕ
-place_no l n = get_or (places_from 0 (tabulate (call_no l) 0 call_count)) n call_count
-
 -- the numbers of a place, as a call's
 unfoldable pub numbers_of : List ℕ → ℕ → List ℕ
 numbers_of l i = told_numbers (told_at l (call_place i + 8)) ++ (wrap_sub (le_at 4 l tick_from) (le_at 4 l (call_place i)) ∷ [])
+
+-- a place that has the n-th call
+abbrev pub HasNumbers : List ℕ → ℕ → ℕ → Type 0
+HasNumbers l n i = (i < call_count) × (called_no (yard_of l) n ≡ numbers_of l i)
 
 -- no entry of the receiver's answer from the n-th on has a place for a call
 abbrev pub NoneFrom : List ℕ → ℕ → Type 0

@@ -9,7 +9,7 @@ use Rattle.receiver.specs.Channels.{key_count}
 use Rattle.receiver.specs.Model.{index_of, started_of}
 use Rattle.receiver.specs.Step.{Event, content_of, most_entries, no_told, step_of}
 use Rattle.layout.specs.Octets.{le_at, octet_at, tabulate}
-use Rattle.layout.specs.Layout.{tick_from, state_length, told_place, told_length, record_at, carries, decode_of, keys_in, Last, last_of, fresh_octets}
+use Rattle.layout.specs.Layout.{tick_from, state_length, told_place, told_length, told_at, carries, decode_of, keys_in, Last, last_of, fresh_octets}
 use Rattle.layout.specs.Setup.{no_answer}
 use Rattle.lent.specs.Events.{event_code, octets_after, answered}
 use Rattle.yard.specs.Yard.{Shown, Yard, call_count, takes, leaves_all, leaves, yard_step, yard_right, yard_started}
@@ -38,17 +38,6 @@ abbrev pub behind : List ℕ → List ℕ
 behind l = drop state_length l
 
 -- ## Reading
-
--- an entry with a record, from a place on
-unfoldable pub told_at : List ℕ → ℕ → Told
-told_at l at =
-    record {
-      key = le_at 8 l at;
-      number = octet_at l (at + 8);
-      «record» = record_at l (at + 16);
-      follow = octet_at l (at + 9);
-      kept = octet_at l (at + 10);
-    }
 
 -- a place whose number told is not 1 to 3 has no call, whatever else stands there
 unfoldable pub call_no : List ℕ → ℕ → Option Shown

@@ -8,7 +8,7 @@ ghost use Rattle.yard.specs.Inner.{NoneFrom, NoCalls};
 
 use crate::octets::{copy, u32_at, zero};
 use crate::{CALL_LENGTH, CALLS, TOLD_LENGTH, TOLDS};
-use layout::parts::part_of;
+use layout::parts::{carries, part_of};
 use layout::places::index_of;
 use receiver::{MOST_ENTRIES, Setup};
 
@@ -23,6 +23,7 @@ const KEY: usize = 3;
 const NUMBER: usize = 4;
 
 // Whether the call at a place, if there is one, leaves.
+// Stays: a flag, here and below. `leaves`, `left_at` and `settled` of yard's specs, of which theorems speak, take it.
 fn leaves(b: &[u8], i: usize, time: u32, all: bool) -> bool
     requires { (length b.now ≡ yard_length) × (i < call_count) }
     ensures { result ≡ leaves all time (call_no b.now i) }
@@ -31,14 +32,7 @@ fn leaves(b: &[u8], i: usize, time: u32, all: bool) -> bool
         return true;
     }
     let at = layout::LENGTH + CALL_LENGTH * i;
-    let number = b[at + 16];
-    if number < 1 {
-        return false;
-    }
-    if 3 < number {
-        return false;
-    }
-    TIMER <= clock::elapsed(time, u32_at(b, at))
+    carries(u64::from(b[at + 16])) && TIMER <= clock::elapsed(time, u32_at(b, at))
 }
 
 // Its place is all zero then.
@@ -57,10 +51,8 @@ fn leave_all(b: &mut [u8], time: u32, all: bool)
     requires { length b.old ≡ yard_length }
     ensures { b.new ≡ left_run all time call_count b.old }
 {
-    let mut i: usize = 0;
-    while i < CALLS {
+    for i in 0..CALLS {
         leave(b, i, time, all);
-        i += 1;
     }
 }
 
@@ -69,14 +61,11 @@ fn place_for(r: &[u8], j: usize) -> usize
     requires { length r.now ≡ state_length }
     ensures { result ≡ place_for r.now j }
 {
-    let number = part_of(r, j, NUMBER);
-    if number < 1 {
-        return Setup::KEYS;
+    if carries(part_of(r, j, NUMBER)) {
+        index_of(r, part_of(r, j, KEY))
+    } else {
+        Setup::KEYS
     }
-    if 3 < number {
-        return Setup::KEYS;
-    }
-    index_of(r, part_of(r, j, KEY))
 }
 
 // An entry comes in: its octets and the receiver's tick are copied, whatever stood there.
@@ -98,7 +87,7 @@ fn entries(r: &[u8]) -> usize
     requires { length r.now ≡ state_length }
     ensures { (result ≤ most_entries) × NoneFrom r.now result }
 {
-    bits::least(part_of(r, 0, COUNT) as usize, MOST_ENTRIES)
+    (part_of(r, 0, COUNT) as usize).min(MOST_ENTRIES)
 }
 
 // The first n of them, in order, so that the latest wins.
@@ -106,10 +95,8 @@ fn bring_first(b: &mut [u8], n: usize)
     requires { (length b.old ≡ yard_length) × (n ≤ most_entries) }
     ensures { b.new ≡ brought_run n b.old }
 {
-    let mut j: usize = 0;
-    while j < n {
+    for j in 0..n {
         bring(b, j);
-        j += 1;
     }
 }
 
@@ -136,10 +123,8 @@ fn none_shown(b: &[u8]) -> bool
     ensures { result ≡ true → NoCalls b.now call_count }
 {
     let mut all: u8 = 0;
-    let mut i: usize = 0;
-    while i < CALLS {
-        all = all | b[layout::LENGTH + CALL_LENGTH * i + 16];
-        i += 1;
+    for i in 0..CALLS {
+        all |= b[layout::LENGTH + CALL_LENGTH * i + 16];
     }
     all == 0
 }
@@ -149,10 +134,7 @@ fn is_quiet(b: &[u8]) -> bool
     requires { length b.now ≡ yard_length }
     ensures { result ≡ true → NoneFrom (inside b.now) 0 × NoCalls b.now call_count }
 {
-    if entries(&b[..layout::LENGTH]) != 0 {
-        return false;
-    }
-    none_shown(b)
+    entries(&b[..layout::LENGTH]) == 0 && none_shown(b)
 }
 
 // The same where no call need leave but by its age: where all is quiet, nothing leaves and nothing comes.

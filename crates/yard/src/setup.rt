@@ -11,12 +11,10 @@ use receiver::Setup;
 fn all_even(keys: &[u32]) -> bool
     ensures { result ≡ all_even keys.now }
 {
-    let mut i: usize = 0;
-    while i < keys.len() {
-        if keys[i] % 2 != 0 {
+    for key in keys {
+        if *key % 2 != 0 {
             return false;
         }
-        i += 1;
     }
     true
 }
@@ -25,10 +23,7 @@ fn all_even(keys: &[u32]) -> bool
 fn is_right(keys: &[u32]) -> bool
     ensures { result ≡ yard_right keys.now }
 {
-    if CALLS < keys.len() {
-        return false;
-    }
-    all_even(keys)
+    keys.len() <= CALLS && all_even(keys)
 }
 
 // 13 goes before 10; a refused setup changes no octet.

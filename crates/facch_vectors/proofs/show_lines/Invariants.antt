@@ -1,10 +1,6 @@
--- What the loops of `facch_vectors::show_lines` keep, and why they end.
-use Prim.Native.Nat.{◌-◌, ◌≤◌}
+-- The text that is left gets shorter by a line.
 use lib.ListN.{length}
 use Rattle.facch_vectors.proofs.show_lines.Given as goal
 
-abbrev pub invariant-loop-i : goal.invariant-loop-i
-invariant-loop-i l = (l.start ≤ l.i) × (l.i ≤ length l.text)
-
-abbrev pub decreases-loop-i : goal.decreases-loop-i
-decreases-loop-i l = length l.text - l.i
+abbrev pub decreases-loop-end : goal.decreases-loop-end
+decreases-loop-end l = length l.rest

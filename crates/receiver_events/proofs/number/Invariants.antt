@@ -1,10 +1,6 @@
--- `receiver_events::number` meets its contract. Assumes nothing.
-use Prim.Native.Nat.{◌<◌, ◌-◌}
-use lib.ListN.{length}
+-- The number stays below 2^32.
+use Rattle.std.proofs.Common.{◌<◌}
 use Rattle.receiver_events.proofs.number.Given as goal
 
-abbrev pub invariant-loop-i : goal.invariant-loop-i
-invariant-loop-i l = l.n < 4294967296
-
-abbrev pub decreases-loop-i : goal.decreases-loop-i
-decreases-loop-i l = length l.line - l.i
+abbrev pub invariant-loop-c : goal.invariant-loop-c
+invariant-loop-c l = l.n < 4294967296

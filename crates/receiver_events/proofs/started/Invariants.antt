@@ -1,11 +1,6 @@
--- What the loops of `receiver_events::started` keep, and why they end.
-use mathlib.Core.Path.{◌≡◌}
-use Prim.Native.Nat.{◌≤◌, ◌-◌}
-use lib.ListN.{length}
+-- As many keys are read as there were turns.
+use Rattle.std.proofs.Common.{◌≡◌, ◌≤◌, length}
 use Rattle.receiver_events.proofs.started.Given as goal
 
-abbrev pub invariant-loop-n : goal.invariant-loop-n
-invariant-loop-n l = (l.n ≤ 64) × ((l.at ≤ length l.line) × (length l.keys ≡ 64))
-
-abbrev pub decreases-loop-n : goal.decreases-loop-n
-decreases-loop-n l = 64 - l.n
+abbrev pub invariant-loop-key : goal.invariant-loop-key
+invariant-loop-key l = (l.n ≡ l.key-index) × (l.at ≤ length l.line)

@@ -1,28 +1,25 @@
 -- `text::digit` meets its contract. Assumes nothing.
-use borrow.Author.Tests.{lt-ltb, le-ltb, le-leb, lt-leb}
-use native.Mathlib.Omega.{arith}
+use Rattle.std.proofs.Common.{arith}
+use Rattle.std.proofs.lemmas.Grind.{common_steps}
 use Rattle.text.specs.Digits.{value}
 use Rattle.text.proofs.digit.Goals as goal
 
-pub returns-then-c-lt48 : goal.returns-then-c-lt48
+pub returns-in-48-to-57 : goal.returns-in-48-to-57
 unfolding value
-returns-then-c-lt48 c = simp (lt-ltb _ _ c.if-c-lt48.true)
+returns-in-48-to-57 c = grind (arith, common_steps)
 
-pub returns-then-c-le57 : goal.returns-then-c-le57
+pub returns-in-97-to-102 : goal.returns-in-97-to-102
 unfolding value
-returns-then-c-le57 c = simp (le-ltb _ _ c.if-c-lt48.false, le-leb _ _ c.if-c-le57.true)
+returns-in-97-to-102 c = grind (arith, common_steps)
 
-pub returns-then-c-lt97 : goal.returns-then-c-lt97
+pub returns-in_default : goal.returns-in_default
 unfolding value
-returns-then-c-lt97 c = simp (le-ltb _ _ c.if-c-lt48.false, lt-leb _ _ c.if-c-le57.false, lt-ltb _ _ c.if-c-lt97.true)
+returns-in_default c = grind (arith, common_steps)
 
-pub returns-then-c-le102 : goal.returns-then-c-le102
+pub returns-in_default-2 : goal.returns-in_default-2
 unfolding value
-returns-then-c-le102 c =
-    simp
-    (le-ltb _ _ c.if-c-lt48.false, lt-leb _ _ c.if-c-le57.false, le-ltb _ _ c.if-c-lt97.false, le-leb _ _ c.if-c-le102.true)
-    (omega arith)
+returns-in_default-2 c = grind (arith, common_steps)
 
-pub returns : goal.returns
+pub returns-in_default-3 : goal.returns-in_default-3
 unfolding value
-returns c = simp (le-ltb _ _ c.if-c-lt48.false, lt-leb _ _ c.if-c-le57.false, le-ltb _ _ c.if-c-lt97.false, lt-leb _ _ c.if-c-le102.false)
+returns-in_default-3 c = grind (arith, common_steps)

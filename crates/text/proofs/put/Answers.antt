@@ -1,38 +1,17 @@
 -- `text::put` meets its contract. Assumes nothing.
-use mathlib.Core.Path.{◌≡◌, sym, ap, ◌∙◌}
-use native.Mathlib.Omega.{arith}
-use native.Mathlib.Numerals.{add-one}
-use borrow.Author.Rules.{rules}
-use Prim.Native.Nat.{◌+◌}
-use lib.ListN.{length, get_or, set, length-set}
-use lib.Seq.{paste-zero, paste-suc}
-use Rattle.text.proofs.Lines.{line, added_not, added-all, parted}
+use Rattle.std.proofs.Common.{arith, ◌+◌, ◌-◌, ◌<◌, length}
+use Rattle.text.proofs.Lines.{octets_kept, octets_put}
 use Rattle.text.proofs.put.Goals as goal
+use Rattle.text.proofs.put.Goals.{then-octets-at-via-then-octets-at, then-octets-at-via-else-octets-at+then-octets-at-2}
 
-pub returns-then-octets-at : goal.returns-then-octets-at
-returns-then-octets-at c =
+pub returns-then-octets-at-clause-octets : goal.returns-then-octets-at-clause-octets
+returns-then-octets-at-clause-octets c =
     let a = c.args in
-    parted (added_not a.octets.now a.word.now a.at (omega arith))
+    let room : length a.octets.now < a.at + length a.word.now =
+    elim c.then-octets-at.branch [ then-octets-at-via-then-octets-at w ↦ omega arith | then-octets-at-via-else-octets-at+then-octets-at-2 w ↦ omega arith ] in
+    octets_kept a.octets.now a.word.now a.at room
 
-pub returns-then-octets-at-2 : goal.returns-then-octets-at-2
-returns-then-octets-at-2 c =
+pub returns-clause-octets : goal.returns-clause-octets
+returns-clause-octets c =
     let a = c.args in
-    parted (added_not a.octets.now a.word.now a.at (omega arith))
-
-pub loop-i-init : goal.loop-i-init
-loop-i-init c = (search rules, search rules, paste-zero c.args.octets.now c.args.at c.args.word.now)
-
-pub loop-i-preserved : goal.loop-i-preserved
-loop-i-preserved c =
-    let a = c.args in
-    let l = c.loop-i in
-    let next = paste-suc a.octets.now a.at a.word.now l.i 0 (omega arith) (omega arith) in
-    (omega arith, simp length-set l.invariant.1, ap (λ t. set t (a.at + l.i) (get_or a.word.now l.i 0)) l.invariant.2 ∙ rw (add-one l.i) next)
-
-pub returns : goal.returns
-returns c =
-    let a = c.args in
-    let l = c.loop-i in
-    let e : l.i ≡ length a.word.now = omega arith in
-    parted
-    (ap (λ k. line l.octets (a.at + k)) (sym e) ∙ ap (λ t. line t (a.at + l.i)) l.invariant.2 ∙ added-all a.octets.now a.word.now a.at l.i (omega arith) e)
+    octets_put a.octets.now a.word.now c.copy_from_slice.new.self a.at (a.at + length a.word.now - a.at) c.copy_from_slice.ensures.after (omega arith) (omega arith)

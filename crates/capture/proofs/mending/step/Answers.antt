@@ -2,6 +2,7 @@
 use Rattle.std.proofs.Common.{◌+◌, leb, length, sym, ◌∙◌, arith, length-take-le, leb-true}
 use borrow.Author.Tests.{not-true, not-false}
 use Rattle.capture.specs.Mending.{most_copied, most_listed}
+use Rattle.capture.proofs.Gathered.{first_of}
 use Rattle.capture.proofs.Stepping.{kept-part, whole-head, kept-length}
 use Rattle.capture.proofs.Mendings.{second-of, kept-take, mend_more, mend_whole}
 use Rattle.capture.proofs.mending.step.Goals as goal
@@ -36,7 +37,10 @@ put_part-e-requires c =
     let a = c.args in
     let copies = leb (a.copied + most_copied) (length a.copy.now) in
     let lists = leb (a.listed + most_listed) (length a.list.now) in
-    leb-true (a.listed + most_listed) (length a.list.now) (second-of copies lists c.requires.1.1.0)
+    let kept = kept-length a.kept.now a.piece.now _ a.m.replay.got _ _ _ c.gather-g.ensures ∙ c.requires.0 in
+    let room = leb-true (a.copied + most_copied) (length a.copy.now) (first_of copies lists c.requires.1.1.0) in
+    let taken = length-take-le c.end_of-last.result c.gather-g.new.kept (omega (arith, c.end_of-last.ensures, kept)) in
+    (omega (arith, c.end_of-last.ensures, taken), leb-true (a.listed + most_listed) (length a.list.now) (second-of copies lists c.requires.1.1.0))
 
 pub returns : goal.returns
 returns c =

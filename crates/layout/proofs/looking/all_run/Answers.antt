@@ -13,8 +13,9 @@ use Rattle.layout.specs.Inner.{Running}
 use Rattle.layout.proofs.Sweeps.{timer-same}
 use Rattle.layout.proofs.NoneOut.{many, running_none, running_more, running-empty}
 use Rattle.layout.proofs.looking.all_run.Goals as goal
-use Rattle.layout.proofs.looking.all_run.Goals.{then-u64_at-ne0+else-not-eight_run, else-u64_at-ne0, then-u64_at-ne0-2+else-not-eight_run-2}
-use Rattle.layout.proofs.looking.all_run.Goals.{else-u64_at-ne0-2, then-u64_at-ne0-3+else-not-eight_run-3, else-u64_at-ne0-3}
+use Rattle.layout.proofs.looking.all_run.Goals.{else-u64_at-ne0-via-then-u64_at-ne0+else-not-eight_run, else-u64_at-ne0-via-else-u64_at-ne0}
+use Rattle.layout.proofs.looking.all_run.Goals.{else-u64_at-ne0-2-via-then-u64_at-ne0-2+else-not-eight_run-2, else-u64_at-ne0-2-via-else-u64_at-ne0-2}
+use Rattle.layout.proofs.looking.all_run.Goals.{else-u64_at-ne0-3-via-then-u64_at-ne0-3+else-not-eight_run-3, else-u64_at-ne0-3-via-else-u64_at-ne0-3}
 
 -- the timers of eight places, by those of the first places of their channels
 timed : (l : List ℕ) (i s t u : ℕ) → length l ≡ state_length → i + 8 ≤ places → {ta tb tc : ℕ} → ta ≡ timer_no l s → tb ≡ timer_no l t → tc ≡ timer_no l u → side_of s ≡ side_of i
@@ -22,65 +23,54 @@ timed : (l : List ℕ) (i s t u : ℕ) → length l ≡ state_length → i + 8 �
     → (length l ≡ state_length) × ((i + 8 ≤ places) × ((ta ≡ timer_no l i) × ((tb ≡ timer_no l (i + 1)) × (tc ≡ timer_no l (i + 2)))))
 timed l i s t u m h p q r x y z = (m, (h, (p ∙ timer-same l s i x, (q ∙ timer-same l t (i + 1) y, r ∙ timer-same l u (i + 2) z))))
 
-pub loop-i-init : goal.loop-i-init
-loop-i-init c = (omega arith, (omega arith, (omega arith, running_none _ _ _)))
+pub loop-g-init : goal.loop-g-init
+loop-g-init c = (omega arith, running_none _ _ _)
 
 pub eight_run-requires : goal.eight_run-requires
 eight_run-requires c =
-    timed c.args.b.now c.loop-i.i 0 1 2 c.requires (omega arith) c.u32_at-t3206.ensures c.u32_at-t3208.ensures
+    timed c.args.b.now (24 * c.loop-g.g) 0 1 2 c.requires (omega arith) c.u32_at-t3206.ensures c.u32_at-t3208.ensures
     c.u32_at-t3210.ensures (omega arith) (omega arith) (omega arith)
-
-pub returns-then-not-eight_run : goal.returns-then-not-eight_run
-returns-then-not-eight_run c = λ e k h. cc
 
 pub eight_run-requires-then-u64_at-ne0-2 : goal.eight_run-requires-then-u64_at-ne0-2
 eight_run-requires-then-u64_at-ne0-2 c =
-    timed c.args.b.now (c.loop-i.i + 8) 2 0 1 c.requires (omega arith) c.u32_at-t3210.ensures
+    timed c.args.b.now (24 * c.loop-g.g + 8) 2 0 1 c.requires (omega arith) c.u32_at-t3210.ensures
     c.u32_at-t3206.ensures c.u32_at-t3208.ensures (omega arith) (omega arith) (omega arith)
-
-pub returns-then-not-eight_run-2 : goal.returns-then-not-eight_run-2
-returns-then-not-eight_run-2 c = λ e k h. cc
 
 pub eight_run-requires-then-u64_at-ne0-3 : goal.eight_run-requires-then-u64_at-ne0-3
 eight_run-requires-then-u64_at-ne0-3 c =
-    timed c.args.b.now (c.loop-i.i + 16) 1 2 0 c.requires (omega arith) c.u32_at-t3208.ensures
+    timed c.args.b.now (24 * c.loop-g.g + 16) 1 2 0 c.requires (omega arith) c.u32_at-t3208.ensures
     c.u32_at-t3210.ensures c.u32_at-t3206.ensures (omega arith) (omega arith) (omega arith)
 
-pub returns-then-not-eight_run-3 : goal.returns-then-not-eight_run-3
-returns-then-not-eight_run-3 c = λ e k h. cc
-
-pub loop-i-preserved : goal.loop-i-preserved
-loop-i-preserved c =
-    let l = c.loop-i in
-    let a = c.args in
-    let now = a.tick in
-    let b = a.b.now in
-    let p : kinds_from + 8 * l.j ≡ kind_place l.i = omega (arith, l.invariant.1.1.0) in
-    let q : kinds_from + 8 * l.j + 8 ≡ kind_place (l.i + 8) = omega (arith, l.invariant.1.1.0) in
-    let r : kinds_from + 8 * l.j + 16 ≡ kind_place (l.i + 16) = omega (arith, l.invariant.1.1.0) in
-    let first : Running now b l.i 8 =
-    elim c.if-u64_at-ne0.branch [
-      | then-u64_at-ne0+else-not-eight_run w ↦ w.eight_run.ensures w.if-not-eight_run.false
-      | else-u64_at-ne0 w ↦ running-empty now b l.i 8
-          (sym (ap (le_at 8 b) p) ∙ sym c.u64_at.ensures ∙ w.if-u64_at-ne0.false)
+pub loop-g-preserved : goal.loop-g-preserved
+loop-g-preserved c =
+    let at = 24 * c.loop-g.g in
+    let now = c.args.tick in
+    let b = c.args.b.now in
+    let j = c.loop-g.j in
+    let p : kinds_from + 8 * j ≡ kind_place at = omega (arith, c.loop-g.invariant.0) in
+    let q : kinds_from + 8 * j + 8 ≡ kind_place (at + 8) = omega (arith, c.loop-g.invariant.0) in
+    let r : kinds_from + 8 * j + 16 ≡ kind_place (at + 16) = omega (arith, c.loop-g.invariant.0) in
+    let first : Running now b at 8 =
+    elim c.else-u64_at-ne0.branch [
+      | else-u64_at-ne0-via-then-u64_at-ne0+else-not-eight_run w ↦ w.eight_run.ensures w.if-not-eight_run.false
+      | else-u64_at-ne0-via-else-u64_at-ne0 w ↦ running-empty now b at 8 (sym (ap (le_at 8 b) p) ∙ sym c.u64_at.ensures ∙ w.if-u64_at-ne0.false)
     ]
     in
-    let second : Running now b (l.i + 8) 8 =
-    elim c.if-u64_at-ne0-2.branch [
-      | then-u64_at-ne0-2+else-not-eight_run-2 w ↦ w.eight_run-then-u64_at-ne0-2.ensures w.if-not-eight_run-2.false
-      | else-u64_at-ne0-2 w ↦ running-empty now b
-          (l.i + 8) 8 (sym (ap (le_at 8 b) q) ∙ sym c.u64_at-in-loop-i.ensures ∙ w.if-u64_at-ne0-2.false)
+    let second : Running now b (at + 8) 8 =
+    elim c.else-u64_at-ne0-2.branch [
+      | else-u64_at-ne0-2-via-then-u64_at-ne0-2+else-not-eight_run-2 w ↦ w.eight_run-then-u64_at-ne0-2.ensures w.if-not-eight_run-2.false
+      | else-u64_at-ne0-2-via-else-u64_at-ne0-2 w ↦ running-empty now b (at + 8) 8 (sym (ap (le_at 8 b) q) ∙ sym c.u64_at-in-loop-g.ensures ∙ w.if-u64_at-ne0-2.false)
     ]
     in
-    let third : Running now b (l.i + 16) 8 =
-    elim c.if-u64_at-ne0-3.branch [
-      | then-u64_at-ne0-3+else-not-eight_run-3 w ↦ w.eight_run-then-u64_at-ne0-3.ensures w.if-not-eight_run-3.false
-      | else-u64_at-ne0-3 w ↦ running-empty now b
-          (l.i + 16) 8 (sym (ap (le_at 8 b) r) ∙ sym c.u64_at-in-loop-i-2.ensures ∙ w.if-u64_at-ne0-3.false)
+    let third : Running now b (at + 16) 8 =
+    elim c.else-u64_at-ne0-3.branch [
+      | else-u64_at-ne0-3-via-then-u64_at-ne0-3+else-not-eight_run-3 w ↦ w.eight_run-then-u64_at-ne0-3.ensures w.if-not-eight_run-3.false
+      | else-u64_at-ne0-3-via-else-u64_at-ne0-3 w ↦ running-empty now b (at + 16) 8 (sym (ap (le_at 8 b) r) ∙ sym c.u64_at-in-loop-g-2.ensures ∙ w.if-u64_at-ne0-3.false)
     ]
     in
-    let turn : Running now b (0 + l.i) 24 = rw (zero-add l.i) (running_more now b l.i 16 8 (running_more now b l.i 8 8 first second) third) in
-    (omega arith, (omega arith, (omega (arith, l.invariant.1.1.0), running_more now b 0 l.i 24 l.invariant.1.1.1 turn)))
+    let turn : Running now b (0 + at) 24 = rw (zero-add at) (running_more now b at 16 8 (running_more now b at 8 8 first second) third) in
+    let e : at + 24 ≡ 24 * (c.loop-g.g + 1) = omega arith in
+    (omega (arith, c.loop-g.invariant.0), rw e at (running_more now b 0 at 24 c.loop-g.invariant.1 turn))
 
 pub rest_run-requires : goal.rest_run-requires
 rest_run-requires c =
@@ -90,6 +80,6 @@ pub returns : goal.returns
 returns c =
     λ e.
     let a = c.args in
-    let l = c.loop-i in
-    let n : l.i ≡ many = omega arith in
-    running_more a.tick a.b.now 0 many (places % 24) (rw n at l.invariant.1.1.1) (c.rest_run.ensures e)
+    let l = c.loop-g in
+    let n : 24 * l.g ≡ many = omega arith in
+    running_more a.tick a.b.now 0 many (places % 24) (rw n at l.invariant.1) (c.rest_run.ensures e)

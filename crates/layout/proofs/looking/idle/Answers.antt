@@ -1,5 +1,6 @@
 -- `layout::looking::idle` meets its contract. Assumes nothing.
-use mathlib.Core.Path.{sym, ◌∙◌}
+use mathlib.Core.Path.{◌≡◌, sym, ◌∙◌}
+use Prim.Native.Nat.{◌+◌, ◌*◌}
 use native.Mathlib.Omega.{arith}
 use borrow.Author.Tests.{eqb-true}
 use Rattle.layout.specs.Layout.{kinds_from}
@@ -10,20 +11,16 @@ use Rattle.layout.proofs.looking.idle.Goals as goal
 pub returns-then-u64_at-ne0 : goal.returns-then-u64_at-ne0
 returns-then-u64_at-ne0 c = λ e k h. cc
 
-pub loop-i-init : goal.loop-i-init
-loop-i-init c = (omega arith, (omega arith, λ e. zero_le 8 _ kinds_from (sym c.u64_at.ensures ∙ omega (arith, c.if-u64_at-ne0.false))))
+pub loop-k-init : goal.loop-k-init
+loop-k-init c = λ e. zero_le 8 _ kinds_from (sym c.u64_at.ensures ∙ omega (arith, c.if-u64_at-ne0.false))
 
-pub loop-i-preserved : goal.loop-i-preserved
-loop-i-preserved c =
-    let l = c.loop-i in (
-      omega arith,
-      (
-        omega arith,
-        λ e.
-            let n = or_none l.all c.u64_at-all.result e in
-            zeros-more c.args.b.now kinds_from l.i (l.invariant.1.1 n.0) (sym c.u64_at-all.ensures ∙ n.1),
-      ),
-    )
+pub loop-k-preserved : goal.loop-k-preserved
+loop-k-preserved c =
+    let l = c.loop-k in
+    λ e.
+    let n = or_none l.all c.u64_at-all.result e in
+    let s : 8 * l.k + 8 ≡ 8 * (l.k + 1) = omega arith in
+    rw s at (zeros-more c.args.b.now kinds_from (8 * l.k) (l.invariant n.0) (sym c.u64_at-all.ensures ∙ n.1))
 
 pub returns : goal.returns
-returns c = λ e k h. c.loop-i.invariant.1.1 (eqb-true _ _ e) k (omega arith)
+returns c = λ e k h. c.loop-k.invariant (eqb-true _ _ e) k (omega arith)

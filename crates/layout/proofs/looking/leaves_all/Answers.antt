@@ -1,33 +1,37 @@
 -- `layout::looking::leaves_all` meets its contract. Assumes nothing.
-use mathlib.Core.Path.{sym, ◌∙◌}
-use mathlib.Core.Bool.{true≢false}
-use Rattle.layout.proofs.Left.{leaves_by}
+use mathlib.Core.Path.{◌≡◌, sym, ◌∙◌}
+use mathlib.Core.Bool.{true, true≢false}
+use borrow.Author.Tests.{not-true}
+use Rattle.layout.proofs.Left.{Alone, leaves_by}
 use Rattle.layout.proofs.looking.leaves_all.Goals as goal
-use Rattle.layout.proofs.looking.leaves_all.Goals.{then-rule+else-not-alone, else-rule, then-rule-2+else-not-alone-2, else-rule-2}
+use Rattle.layout.proofs.looking.leaves_all.Goals.{then-not-rule, else-not-rule, then-alone+then-not-rule-2, then-alone+else-not-rule-2, else-alone}
 
-pub returns-then-bare : goal.returns-then-bare
-returns-then-bare c = λ e. c.bare.ensures c.if-bare.true
-
-pub returns-then-not-alone : goal.returns-then-not-alone
-returns-then-not-alone c = λ e i h p. cc
-
-pub returns-then-not-alone-2 : goal.returns-then-not-alone-2
-returns-then-not-alone-2 c = λ e i h p. cc
-
-pub returns-then-rule-3 : goal.returns-then-rule-3
-returns-then-rule-3 c =
+pub returns-then-not-rule-3 : goal.returns-then-not-rule-3
+returns-then-not-rule-3 c =
     let a = c.args in
+    let first : c.if-not-rule.value ≡ true → a.rule.nch ≡ true → Alone a.b.now a.rule.but 0 =
+    λ v t. elim c.if-not-rule.branch [ then-not-rule w ↦ absurd (true≢false (sym t ∙ not-true _ w.if-not-rule.true)) | else-not-rule w ↦ w.alone.ensures (sym w.value-is ∙ v) ]
+    in
     λ e.
-    leaves_by a.rule a.b.now
-    (λ t. elim c.if-rule.branch [ then-rule+else-not-alone w ↦ w.alone.ensures w.if-not-alone.false | else-rule w ↦ absurd (true≢false (sym t ∙ w.if-rule.false)) ])
-    (λ t. elim c.if-rule-2.branch [ then-rule-2+else-not-alone-2 w ↦ w.alone-then-rule-2.ensures w.if-not-alone-2.false | else-rule-2 w ↦ absurd (true≢false (sym t ∙ w.if-rule-2.false)) ])
-    (λ t. c.alone-then-rule-3.ensures e)
+    elim c.if-alone.branch [
+      | then-alone+then-not-rule-2 w ↦ leaves_by a.rule a.b.now (first w.if-alone.true) (λ t. absurd (true≢false (sym t ∙ not-true _ w.if-not-rule-2.true)))
+          (λ t. absurd (true≢false (sym t ∙ not-true _ c.if-not-rule-3.true)))
+      | then-alone+else-not-rule-2 w ↦ leaves_by a.rule a.b.now (first w.if-alone.true) (λ t. w.alone-else-not-rule-2.ensures (sym w.value-is ∙ c.if-alone-2.true))
+          (λ t. absurd (true≢false (sym t ∙ not-true _ c.if-not-rule-3.true)))
+      | else-alone w ↦ absurd (true≢false (sym c.if-alone-2.true ∙ w.value-is ∙ w.if-alone.false))
+    ]
 
-pub returns : goal.returns
-returns c =
+pub returns-else-not-rule-3 : goal.returns-else-not-rule-3
+returns-else-not-rule-3 c =
     let a = c.args in
+    let first : c.if-not-rule.value ≡ true → a.rule.nch ≡ true → Alone a.b.now a.rule.but 0 =
+    λ v t. elim c.if-not-rule.branch [ then-not-rule w ↦ absurd (true≢false (sym t ∙ not-true _ w.if-not-rule.true)) | else-not-rule w ↦ w.alone.ensures (sym w.value-is ∙ v) ]
+    in
     λ e.
-    leaves_by a.rule a.b.now
-    (λ t. elim c.if-rule.branch [ then-rule+else-not-alone w ↦ w.alone.ensures w.if-not-alone.false | else-rule w ↦ absurd (true≢false (sym t ∙ w.if-rule.false)) ])
-    (λ t. elim c.if-rule-2.branch [ then-rule-2+else-not-alone-2 w ↦ w.alone-then-rule-2.ensures w.if-not-alone-2.false | else-rule-2 w ↦ absurd (true≢false (sym t ∙ w.if-rule-2.false)) ])
-    (λ t. absurd (true≢false (sym t ∙ c.if-rule-3.false)))
+    elim c.if-alone.branch [
+      | then-alone+then-not-rule-2 w ↦ leaves_by a.rule a.b.now (first w.if-alone.true) (λ t. absurd (true≢false (sym t ∙ not-true _ w.if-not-rule-2.true)))
+          (λ t. c.alone-else-not-rule-3.ensures e)
+      | then-alone+else-not-rule-2 w ↦ leaves_by a.rule a.b.now (first w.if-alone.true) (λ t. w.alone-else-not-rule-2.ensures (sym w.value-is ∙ c.if-alone-2.true))
+          (λ t. c.alone-else-not-rule-3.ensures e)
+      | else-alone w ↦ absurd (true≢false (sym c.if-alone-2.true ∙ w.value-is ∙ w.if-alone.false))
+    ]

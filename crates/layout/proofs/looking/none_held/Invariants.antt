@@ -1,13 +1,10 @@
--- What the loops of `layout::looking::none_held` keep, and why they end.
+-- What the loop of `layout::looking::none_held` keeps.
 use mathlib.Core.Path.{◌≡◌}
-use Prim.Native.Nat.{ℕ, ◌-◌, ◌≤◌, ◌<◌}
+use Prim.Native.Nat.{ℕ, ◌≤◌, ◌<◌}
 use lib.ListN.{get_or}
 use Rattle.receiver.specs.Channels.{place_on}
 use Rattle.layout.specs.Layout.{kind_place}
 use Rattle.layout.proofs.looking.none_held.Given as goal
 
 abbrev pub invariant-loop-key : goal.invariant-loop-key
-invariant-loop-key l = (l.from ≤ l.key) × ((l.key ≤ l.to) × (l.all ≡ 0 → (k : ℕ) → l.from ≤ k → k < l.key → get_or l.b (kind_place (place_on k l.ch)) 0 ≡ 0))
-
-abbrev pub decreases-loop-key : goal.decreases-loop-key
-decreases-loop-key l = l.to - l.key
+invariant-loop-key l = l.all ≡ 0 → (k : ℕ) → l.from ≤ k → k < l.key → get_or l.b (kind_place (place_on k l.ch)) 0 ≡ 0

@@ -1,19 +1,16 @@
 -- `layout::looking::quiet` meets its contract. Assumes nothing.
-use mathlib.Core.Path.{◌≡◌, sym, ◌∙◌}
-use native.Mathlib.Omega.{arith}
+use mathlib.Core.Path.{sym, ◌∙◌}
 use borrow.Author.Tests.{eqb-true}
 use Rattle.layout.proofs.NoneOut.{quiet_24}
 use Rattle.layout.proofs.looking.quiet.Goals as goal
+use Rattle.layout.proofs.looking.quiet.Goals.{then-u64_at-eq0, else-u64_at-eq0}
 
-pub returns-then-u64_at-ne0 : goal.returns-then-u64_at-ne0
-returns-then-u64_at-ne0 c = λ e k h. cc
-
-pub returns-then-u64_at-ne0-2 : goal.returns-then-u64_at-ne0-2
-returns-then-u64_at-ne0-2 c = λ e k h. cc
-
-pub returns : goal.returns
-returns c =
+pub returns-then-u64_at-eq0-2 : goal.returns-then-u64_at-eq0-2
+returns-then-u64_at-eq0-2 c =
     let a = c.args in
-    let p : c.u64_at.result ≡ 0 = omega (arith, c.if-u64_at-ne0.false) in
-    let q : c.u64_at-2.result ≡ 0 = omega (arith, c.if-u64_at-ne0-2.false) in
-    λ e. quiet_24 a.b.now a.at (sym c.u64_at.ensures ∙ p) (sym c.u64_at-2.ensures ∙ q) (sym c.u64_at-3.ensures ∙ eqb-true _ _ e)
+    λ e.
+    elim c.if-u64_at-eq0.branch [
+      | then-u64_at-eq0 w ↦ quiet_24 a.b.now a.at (sym c.u64_at.ensures ∙ w.if-u64_at-eq0.true)
+          (sym w.u64_at-then-u64_at-eq0.ensures ∙ eqb-true _ _ (sym w.value-is ∙ c.if-u64_at-eq0-2.true)) (sym c.u64_at-then-u64_at-eq0-2.ensures ∙ eqb-true _ _ e)
+      | else-u64_at-eq0 w ↦ absurd (w.if-u64_at-eq0.false (eqb-true _ _ (sym w.value-is ∙ c.if-u64_at-eq0-2.true)))
+    ]

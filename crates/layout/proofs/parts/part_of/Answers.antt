@@ -11,7 +11,7 @@ returns-then-b-ne-LENGTH c = sym (no_state c.args.b.now _ _ c.if-b-ne-LENGTH.tru
 pub returns-then-part-lt3 : goal.returns-then-part-lt3
 returns-then-part-lt3 c =
     let a = c.args in
-    c.wider.ensures ∙ c.u32_at.ensures ∙ last-three a.b.now a.entry a.part c.if-part-lt3.true
+    c.from.ensures ∙ c.u32_at.ensures ∙ last-three a.b.now a.entry a.part c.if-part-lt3.true
     ∙ sym (at-state a.b.now _ _ c.if-b-ne-LENGTH.false)
 
 pub returns-then-part-ge-PAGED_PART : goal.returns-then-part-ge-PAGED_PART
@@ -33,7 +33,7 @@ returns-then-u32_at-entry c =
 pub returns : goal.returns
 returns c =
     let a = c.args in
-    c.told_part.ensures
+    c.entry_part.ensures
     ∙ last-told a.b.now a.entry a.part c.if-part-lt3.false c.if-part-ge-PAGED_PART.false (omega (arith, c.if-entry-ge-MOST_ENTRIES.false))
     (omega (arith, c.if-u32_at-entry.false, c.u32_at-2.ensures))
     ∙ sym (at-state a.b.now _ _ c.if-b-ne-LENGTH.false)

@@ -18,5 +18,5 @@ returns-then-key-gt4294967295 c =
 pub returns : goal.returns
 returns c =
     let a = c.args in
-    c.wide.ensures ∙ c.place_in.ensures ∙ ap (index_of (keys_in a.b.now)) c.narrow.ensures
+    c.place_in.ensures ∙ ap (index_of (keys_in a.b.now)) c.narrow.ensures
     ∙ sym (at-state a.b.now _ _ c.if-b-ne-LENGTH.false)

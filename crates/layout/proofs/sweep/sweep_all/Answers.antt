@@ -6,36 +6,36 @@ use Rattle.receiver.specs.Channels.{channels, key_count}
 use Rattle.layout.proofs.Runs.{sweeping_none, sweeping_few, sweeping_length, whole, swept-said, sweeping_group}
 use Rattle.layout.proofs.sweep.sweep_all.Goals as goal
 
-pub loop-key-init : goal.loop-key-init
-loop-key-init c = (omega arith, omega arith, sweeping_none _ _ _ _ _ _)
+pub loop-g-init : goal.loop-g-init
+loop-g-init c = sweeping_none _ _ _ _ _ _
 
 pub sweep_group-lost-requires : goal.sweep_group-lost-requires
 sweep_group-lost-requires c =
-    let l = c.loop-key in
-    let f = sweeping_few l.invariant.2 in
-    (sweeping_length l.invariant.2 ∙ c.requires, (omega arith, (omega arith, (omega (arith, f.0), omega (arith, f.1)))))
+    let l = c.loop-g in
+    let f = sweeping_few l.invariant in
+    (sweeping_length l.invariant ∙ c.requires, (omega arith, (omega arith, (omega (arith, f.0), omega (arith, f.1)))))
 
-pub loop-key-preserved : goal.loop-key-preserved
-loop-key-preserved c =
-    let l = c.loop-key in
+pub loop-g-preserved : goal.loop-g-preserved
+loop-g-preserved c =
+    let l = c.loop-g in
     let a = c.args in
-    let e : channels * l.key + channels * 8 ≡ channels * (l.key + 8) = omega arith in
-    let more = sweeping_group a.tick a.rule a.b.now c.requires l.invariant.2 (channels * 8) _ _ _ (omega arith) c.sweep_group-lost.ensures in
-    (omega arith, omega arith, rw e at more)
+    let e : channels * (8 * l.g) + channels * 8 ≡ channels * (8 * (l.g + 1)) = omega arith in
+    let more = sweeping_group a.tick a.rule a.b.now c.requires l.invariant (channels * 8) _ _ _ (omega arith) c.sweep_group-lost.ensures in
+    rw e at more
 
 pub sweep_group-requires : goal.sweep_group-requires
 sweep_group-requires c =
-    let l = c.loop-key in
-    let f = sweeping_few l.invariant.2 in
-    (sweeping_length l.invariant.2 ∙ c.requires, (omega arith, (omega arith, (omega (arith, f.0), omega (arith, f.1)))))
+    let l = c.loop-g in
+    let f = sweeping_few l.invariant in
+    (sweeping_length l.invariant ∙ c.requires, (omega arith, (omega arith, (omega (arith, f.0), omega (arith, f.1)))))
 
 pub shape_of-b : goal.shape_of-b
-shape_of-b c = c.sweep_group.auto.b ∙ sweeping_length c.loop-key.invariant.2
+shape_of-b c = c.sweep_group.auto.b ∙ sweeping_length c.loop-g.invariant
 
 pub returns : goal.returns
 returns c =
-    let l = c.loop-key in
+    let l = c.loop-g in
     let a = c.args in
-    let e : l.key ≡ whole = omega arith in
-    let all = sweeping_group a.tick a.rule a.b.now c.requires (rw e at l.invariant.2) (channels * (key_count - whole)) _ _ _ (omega arith) c.sweep_group.ensures in
+    let e : 8 * l.g ≡ whole = omega arith in
+    let all = sweeping_group a.tick a.rule a.b.now c.requires (rw e at l.invariant) (channels * (key_count - whole)) _ _ _ (omega arith) c.sweep_group.ensures in
     swept-said a.tick a.rule a.b.now all

@@ -1,12 +1,8 @@
--- What the loops of `layout::sweep::sweep_all` keep, and why they end.
-use mathlib.Core.Path.{◌≡◌}
-use Prim.Native.Nat.{◌-◌, ◌*◌, ◌%◌, ◌≤◌}
+-- What the loop of `layout::sweep::sweep_all` keeps.
+use Prim.Native.Nat.{◌*◌}
 use Rattle.receiver.specs.Channels.{channels}
-use Rattle.layout.proofs.Runs.{Sweeping, whole}
+use Rattle.layout.proofs.Runs.{Sweeping}
 use Rattle.layout.proofs.sweep.sweep_all.Given as goal
 
-abbrev pub invariant-loop-key : goal.invariant-loop-key
-invariant-loop-key l = (l.key ≤ whole) × (l.key % 8 ≡ 0) × Sweeping l.tick l.rule 0 l.initial.b 0 0 (channels * l.key) l.b l.expired l.dropped
-
-abbrev pub decreases-loop-key : goal.decreases-loop-key
-decreases-loop-key l = whole - l.key
+abbrev pub invariant-loop-g : goal.invariant-loop-g
+invariant-loop-g l = Sweeping l.tick l.rule 0 l.initial.b 0 0 (channels * (8 * l.g)) l.b l.expired l.dropped

@@ -1,26 +1,10 @@
 -- `receiver::Setup::start` meets its contract. Assumes nothing.
 use mathlib.Core.Path.{sym, ◌∙◌}
-use borrow.Author.Tests.{not-true, not-false}
-use Rattle.receiver.specs.Model.{started_of}
+use Rattle.receiver.proofs.Keys.{right_keys, right_sets}
 use Rattle.receiver.proofs.Setup.start.Goals as goal
 
-pub returns-then-not-is_right : goal.returns-then-not-is_right
-unfolding started_of
-returns-then-not-is_right c =
-    simp (
-      sym c.is_right.ensures ∙ not-true _ c.if-not-is_right.true-raw,
-      c.ground.ensures,
-      c.made.ensures,
-      c.no_setup.ensures,
-    )
+pub placed-requires : goal.placed-requires
+placed-requires c = (right_keys c.args.self c.args.keys.now c.args.sets.now (sym c.is_right.ensures ∙ c.if-not-is_right.false)).0
 
-pub returns : goal.returns
-unfolding started_of
-returns c =
-    simp (
-      sym c.is_right.ensures ∙ not-false _ c.if-not-is_right.false-raw,
-      c.no_refusal.ensures,
-      c.made-2.ensures,
-      c.placed-places.ensures,
-      c.placed-groups.ensures,
-    )
+pub placed-requires-2 : goal.placed-requires-2
+placed-requires-2 c = right_sets c.args.self c.args.keys.now c.args.sets.now (sym c.is_right.ensures ∙ c.if-not-is_right.false)

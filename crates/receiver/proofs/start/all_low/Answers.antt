@@ -1,22 +1,11 @@
 -- `receiver::start::all_low` meets its contract. Assumes nothing.
-use mathlib.Core.Path.{refl, sym, ◌∙◌}
-use Rattle.receiver.proofs.Keys.{low-high, low-next, low-past}
+use mathlib.Core.Path.{◌∙◌}
+use Rattle.std.proofs.Common.{rules, tests, nat_le}
+use Rattle.std.proofs.lemmas.Iterator.{YieldsList-from_slice}
+use Rattle.std.proofs.lemmas.Iterator.Search.{all_from_yields_List}
+use Rattle.receiver.specs.Model.{last_key}
+use Rattle.receiver.proofs.Keys.{low_all}
 use Rattle.receiver.proofs.start.all_low.Goals as goal
 
-pub loop-i-init : goal.loop-i-init
-loop-i-init c = refl
-
-pub returns-then-keys-i-gt-LAST_KEY : goal.returns-then-keys-i-gt-LAST_KEY
-returns-then-keys-i-gt-LAST_KEY c =
-    let l = c.loop-i in
-    sym (l.invariant ∙ low-high _ l.i 0 c.loop-i-test.true c.if-keys-i-gt-LAST_KEY.true)
-
-pub loop-i-preserved : goal.loop-i-preserved
-loop-i-preserved c =
-    let l = c.loop-i in
-    l.invariant ∙ low-next _ l.i 0 c.loop-i-test.true c.if-keys-i-gt-LAST_KEY.false
-
 pub returns : goal.returns
-returns c =
-    let l = c.loop-i in
-    sym (l.invariant ∙ low-past _ l.i c.loop-i-test.false)
+returns c = all_from_yields_List (λ k. nat_le k last_key) _ _ c.all.result c.all.ensures.ran (YieldsList-from_slice c.args.keys.now cc) (λ x b q k. search (rules, tests)) ∙ low_all _

@@ -26,4 +26,4 @@ returns c =
     let a = c.args in
     let low = le-leb a.bit 1 (omega arith) in
     c.plain.ensures
-    ∙ is-accepted a.r _ (bit_is a.bit) c.is_late.ensures c.if-is_late.false (rw low) refl c.keep.ensures c.turned.ensures refl
+    ∙ is-accepted a.r _ (bit_is a.bit) c.is_late.ensures c.if-is_late.false (rw low) refl c.keep.ensures c.turned-cell.ensures refl

@@ -28,6 +28,6 @@ pub returns : goal.returns
 returns c =
     let a = c.args in
     let z = ap (λ (x : Facch). x.refusal.number) (sym c.read-m.ensures) ∙ c.if-m-ne0.false in
-    ap (λ (x : Answer). paging x c.paged_of-paged.result) c.accepted-a.ensures
+    ap (λ (x : Answer). paging x c.paged_of-a.result) c.accepted-a.ensures
     ∙ is-accepted a.r _ (heardFacch a.octets.now) c.is_late.ensures c.if-is_late.false z (rw c.read-m.ensures at c.facch_entries.ensures)
-    c.keep.ensures (rw c.read-m.ensures at c.taken_over-cell.ensures) (rw c.read-m.ensures at c.paged_of-paged.ensures)
+    c.keep.ensures (rw c.read-m.ensures at c.taken_over-cell.ensures) (rw c.read-m.ensures at c.paged_of-a.ensures)

@@ -26,7 +26,7 @@ returns-then-key-gt-LAST_KEY c =
 pub returns : goal.returns
 returns c =
     let a = c.args in
-    let i = c.index_of-but.ensures in
+    let i = rw c.from.ensures at c.index_of-but.ensures in
     c.plain.ensures
     ∙ is-accepted a.r _ (joins a.key) c.is_late.ensures c.if-is_late.false (rw (le-leb a.key last_key (omega arith))) refl
     (c.join_rule.ensures ∙ ap (rule_for (λ x. true)) i) refl refl

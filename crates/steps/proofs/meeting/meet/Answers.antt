@@ -4,7 +4,7 @@ use Rattle.receiver.proofs.Classes.{meet_whole, meet_none, meet_first, meet_seco
 use mathlib.Core.Logic.{inl, inr}
 use native.Mathlib.Omega.{arith}
 use Rattle.steps.proofs.meeting.meet.Goals as goal
-use Rattle.steps.proofs.meeting.meet.Goals.{then-c-eq4+else-not-leads, else-c-eq4}
+use Rattle.steps.proofs.meeting.meet.Goals.{else-c-eq4-via-then-c-eq4+else-not-leads, else-c-eq4-via-else-c-eq4}
 
 pub returns-then-c-lt3 : goal.returns-then-c-lt3
 returns-then-c-lt3 c = meet_whole _ _ _ _ _ c.class-c.ensures c.if-c-lt3.true
@@ -34,4 +34,4 @@ returns c =
     let k = c.class-c.ensures in
     c.only_number-2.ensures
     ∙ meet_stored _ _ _ _ _ k c.if-held-ne0.false
-    (elim c.if-c-eq4.branch [ then-c-eq4+else-not-leads w ↦ inr (w.if-c-eq4.true, sym w.leads.ensures ∙ w.if-not-leads.false) | else-c-eq4 w ↦ inl (omega arith) ])
+    (elim c.else-c-eq4.branch [ else-c-eq4-via-then-c-eq4+else-not-leads w ↦ inr (w.if-c-eq4.true, sym w.leads.ensures ∙ w.if-not-leads.false) | else-c-eq4-via-else-c-eq4 w ↦ inl (omega arith) ])

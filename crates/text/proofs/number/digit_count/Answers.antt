@@ -1,36 +1,10 @@
 -- `text::number::digit_count` meets its contract. Assumes nothing.
-use native.Mathlib.Omega.{arith}
-use mathlib.Core.Path.{ap, ◌∙◌}
-use Prim.Native.Nat.{ℕ, ◌/◌}
-use Rattle.text.proofs.Powers.{two-mul-div-le, div-pow-one, div-pow-div, pow-le_of_div_pos, lt-pow_of_div-zero}
+use Rattle.std.proofs.Common.{rules}
+use Rattle.text.proofs.Powers.{digits_counted, digits_of_zero}
 use Rattle.text.proofs.number.digit_count.Goals as goal
 
-pub loop-rest-init : goal.loop-rest-init
-loop-rest-init c =
-    let a = c.args in
-    (omega arith, omega (arith, two-mul-div-le a.n a.base c.requires.0), div-pow-one a.n a.base, omega arith)
+pub returns-then-n-eq0 : goal.returns-then-n-eq0
+returns-then-n-eq0 c = search (rules, digits_of_zero)
 
-pub loop-rest-smaller : goal.loop-rest-smaller
-loop-rest-smaller c = omega (arith, two-mul-div-le c.loop-rest.rest c.args.base c.requires.0)
-
-pub loop-rest-preserved : goal.loop-rest-preserved
-loop-rest-preserved c =
-    let l = c.loop-rest in
-    let n = c.args.n in
-    let b = c.args.base in (
-      omega arith,
-      omega (arith, two-mul-div-le l.rest b c.requires.0),
-      ap (λ (m : ℕ). m / b) l.invariant.2 ∙ div-pow-div n b l.k,
-      λ _. pow-le_of_div_pos n b l.k (omega arith) (omega arith),
-    )
-
-pub returns-then-k-least : goal.returns-then-k-least
-returns-then-k-least c =
-    let a = c.args in
-    (omega arith, lt-pow_of_div-zero a.n a.base c.loop-rest.k a.least (omega arith) (omega arith) (omega arith), omega arith)
-
-pub returns-else-k-least : goal.returns-else-k-least
-returns-else-k-least c =
-    let a = c.args in
-    let l = c.loop-rest in
-    (omega arith, lt-pow_of_div-zero a.n a.base l.k l.k (omega arith) (omega arith) (omega arith), λ more. l.invariant.3 (omega arith))
+pub returns-else-n-eq0 : goal.returns-else-n-eq0
+returns-else-n-eq0 c = search (rules, digits_counted)

@@ -1,11 +1,11 @@
 -- `text::number::put_digits` meets its contract. Assumes nothing.
 use native.Mathlib.Omega.{arith}
-use mathlib.Core.Path.{◌≡◌, refl, sym, ap, subst, ◌∙◌}
+use mathlib.Core.Path.{◌≡◌, refl, sym, ap, ◌∙◌}
 use mathlib.Core.List.{List, [], ◌∷◌, ◌++◌, append-nil}
 use Prim.Native.Nat.{ℕ, zero, suc, ◌-◌, ◌/◌, ◌%◌, ◌≤◌, ◌<◌}
-use lib.ListN.{length, take, drop, set, length-set}
-use lib.Seq.{slice, slice_empty, length-take-le, take-set-lt, append_snoc}
-use native.Mathlib.Nat.{le_refl, le_of_suc-le-suc, not-suc-le-zero}
+use lib.ListN.{length, drop, set}
+use lib.Seq.{append_snoc, drop-length}
+use native.Mathlib.Nat.{le_of_suc-le-suc, not-suc-le-zero}
 use native.Mathlib.Numerals.{sub-one}
 use Rattle.text.specs.Digits.{hex_digit_ascii}
 use Rattle.text.specs.Inner.{last_digits}
@@ -18,30 +18,29 @@ drop-set (x ∷ xs) zero g h = refl
 drop-set (x ∷ xs) (suc j) g h = drop-set xs j g (le_of_suc-le-suc h)
 
 -- a turn moves the last of the digits that are still to write to the front of those that are written
-digits_step : (b i k rest g : ℕ) (out : List ℕ) → 0 < i → i ≤ k → k ≤ length out → g ≡ hex_digit_ascii (rest % b)
-    → last_digits b (i - 1) (rest / b) ++ slice (i - 1) k (set out (i - 1) g) ≡ last_digits b i rest ++ slice i k out
-digits_step b zero k rest g out some h room e = absurd (not-suc-le-zero some)
-digits_step b (suc j) k rest g out some h room e =
+digits_step : (b i rest g : ℕ) (out : List ℕ) → 0 < i → i ≤ length out → g ≡ hex_digit_ascii (rest % b)
+    → last_digits b (i - 1) (rest / b) ++ drop (i - 1) (set out (i - 1) g) ≡ last_digits b i rest ++ drop i out
+digits_step b zero rest g out some h e = absurd (not-suc-le-zero some)
+digits_step b (suc j) rest g out some h e =
     let todo = last_digits b j (rest / b) in
-    let done = slice (suc j) k out in
-    let within : j < length (take k out) = subst (λ (n : ℕ). j < n) (sym (length-take-le k out room)) h in
-    ap (λ (m : ℕ). last_digits b m (rest / b) ++ slice m k (set out m g)) (sub-one (suc j))
-    ∙ ap (λ (l : List ℕ). todo ++ drop j l) (take-set-lt k out j g h)
-    ∙ ap (λ (l : List ℕ). todo ++ l) (drop-set (take k out) j g within)
-    ∙ ap (λ (x : ℕ). todo ++ x ∷ done) e
-    ∙ sym (append_snoc todo (hex_digit_ascii (rest % b)) done)
+    ap (λ (m : ℕ). last_digits b m (rest / b) ++ drop m (set out m g)) (sub-one (suc j))
+    ∙ ap (λ (l : List ℕ). todo ++ l) (drop-set out j g h)
+    ∙ ap (λ (x : ℕ). todo ++ x ∷ drop (suc j) out) e
+    ∙ sym (append_snoc todo (hex_digit_ascii (rest % b)) (drop (suc j) out))
 
 pub loop-i-init : goal.loop-i-init
 loop-i-init c =
     let a = c.args in
-    let all = last_digits a.base a.k a.n in
-    (refl, le_refl a.k, ap (λ (l : List ℕ). all ++ l) (slice_empty a.k a.digits.now) ∙ append-nil all)
+    let all = last_digits a.base (length a.digits.now) a.n in
+    ap (λ (l : List ℕ). all ++ l) (drop-length a.digits.now) ∙ append-nil all
 
 pub loop-i-preserved : goal.loop-i-preserved
 loop-i-preserved c =
     let l = c.loop-i in
-    let a = c.args in (
-      simp length-set l.invariant.0,
-      omega arith,
-      digits_step a.base l.i a.k l.rest c.glyph.result l.digits c.loop-i-test.true l.invariant.1 (omega arith) c.glyph.ensures ∙ l.invariant.2,
-    )
+    digits_step c.args.base l.i l.rest c.glyph.result l.digits c.loop-i-test.true (omega arith) c.glyph.ensures ∙ l.invariant
+
+pub returns : goal.returns
+returns c =
+    let l = c.loop-i in
+    let e : l.i ≡ 0 = omega arith in
+    rw e at l.invariant

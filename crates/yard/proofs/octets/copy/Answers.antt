@@ -1,31 +1,17 @@
 -- `yard::octets::copy` meets its contract. Assumes nothing.
-use mathlib.Core.Path.{refl, sym, ap, ◌∙◌}
+use mathlib.Core.Path.{◌≡◌, ap, ◌∙◌}
+use Prim.Native.Nat.{◌+◌, ◌-◌}
 use native.Mathlib.Omega.{arith}
-use lib.ListN.{length-set}
-use Rattle.arrays.specs.Runs.{stored}
-use Rattle.arrays.proofs.Running.{stored-none}
-use Rattle.yard.proofs.Copying.{copy-next, all-cut}
+use lib.ListN.{drop}
+use lib.Seq.{paste}
+use Rattle.yard.specs.Octets.{cut}
+use Rattle.yard.proofs.Copying.{length_cut, pasted}
 use Rattle.yard.proofs.octets.copy.Goals as goal
 
-pub loop-i-init : goal.loop-i-init
-loop-i-init c = (omega arith, (refl, sym (stored-none c.args.b.now c.args.to)))
-
-pub loop-i-preserved : goal.loop-i-preserved
-loop-i-preserved c =
-    let l = c.loop-i in
-    let a = c.args in (
-      omega arith,
-      (
-        simp length-set l.invariant.1.0,
-        copy-next a.b.now l.b a.from a.to a.n l.i c.requires.0 c.requires.1 c.loop-i-test.true l.invariant.1.1,
-      ),
-    )
-
-pub shape_of-b : goal.shape_of-b
-shape_of-b c = c.loop-i.invariant.1.0
-
 pub returns : goal.returns
+unfolding cut
 returns c =
-    let l = c.loop-i in
     let a = c.args in
-    l.invariant.1.1 ∙ ap (stored a.b.now a.to) (all-cut a.b.now a.from a.n l.i (omega (arith, c.requires)) c.loop-i-test.false)
+    let b = a.b.now in
+    let e : a.from + a.n - a.from ≡ a.n = omega arith in
+    c.copy_within.ensures.after ∙ ap (paste b a.to (drop a.from b)) e ∙ pasted b a.to a.n (drop a.from b) c.requires.1 (length_cut b a.from a.n (omega (arith, c.requires)))

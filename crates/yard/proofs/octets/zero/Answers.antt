@@ -1,28 +1,18 @@
 -- `yard::octets::zero` meets its contract. Assumes nothing.
-use mathlib.Core.Path.{refl, sym, ap, ◌∙◌}
+use mathlib.Core.Path.{◌≡◌, sym, ap, ◌∙◌}
+use Prim.Native.Nat.{ℕ, ◌+◌, ◌-◌}
 use native.Mathlib.Omega.{arith}
-use lib.ListN.{length-set}
-use Rattle.arrays.specs.Runs.{stored}
-use Rattle.arrays.proofs.Running.{stored-none}
-use Rattle.yard.proofs.Copying.{zero-next, all-zeros}
+use lib.ListN.{replicate, length-replicate}
+use Rattle.std.proofs.lemmas.Slice.{put_mid-paste}
+use Rattle.yard.specs.Octets.{cut}
+use Rattle.yard.proofs.Copying.{length_cut, pasted-zeros}
 use Rattle.yard.proofs.octets.zero.Goals as goal
 
-pub loop-i-init : goal.loop-i-init
-loop-i-init c = (omega arith, (refl, sym (stored-none c.args.b.now c.args.at)))
-
-pub loop-i-preserved : goal.loop-i-preserved
-loop-i-preserved c =
-    let l = c.loop-i in
-    let a = c.args in (
-      omega arith,
-      (simp length-set l.invariant.1.0, zero-next a.b.now l.b a.at a.n l.i c.loop-i-test.true l.invariant.1.1),
-    )
-
-pub shape_of-b : goal.shape_of-b
-shape_of-b c = c.loop-i.invariant.1.0
-
 pub returns : goal.returns
+unfolding cut
 returns c =
-    let l = c.loop-i in
     let a = c.args in
-    l.invariant.1.1 ∙ ap (stored a.b.now a.at) (all-zeros a.n l.i c.loop-i-test.false)
+    let b = a.b.now in
+    let e : a.at + a.n - a.at ≡ a.n = omega arith in
+    put_mid-paste a.at _ b _ (replicate a.n 0) a.n (c.fill.ensures.after (λ y q. q) ∙ ap (λ (m : ℕ). replicate m 0) (length_cut b a.at _ (omega arith) ∙ e)) (sym e) (sym (length-replicate a.n 0))
+    ∙ pasted-zeros b a.at a.n c.requires

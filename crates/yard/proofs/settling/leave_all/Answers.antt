@@ -10,27 +10,24 @@ use Rattle.yard.proofs.Values.{length-left_run}
 use Rattle.yard.proofs.settling.leave_all.Goals as goal
 
 pub loop-i-init : goal.loop-i-init
-loop-i-init c = (omega arith, (c.requires, left-none c.args.all c.args.time c.args.b.now))
+loop-i-init c = (c.requires, left-none c.args.all c.args.time c.args.b.now)
 
 pub leave-requires : goal.leave-requires
-leave-requires c = (c.loop-i.invariant.1.0, c.loop-i-test.true)
-
-pub loop-i-smaller : goal.loop-i-smaller
-loop-i-smaller c = omega (arith, c.loop-i-test.true)
+leave-requires c = (c.loop-i.invariant.0, c.loop-i-test.true)
 
 pub loop-i-preserved : goal.loop-i-preserved
 loop-i-preserved c =
     let l = c.loop-i in
     let a = c.args in
-    let e = left-next a.all a.time a.b.now l.b _ l.i l.invariant.1.1 c.leave.ensures in
-    (omega (arith, c.loop-i-test.true), (ap length e ∙ length-left_run a.all a.time _ a.b.now ∙ c.requires, e))
+    let e = left-next a.all a.time a.b.now l.b _ l.i l.invariant.1 c.leave.ensures in
+    (ap length e ∙ length-left_run a.all a.time _ a.b.now ∙ c.requires, e)
 
 pub shape_of-b : goal.shape_of-b
-shape_of-b c = c.loop-i.invariant.1.0 ∙ sym c.requires
+shape_of-b c = c.loop-i.invariant.0 ∙ sym c.requires
 
 pub returns : goal.returns
 returns c =
     let l = c.loop-i in
     let a = c.args in
-    let q : l.i ≡ call_count = omega (arith, l.invariant.0, c.loop-i-test.false) in
-    l.invariant.1.1 ∙ ap (λ (n : ℕ). left_run a.all a.time n a.b.now) q
+    let q : l.i ≡ call_count = omega arith in
+    l.invariant.1 ∙ ap (λ (n : ℕ). left_run a.all a.time n a.b.now) q

@@ -9,13 +9,13 @@ use Rattle.yard.proofs.Quiet.{no_calls-more}
 use Rattle.yard.proofs.settling.none_shown.Goals as goal
 
 pub loop-i-init : goal.loop-i-init
-loop-i-init c = (omega arith, λ e k h. absurd (omega (arith, h)))
+loop-i-init c = λ e k h. absurd (omega (arith, h))
 
 pub loop-i-preserved : goal.loop-i-preserved
 loop-i-preserved c =
     let l = c.loop-i in
     let b = c.args.b.now in
-    (omega arith, λ e. let n = or_none l.all (octet_at b (call_place l.i + 16)) e in no_calls-more b l.i (l.invariant.1 n.0) n.1)
+    λ e. let n = or_none l.all (octet_at b (call_place l.i + 16)) e in no_calls-more b l.i (l.invariant n.0) n.1
 
 pub returns : goal.returns
-returns c = λ e k h. c.loop-i.invariant.1 (eqb-true _ _ e) k (omega arith)
+returns c = λ e k h. c.loop-i.invariant (eqb-true _ _ e) k (omega arith)

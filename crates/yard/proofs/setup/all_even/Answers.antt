@@ -3,20 +3,20 @@ use mathlib.Core.Path.{refl, sym, ◌∙◌}
 use Rattle.yard.proofs.Starting.{even_odd, even_next, even_past}
 use Rattle.yard.proofs.setup.all_even.Goals as goal
 
-pub loop-i-init : goal.loop-i-init
-loop-i-init c = refl
+pub loop-key-init : goal.loop-key-init
+loop-key-init c = refl
 
-pub returns-then-keys-i-ne0 : goal.returns-then-keys-i-ne0
-returns-then-keys-i-ne0 c =
-    let l = c.loop-i in
-    sym (l.invariant ∙ even_odd _ l.i 0 c.loop-i-test.true c.if-keys-i-ne0.true)
+pub returns-then-key-ne0 : goal.returns-then-key-ne0
+returns-then-key-ne0 c =
+    let l = c.loop-key in
+    sym (l.invariant ∙ even_odd _ l.key-index 0 c.loop-key-test.true c.if-key-ne0.true)
 
-pub loop-i-preserved : goal.loop-i-preserved
-loop-i-preserved c =
-    let l = c.loop-i in
-    l.invariant ∙ even_next _ l.i 0 c.loop-i-test.true c.if-keys-i-ne0.false
+pub loop-key-preserved : goal.loop-key-preserved
+loop-key-preserved c =
+    let l = c.loop-key in
+    l.invariant ∙ even_next _ l.key-index 0 c.loop-key-test.true c.if-key-ne0.false
 
 pub returns : goal.returns
 returns c =
-    let l = c.loop-i in
-    sym (l.invariant ∙ even_past _ l.i c.loop-i-test.false)
+    let l = c.loop-key in
+    sym (l.invariant ∙ even_past _ l.key-index c.loop-key-test.false)

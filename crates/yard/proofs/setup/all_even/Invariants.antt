@@ -1,12 +1,8 @@
--- What the loops of `yard::setup::all_even` keep, and why they end.
+-- What the loop of `yard::setup::all_even` keeps.
 use mathlib.Core.Path.{◌≡◌}
-use Prim.Native.Nat.{◌-◌}
-use lib.ListN.{length, drop}
+use lib.ListN.{drop}
 use Rattle.yard.specs.Yard.{all_even}
 use Rattle.yard.proofs.setup.all_even.Given as goal
 
-abbrev pub invariant-loop-i : goal.invariant-loop-i
-invariant-loop-i l = all_even l.keys ≡ all_even (drop l.i l.keys)
-
-abbrev pub decreases-loop-i : goal.decreases-loop-i
-decreases-loop-i l = length l.keys - l.i
+abbrev pub invariant-loop-key : goal.invariant-loop-key
+invariant-loop-key l = all_even l.keys ≡ all_even (drop l.key-index l.keys)

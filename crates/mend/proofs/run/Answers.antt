@@ -1,6 +1,0 @@
--- `mend::run` is safe and ends. Assumes nothing.
-use mathlib.Core.Path.{refl}
-use Rattle.mend.proofs.run.Goals as goal
-
-pub loop-h-init : goal.loop-h-init
-loop-h-init c = (refl, refl, refl, refl)
