@@ -1,14 +1,12 @@
 -- Arrays of numbers that are copied into, cleared and stored. Assumes nothing.
 use mathlib.Core.Path.{◌≡◌, refl, ap, sym, ◌∙◌}
-use mathlib.Core.List.{List, [], ◌∷◌, ◌++◌, append-nil}
-use Prim.Native.Nat.{ℕ, zero, suc, ◌+◌, ◌-◌, ◌≤◌, ◌<◌, min}
+use mathlib.Core.List.{List, [], ◌∷◌, ◌++◌}
+use Prim.Native.Nat.{ℕ, zero, suc, ◌+◌, ◌≤◌, ◌<◌, min}
 use native.Mathlib.Numerals.{add-one}
 use native.Mathlib.Decide.{dec_le}
 use native.Mathlib.Omega.{arith}
-use lib.ListN.{length, get_or, take, drop, set, replicate, length-append, length-drop, drop_of_length-le}
-use lib.Seq.{sets, length-take-le, take-suc, take_all, take-suc-set}
-use Rattle.std.proofs.lemmas.List.{take_at}
-use borrow.Rule.Slice.PartMut.{put_mid}
+use lib.ListN.{length, get_or, take, set, replicate}
+use lib.Seq.{sets, take-suc, take_all, take-suc-set}
 use Rattle.csn1.specs.Told.{padded}
 use Rattle.csn1.proofs.Lists.{padded-none}
 
@@ -26,6 +24,12 @@ module _ (z : ℕ) where
   padded-whole [] = refl
   padded-whole (a ∷ l) = ap (λ (x : List ℕ). a ∷ x) (padded-whole l)
 
+  -- one more of what stands in the places that are not used
+  padded-zero : (n : ℕ) (l : List ℕ) → padded z n (l ++ (z ∷ [])) ≡ padded z n l
+  padded-zero zero l = refl
+  padded-zero (suc n) [] = refl
+  padded-zero (suc n) (a ∷ l) = ap (λ (x : List ℕ). a ∷ x) (padded-zero n l)
+
 -- ## Copying
 
 -- the first i of f stand in o: one more does
@@ -37,39 +41,26 @@ copied_next f o i e h k =
 pub copied : (f o : List ℕ) (i : ℕ) → take i o ≡ take i f → length o ≤ i → length f ≤ i → o ≡ f
 copied f o i e h k = sym (take_all i o h) ∙ e ∙ take_all i f k
 
+-- as many as f and the m places of o both have do
+pub copied-most : (f o : List ℕ) (m i : ℕ) → length o ≡ m → i ≡ min (length f) m → take i o ≡ take i f → take (length f) o ≡ take m f
+copied-most f o m i w q e = go (dec_le (length f) m)
+  where
+    go : Dec (length f ≤ m) → take (length f) o ≡ take m f
+    go (yes h) =
+        let a : i ≡ length f = omega arith in
+        rw (← a) (e ∙ take_all i f (omega arith)) ∙ sym (take_all m f h)
+    go (no h) =
+        let a : i ≡ m = omega arith in
+        take_all (length f) o (omega arith) ∙ sym (take_all i o (omega arith)) ∙ e ∙ ap (λ (j : ℕ). take j f) a
+
 -- ## Clearing and storing
 
-padded_split : (n : ℕ) (l : List ℕ) → padded 0 n l ≡ take n l ++ replicate (n - length l) 0
-padded_split zero l = let e : 0 - length l ≡ 0 = omega arith in rw e refl
-padded_split (suc n) [] = let e : suc n - 0 ≡ suc n = omega arith in rw e (padded-none 0 (suc n))
-padded_split (suc n) (a ∷ l) = let e : suc n - suc (length l) ≡ n - length l = omega arith in rw e (ap (λ (x : List ℕ). a ∷ x) (padded_split n l))
+-- one more place cleared
+pub cleared-next : (n : ℕ) (l k : List ℕ) (i : ℕ) → i < length l → padded 0 n (take i l) ≡ padded 0 n k → padded 0 n (take (i + 1) (set l i 0)) ≡ padded 0 n k
+cleared-next n l k i h e = rw (add-one i, take-suc-set l i 0 h, padded-zero 0 n (take i l)) e
 
--- zeros written from the m-th place on
-pub cleared : (l ys : List ℕ) (from m : ℕ) → m ≡ min from (length l) → ys ≡ replicate (length l - m) 0
-    → put_mid m (length l - m) l ys ≡ padded 0 (length l) (take from l)
-cleared l ys from m e y =
-    let d : drop (length l - m) (drop m l) ≡ [] = drop_of_length-le (drop m l) (omega (arith, length-drop m l)) in
-    let k : take from l ≡ take m l = go (dec_le from (length l)) in
-    let n : length (take m l) ≡ m = length-take-le m l (omega arith) in
-    rw (d, append-nil, y, k, padded_split) (rw n (ap (λ (x : List ℕ). x ++ replicate (length l - m) 0)
-    (sym (take_all (length l) (take m l) (omega arith)))))
-  where
-    go : Dec (from ≤ length l) → take from l ≡ take m l
-    go (yes h) = ap (λ (j : ℕ). take j l) (omega arith)
-    go (no h) = take_all from l (omega arith) ∙ sym (take_all m l (omega arith))
-
--- as many as have places copied, then cleared behind
-pub stored_cut : (v l c o : List ℕ) (m : ℕ) → m ≡ min (length v) (length l) → c ≡ take m v → o ≡ padded 0 (length (c ++ drop m l)) (take m (c ++ drop m l))
-    → o ≡ padded 0 (length l) v
-stored_cut v l c o m e y f =
-    let n : length c ≡ m = ap length y ∙ length-take-le m v (omega arith) in
-    let w : length (c ++ drop m l) ≡ length l = length-append c (drop m l) ∙ omega (arith, length-drop m l) in
-    let t : take m (c ++ drop m l) ≡ take m v = take_at c (drop m l) m n ∙ y in
-    f ∙ rw (w, t) (go (dec_le (length v) (length l)))
-  where
-    go : Dec (length v ≤ length l) → padded 0 (length l) (take m v) ≡ padded 0 (length l) v
-    go (yes h) = ap (padded 0 (length l)) (take_all m v (omega arith))
-    go (no h) = ap (λ (j : ℕ). padded 0 (length l) (take j v)) (omega arith) ∙ padded-take 0 (length l) v
+pub cleared : (n : ℕ) (l k : List ℕ) (i : ℕ) → length l ≡ n → n ≤ i → padded 0 n (take i l) ≡ padded 0 n k → l ≡ padded 0 n k
+cleared n l k i m h e = sym (rw (← m) (padded-whole 0 l)) ∙ ap (padded 0 n) (sym (take_all i l (omega arith))) ∙ e
 
 -- copied, then cleared behind
 pub stored-all : (v o o' o'' : List ℕ) → take (length v) o' ≡ take (length o) v → length o' ≡ length o → o'' ≡ padded 0 (length o') (take (length v) o')

@@ -6,10 +6,8 @@ use native.Mathlib.Numerals.{add-one}
 use native.Mathlib.Nat.{add-zero, add-suc, suc-add, add_comm, mul-suc}
 use native.Mathlib.Omega.{arith}
 use lib.Dec.{leb}
-use lib.ListN.{length, get_or, take, drop, set, length-append, length-set, drop_of_length-le}
+use lib.ListN.{length, get_or, take, set, length-append, length-set, drop_of_length-le}
 use lib.Seq.{sets, sets-eq, length-sets, length-take-le, take-suc, get_or-set_same, get_or-set_other, set_comm, set-set}
-use Rattle.std.proofs.lemmas.List.{append_assoc, drop-drop}
-use borrow.Rule.Slice.PartMut.{put_mid}
 use borrow.Author.Tests.{le-leb, lt-leb}
 use Rattle.bits.specs.Field.{pick}
 use Rattle.csn1.specs.Told.{padded}
@@ -64,12 +62,6 @@ module _ (l : List ℕ) (at : ℕ) (vs : List ℕ) where
 
   pub run_not : length l < at + length vs → pick (leb (at + length vs) (length l)) (stored l at vs) l ≡ l
   run_not h = rw (lt-leb (at + length vs) (length l) h)
-
-  -- the values copied over the places from one on
-  pub run-copied : (c : List ℕ) (k : ℕ) → c ≡ vs → k ≡ length vs → at + length vs ≤ length l
-      → put_mid at k l c ≡ pick (leb (at + length vs) (length l)) (stored l at vs) l
-  unfolding stored
-  run-copied c k e n h = rw (e, n, drop-drop) (sym (append_assoc (take at l) vs (drop (at + length vs) l)) ∙ sym (sets-eq vs l at h)) ∙ sym (run-stored h)
 
 -- ## Runs one behind the other
 

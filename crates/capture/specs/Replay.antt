@@ -4,9 +4,10 @@ use Rattle.std.proofs.Math.Option.{Option, none, some}
 use Rattle.bits.specs.Field.{both, pick}
 use Rattle.receiver.specs.declared.Receiver.{Receiver}
 use Rattle.receiver.specs.declared.Setup.{Setup}
+use Rattle.receiver.specs.declared.Started.{Started}
 use Rattle.receiver.specs.declared.Told.{Told}
 use Rattle.receiver.specs.declared.Answer.{Answer}
-use Rattle.receiver.specs.Model.{Started, started_of, ready_setup}
+use Rattle.receiver.specs.Model.{started_of, ready_setup}
 use Rattle.receiver.specs.Step.{Event, nch, facch, joined, reselected, handed_over, reconfigured, tick, step_of}
 use Rattle.layout.specs.Octets.{tabulate}
 use Rattle.text.specs.Digits.{decimal}

@@ -6,7 +6,8 @@ use lib.Text.{eqt}
 use Rattle.bits.specs.Field.{both}
 use Rattle.csn1.specs.Format.{no_refusal, ground}
 use Rattle.nch.specs.Told.{read_of}
-use Rattle.receiver.specs.Model.{Started, wrap_sub}
+use Rattle.receiver.specs.declared.Started.{Started}
+use Rattle.receiver.specs.Model.{wrap_sub}
 use Rattle.gcc.specs.Cause as cause
 use Rattle.gcc.specs.Digits as digits
 use Rattle.listed.specs.Listed.{ListedRow, nch-octets, nch-length, ticks, step, halves, cause-octets, digit-octets, set_up, first_at, second_at, ticked, silent}

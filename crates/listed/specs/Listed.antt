@@ -10,7 +10,8 @@ use Rattle.nch.specs.Told.{no_reduced, no_random, no_release6, no_release7, no_r
 use Rattle.receiver.specs.declared.Record.{Record}
 use Rattle.receiver.specs.declared.Slot.{Slot}
 use Rattle.receiver.specs.declared.Answer.{Answer}
-use Rattle.receiver.specs.Model.{Started, no_common, no_record as noTelling, no_paged, empty_slot, no_cell, no_key, wrap_sub, started_of}
+use Rattle.receiver.specs.declared.Started.{Started}
+use Rattle.receiver.specs.Model.{no_common, no_record as noTelling, no_paged, empty_slot, no_cell, no_key, wrap_sub, started_of}
 use Rattle.receiver.specs.Step.{no_told, nch, tick, refused_with, step_of}
 use Rattle.gcc.specs.declared.cause.Meaning.{Meaning}
 use Rattle.gcc.specs.declared.cause.Meaning.TheVariants.{Specific, Unspecific}

@@ -1,7 +1,6 @@
 -- The receiver's parts: places, what drops a half, and what a half meets (document 01, "Setup, clock and store", "What each notified call is told"). Assumes nothing.
 use Rattle.std.specs.Prelude.{Result, Ok, Err, List, [], ◌∷◌, Bool, true, false, not, ℕ, suc, ◌+◌, ◌*◌, length, replicate, take, leb, eqb}
 use Rattle.bits.specs.Field.{both, pick}
-use Rattle.csn1.specs.declared.Refusal.{Refusal}
 use Rattle.csn1.specs.Format.{no_refusal, ground}
 use Rattle.csn1.specs.Told.{as_bit, padded}
 use Rattle.call.specs.declared.Call.{Call}
@@ -16,6 +15,7 @@ use Rattle.receiver.specs.declared.Rule.{Rule}
 use Rattle.receiver.specs.declared.Met.{Met}
 use Rattle.receiver.specs.declared.Paged.{Paged}
 use Rattle.receiver.specs.declared.Setup.{Setup}
+use Rattle.receiver.specs.declared.Started.{Started}
 use Rattle.pch.specs.Entry.{last_key as highestKey}
 use Rattle.receiver.specs.Count.{no_count, no_bit, sets_right}
 use Rattle.receiver.specs.Halving.{halving, rises}
@@ -278,14 +278,9 @@ setup_right s keys groups =
 abbrev pub no_setup : Setup
 no_setup = record { tick = 0; t3206 = 0; t3208 = 0; t3210 = 0 }
 
--- what a setup comes to, refused or not: the theorems speak of both parts
-pub record Started : Type 0 where
-  pub refusal : Refusal
-  pub receiver : Receiver
-
--- what the code answers: the receiver, or why there is none
-abbrev pub outcome_of : Started → Result Receiver Refusal
-outcome_of s = pick (eqb s.refusal.number 0) (Ok s.receiver) (Err s.refusal)
+-- what the code answers: the receiver of a setup that is accepted, and all that a refused one comes to
+abbrev pub outcome_of : Started → Result Receiver Started
+outcome_of s = pick (eqb s.refusal.number 0) (Ok s.receiver) (Err s)
 
 -- a refused setup is its number alone
 unfoldable pub started_of : Setup → List ℕ → List ℕ → Started

@@ -143,6 +143,14 @@ pub struct Answer {
     pub receiver: Receiver,
 }
 
+// What a setup comes to, where it is refused: its number, and a receiver that has no key, at tick 0 and with timers 0.
+// Stays: a refusal beside the receiver: started_of, and the theorems over it, speak of both, and who was promised the receiver of a refused setup has it.
+#[derive(Drop)]
+pub struct Started {
+    pub refusal: Refusal,
+    pub receiver: Receiver,
+}
+
 // What an event drops beside what ran out: the halves of some channels, save those under the key at an index. No key has the index KEYS.
 // Stays: KEYS for no key in but: rule_for and spares, and through them isolation's theorems, have the index as a number.
 #[derive(Clone, Copy)]

@@ -2,12 +2,13 @@
 ghost use Rattle.std.specs.Prelude.{◌≡◌, ◌≤◌, length};
 ghost use Rattle.receiver.specs.Channels.{key_count};
 ghost use Rattle.receiver.specs.Count.{is_set, sets_right};
-ghost use Rattle.receiver.specs.Model.{new_receiver, is_timer, all_low, setup_right, outcome_of, started_of, ready_setup};
+ghost use Rattle.receiver.specs.Model.{new_receiver, is_timer, all_low, setup_right, outcome_of, started_of, ready_setup, no_setup};
 ghost use Rattle.receiver.specs.Halving.{rises};
 ghost use Rattle.csn1.specs.Told.{padded};
 
-use crate::{Cell, LAST_KEY, NO_BIT, NO_COUNT, NO_KEY, NO_NLN, PLACES, Receiver, Setup, meeting};
-use csn1::Refusal;
+use crate::{
+    Cell, LAST_KEY, NO_BIT, NO_COUNT, NO_KEY, NO_NLN, PLACES, Receiver, Setup, Started, meeting,
+};
 
 impl Setup {
     pub const KEYS: usize = 50;
@@ -32,15 +33,29 @@ impl Setup {
         }
     }
 
-    // A receiver for the lent keys, each with its set of group keys, or refusal 10.
+    // A receiver for the lent keys, each with its set of group keys, or refusal 10 and a receiver that holds nothing.
     #[tactic(auto, unfolding(crate::specs::Model::started_of, csn1::specs::Format::ground))]
-    pub fn start(self, keys: &[u32], sets: &[u32]) -> Result<Receiver, Refusal>
+    pub fn start(self, keys: &[u32], sets: &[u32]) -> Result<Receiver, Started>
         ensures { result ≡ outcome_of (started_of self keys.now sets.now) }
     {
         if !is_right(self, keys, sets) {
-            return Err(csn1::ground(10));
+            return Err(Started {
+                refusal: csn1::ground(10),
+                receiver: made(no_setup(), [NO_KEY; Setup::KEYS], [0; Setup::KEYS], 0),
+            });
         }
         Ok(made(self, placed(keys, NO_KEY), placed(sets, 0), keys.len()))
+    }
+}
+
+fn no_setup() -> Setup
+    ensures { result ≡ no_setup }
+{
+    Setup {
+        tick: 0,
+        t3206: 0,
+        t3208: 0,
+        t3210: 0,
     }
 }
 

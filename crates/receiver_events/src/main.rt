@@ -7,8 +7,7 @@
 ghost use Rattle.std.specs.Prelude.{◌≤◌, length};
 
 use call::{Call, Description};
-use csn1::Refusal;
-use receiver::{Answer, Common, Move, Receiver, Record, Setup, Told};
+use receiver::{Answer, Common, Move, Receiver, Record, Setup, Started, Told};
 use std::io;
 use std::io::Stdout;
 use steps::events;
@@ -126,9 +125,11 @@ fn answered(a: Answer, out: &mut Stdout) -> io::Result<Receiver> {
 }
 
 // The number whose decimal digits stand from a place on, less whole times 2^32. A character that is no digit counts as 16.
-fn number(line: &[u8], from: usize) -> u32 {
+fn number(line: &[u8], from: usize) -> u32
+    requires { from ≤ length line.now }
+{
     let mut n: u64 = 0;
-    for c in line.iter().skip(from) {
+    for c in &line[from..] {
         if *c == b' ' {
             break;
         }
@@ -149,7 +150,7 @@ fn after(line: &[u8], from: usize) -> usize
 }
 
 // A setup with the keys from a place on, of which 64 are kept at most; no group keys are held.
-fn started(setup: Setup, line: &[u8], from: usize) -> Result<Receiver, Refusal>
+fn started(setup: Setup, line: &[u8], from: usize) -> Result<Receiver, Started>
     requires { from ≤ length line.now }
 {
     let mut keys = [0u32; 64];
@@ -167,9 +168,9 @@ fn started(setup: Setup, line: &[u8], from: usize) -> Result<Receiver, Refusal>
     setup.start(&keys[..n], &sets[..n])
 }
 
-fn set_up(r: Receiver, line: &[u8], first: usize, out: &mut Stdout) -> io::Result<Receiver>
-    requires { first ≤ length line.now }
-{
+// What the setup of a line comes to.
+fn set_up(line: &[u8]) -> Result<Receiver, Started> {
+    let first = after(line, 0);
     let tick = number(line, first);
     let second = after(line, first);
     let t3206 = number(line, second);
@@ -182,37 +183,28 @@ fn set_up(r: Receiver, line: &[u8], first: usize, out: &mut Stdout) -> io::Resul
         t3208,
         t3210: Setup::T3210,
     };
-    match started(setup, line, keys) {
-        Ok(fresh) => {
-            show_head(0, 0, 0, 0, out)?;
-            Ok(fresh)
-        }
-        Err(refusal) => {
-            show_head(refusal.number, 0, 0, 0, out)?;
-            Ok(r)
-        }
-    }
+    started(setup, line, keys)
 }
 
-// An event, by the first letter of its word, and where that is r by the third. Of a message 64 octets are kept at most.
+// An event that is no setup, by the first letter of its word, and where that is r by the third. Of a message 64 octets are kept at most.
 fn event(r: Receiver, line: &[u8], out: &mut Stdout) -> io::Result<Receiver> {
     if line.len() < 3 {
         return Ok(r);
     }
     let at = after(line, 0);
-    if line[0] == b's' {
-        return set_up(r, line, at, out);
-    }
     let tick = number(line, at);
     let rest = after(line, at);
     let mut octets = [0u8; 64];
-    let n = text::read_hex(&line[rest..], &mut octets);
-    let message = &octets[..n];
-    let key = number(line, rest);
     let a = match line[0] {
-        b'n' => events::nch(r, tick, message),
-        b'f' => events::facch(r, tick, message),
-        b'j' => events::joined(r, tick, key),
+        b'n' => {
+            let n = text::read_hex(&line[rest..], &mut octets);
+            events::nch(r, tick, &octets[..n])
+        }
+        b'f' => {
+            let n = text::read_hex(&line[rest..], &mut octets);
+            events::facch(r, tick, &octets[..n])
+        }
+        b'j' => events::joined(r, tick, number(line, rest)),
         b'h' => events::moved(r, tick, Move::Handover),
         b't' => events::tick(r, tick),
         _ if line[2] == b's' => events::moved(r, tick, Move::Reselection),
@@ -230,7 +222,18 @@ fn show_lines(text: &[u8], out: &mut Stdout) -> io::Result<()> {
     let mut r = no_receiver();
     let mut rest = text;
     while let Some(end) = rest.iter().position(|c| *c == b'\n') {
-        r = event(r, &rest[..end], out)?;
+        let line = &rest[..end];
+        if 3 <= line.len() && line[0] == b's' {
+            match set_up(line) {
+                Ok(fresh) => {
+                    r = fresh;
+                    show_head(0, 0, 0, 0, out)?;
+                }
+                Err(refused) => show_head(refused.refusal.number, 0, 0, 0, out)?,
+            }
+        } else {
+            r = event(r, line, out)?;
+        }
         rest = &rest[end + 1..];
     }
     Ok(())

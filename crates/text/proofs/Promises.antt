@@ -1,8 +1,8 @@
 -- The promises of specs/Promises. Assumes nothing.
-use mathlib.Core.Path.{sym}
+use mathlib.Core.Path.{refl, sym}
 use native.Mathlib.Omega.{arith}
-use Rattle.text.specs.Lines.{full}
-use Rattle.text.specs.Promises.{ADecimalNumberIsReadBack, AHexadecimalNumberIsReadBack, NoNumberAboveZeroBeginsWithZero, TwentyOctetsHoldANumber, AFullLineStaysFull}
+use Rattle.text.specs.Lines.{full, with_behind}
+use Rattle.text.specs.Promises.{ADecimalNumberIsReadBack, AHexadecimalNumberIsReadBack, NoNumberAboveZeroBeginsWithZero, TwentyOctetsHoldANumber, AFullLineStaysFull, ALineWithoutAPlaceStaysFull}
 use Rattle.text.proofs.Lines.{added_not}
 use Rattle.text.proofs.Numerals.{worth-numeral, first-numeral, length-numeral}
 
@@ -20,3 +20,7 @@ twenty_octets_hold_a_number n = length-numeral 10 20 0 n
 
 pub a_full_line_stays_full : AFullLineStaysFull
 a_full_line_stays_full s l h = sym (added_not l s full (omega arith))
+
+pub a_line_without_a_place_stays_full : ALineWithoutAPlaceStaysFull
+unfolding with_behind
+a_line_without_a_place_stays_full s l = refl

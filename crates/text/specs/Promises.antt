@@ -1,6 +1,6 @@
 -- What is promised of numbers as text, and of lines. proofs/Promises proves each. Assumes nothing.
-use Rattle.std.specs.Prelude.{◌≡◌, List, ℕ, ◌<◌, ◌≤◌, ◌^◌, length, get_or}
-use Rattle.text.specs.Lines.{added, full}
+use Rattle.std.specs.Prelude.{None, ◌≡◌, List, ℕ, ◌<◌, ◌≤◌, ◌^◌, length, get_or}
+use Rattle.text.specs.Lines.{added, full, with_behind}
 use Rattle.text.specs.Digits.{decimal, hexadecimal, number_spelled}
 
 -- ## The number read back from its digits is the number
@@ -25,3 +25,7 @@ TwentyOctetsHoldANumber = (n : ℕ) → length (decimal n) ≤ 20
 
 abbrev pub AFullLineStaysFull : Type 0
 AFullLineStaysFull = (s l : List ℕ) → length l < full → added s (record { octets = l; at = full }) ≡ record { octets = l; at = full }
+
+-- the same of the lines that the programs print with: one without a place is full, and whatever is put behind it leaves its octets as they are, and it stays without
+abbrev pub ALineWithoutAPlaceStaysFull : Type 0
+ALineWithoutAPlaceStaysFull = (s l : List ℕ) → with_behind s (record { octets = l; at = None }) ≡ record { octets = l; at = None }

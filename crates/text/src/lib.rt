@@ -26,6 +26,14 @@ pub struct Line {
     pub at: Option<usize>,
 }
 
+// Puts a word over as many octets, in its order.
+fn copy(place: &mut [u8], word: &[u8])
+    requires { length place.old ≡ length word.now }
+    ensures { place.new ≡ word.now }
+{
+    place.copy_from_slice(word);
+}
+
 // Puts a word from a place on, all of it or nothing where it does not fit, and answers the place behind it.
 pub fn put(octets: &mut [u8], at: usize, word: &[u8]) -> Option<usize>
     ensures place { result ≡ place_behind word.now (record { octets = octets.old; at = at }) }
@@ -35,7 +43,7 @@ pub fn put(octets: &mut [u8], at: usize, word: &[u8]) -> Option<usize>
         return None;
     }
     let end = at + word.len();
-    octets[at..end].copy_from_slice(word);
+    copy(&mut octets[at..end], word);
     Some(end)
 }
 

@@ -14,4 +14,4 @@ returns-then-octets-at-clause-octets c =
 pub returns-clause-octets : goal.returns-clause-octets
 returns-clause-octets c =
     let a = c.args in
-    octets_put a.octets.now a.word.now c.copy_from_slice.new.self a.at (a.at + length a.word.now - a.at) c.copy_from_slice.ensures.after (omega arith) (omega arith)
+    octets_put a.octets.now a.word.now c.copy.new.place a.at (a.at + length a.word.now - a.at) c.copy.ensures (omega arith) (omega arith)

@@ -1,16 +1,24 @@
 -- `arrays::fill::clear` meets its contract. Assumes nothing.
-use Prim.Native.Nat.{◌-◌}
-use mathlib.Core.Path.{◌≡◌}
+use mathlib.Core.Path.{refl, ◌∙◌}
+use lib.ListN.{length, take, length-set}
+use Rattle.arrays.proofs.Filling.{cleared-next, cleared}
 use native.Mathlib.Omega.{arith}
-use lib.ListN.{length, take, drop}
-use Rattle.std.proofs.Common.{rules}
-use Rattle.std.proofs.lemmas.List.Edits.{length-between}
-use Rattle.arrays.proofs.Filling.{cleared}
 use Rattle.arrays.proofs.fill.clear.Goals as goal
+
+pub loop-i-init : goal.loop-i-init
+loop-i-init c = (refl, refl)
+
+pub loop-i-preserved : goal.loop-i-preserved
+loop-i-preserved c =
+    let l = c.loop-i in
+    let a = c.args.numbers.now in
+    (length-set l.numbers l.i 0 ∙ l.invariant.0, cleared-next (length a) l.numbers (take c.args.from a) l.i (omega arith) l.invariant.1)
+
+pub shape_of-numbers : goal.shape_of-numbers
+shape_of-numbers c = c.loop-i.invariant.0
 
 pub returns : goal.returns
 returns c =
+    let l = c.loop-i in
     let a = c.args.numbers.now in
-    let m = c.min-n.result in
-    let n : length (take (length a - m) (drop m a)) ≡ length a - m = length-between a m (length a) (omega arith) in
-    cleared a c.fill.new.self c.args.from m c.min-n.ensures (rw n at c.fill.ensures.after (λ y e. search rules))
+    cleared (length a) l.numbers (take c.args.from a) l.i l.invariant.0 (omega arith) l.invariant.1
